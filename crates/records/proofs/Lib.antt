@@ -1,0 +1,9 @@
+pub mod Table  -- a table's rule, from one computed test over its entries
+pub mod Conditions  -- conditions joined by `&&`
+pub mod Matched  -- a number that is none of those that a `match` names
+pub mod Numbers  -- a number's bytes read one by one, in two halves, and from a part of a list
+pub mod Starting  -- what stands at the start of a part of a list
+pub mod Uses  -- which fields each code uses
+pub mod Storing  -- stores one after the other are one
+pub mod Checking  -- the turns and the ends of a check of a list
+pub mod CodesRead  -- an instruction record that is read

@@ -1,0 +1,28 @@
+-- The first bad or surplus record of a list of bytes, for records of any kind and size.
+-- From document 01: 'The place is the first bad or surplus record's', 'record places count from 1'.
+use Prim.Native.Nat.{ℕ, zero, suc, _+_, _*_, _-_, _/_}
+use mathlib.Core.Bool.{Bool, true, false, _&&_, cond}
+use mathlib.Core.List.{List, [], _∷_}
+use lib.Dec.{ltb}
+use lib.ListN.{length, drop}
+use Rattle.records.specs.declared.check.Checked.{Checked}
+use Rattle.records.specs.declared.check.Checked.the-variants.{Good, Malformed}
+
+-- of n records from place k + 1 on, the first that is past the limit, or that the test refuses; the test sees the bytes from the record's start
+unfoldable pub firstBad : (List ℕ → Bool) → ℕ → ℕ → List ℕ → ℕ → ℕ → Checked
+firstBad ok size limit s k zero = Good k
+firstBad ok size limit s k (suc n) =
+    cond (ltb k limit && ok (drop (size * k) s)) (firstBad ok size limit s (suc k) n) (Malformed (suc k))
+
+-- how many records s has, a part record among them
+abbrev pub places : ℕ → List ℕ → ℕ
+places size s = (length s + (size - 1)) / size
+
+-- the whole list checked: Good with the number of records, or Malformed with the place
+unfoldable pub checked : (List ℕ → Bool) → ℕ → ℕ → List ℕ → Checked
+checked ok size limit s = firstBad ok size limit s 0 (places size s)
+
+-- document 01's number and values for each answer, nothing where the list is accepted
+abbrev pub causeOf : Checked → List ℕ
+causeOf (Good n) = []
+causeOf (Malformed place) = 2 ∷ place ∷ []

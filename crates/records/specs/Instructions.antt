@@ -1,0 +1,69 @@
+-- Instruction records: their 24 bytes, which are well formed, and what is read from them. From document 01, 'Instruction record'.
+use Prim.Native.Nat.{ℕ, _+_, _*_, _/_, _%_, min}
+use mathlib.Core.Bool.{Bool, true, false, not, _&&_, _||_, cond}
+use mathlib.Core.List.{List, [], _∷_, _++_}
+use lib.Dec.{leb, ltb, eqb}
+use lib.ListN.{length, getD, drop}
+use Rattle.records.specs.declared.check.Checked.{Checked}
+use Rattle.records.specs.declared.code.Code.{Code}
+use Rattle.records.specs.declared.code.Fields.{Fields}
+use Rattle.records.specs.declared.code.CodeRead.{CodeRead}
+use Rattle.records.specs.declared.code.CodeRead.the-variants.{Record, Malformed}
+use Rattle.records.specs.Bytes.{le, number}
+use Rattle.records.specs.Checked.{checked}
+use Rattle.records.specs.Codes.{fields, fieldsOf, codeOf}
+
+-- the 24 bytes of a record
+unfoldable pub fieldsBytes : Fields → List ℕ
+fieldsBytes f = 0xA9 ∷ f .code ∷ f .a ∷ f .b ∷ (le 4 (f .label) ++ (le 8 (f .offset) ++ le 8 (f .value)))
+
+-- the fields in the 24 bytes that start a list
+unfoldable pub fieldsIn : List ℕ → Fields
+fieldsIn s = fields (getD s 1 0) (getD s 2 0) (getD s 3 0) (number 4 s 4) (number 8 s 8) (number 8 s 16)
+
+-- which fields a code from 1 to 44 uses: 1 in each that does, as a record of that code made of ones shows it
+unfoldable pub used : ℕ → Fields
+used code = fieldsOf (codeOf (fields code 1 1 1 1 1))
+
+-- the same as a number's bits: 1 a, 2 b, 4 label, 8 offset, 16 value
+abbrev pub bitsOf : ℕ → ℕ → Fields
+bitsOf code m = fields code (m % 2) (m / 2 % 2) (m / 4 % 2) (m / 8 % 2) (m / 16 % 2)
+
+-- a register is 0 to 15; one that is not used is zero
+abbrev pub registerOk : Bool → ℕ → Bool
+registerOk uses r = cond uses (ltb r 16) (eqb r 0)
+
+-- a label is not 0 and not 2^31 plus 4..15
+abbrev pub labelHeld : ℕ → Bool
+labelHeld l = not (eqb l 0) && (ltb l 2147483652 || ltb 2147483663 l)
+
+abbrev pub labelOk : Bool → ℕ → Bool
+labelOk uses l = cond uses (labelHeld l) (eqb l 0)
+
+-- an offset or a value is any 64 bits
+abbrev pub wordOk : Bool → ℕ → Bool
+wordOk uses w = cond uses true (eqb w 0)
+
+-- each field as its use asks, where u has a 1 in those that are used
+unfoldable pub operandsOk : Fields → Fields → Bool
+operandsOk u f =
+    registerOk (eqb (u .a) 1) (f .a)
+    && registerOk (eqb (u .b) 1) (f .b)
+    && labelOk (eqb (u .label) 1) (f .label)
+    && wordOk (eqb (u .offset) 1) (f .offset)
+    && wordOk (eqb (u .value) 1) (f .value)
+
+unfoldable pub fieldsOk : Fields → Bool
+fieldsOk f = leb 1 (f .code) && leb (f .code) 44 && operandsOk (used (f .code)) f
+
+-- whether a list starts with a whole, well-formed record
+unfoldable pub codeStarts : List ℕ → Bool
+codeStarts s = leb 24 (length s) && eqb (getD s 0 0) 0xA9 && fieldsOk (fieldsIn s)
+
+-- a list of at most 65,536 records, or fewer where the caller has a lower limit
+abbrev pub checkedCodes : ℕ → List ℕ → Checked
+checkedCodes most s = checked codeStarts 24 (min most 65536) s
+
+-- record k, counted from 0
+unfoldable pub codeAt : List ℕ → ℕ → CodeRead
+codeAt s k = cond (codeStarts (drop (24 * k) s)) (Record (codeOf (fieldsIn (drop (24 * k) s)))) Malformed
