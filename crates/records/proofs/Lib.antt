@@ -7,3 +7,5 @@ pub mod Uses  -- which fields each code uses
 pub mod Storing  -- stores one after the other are one
 pub mod Checking  -- the turns and the ends of a check of a list
 pub mod CodesRead  -- an instruction record that is read
+pub mod BindingsRead  -- a binding that is read
+pub mod OrdersRead  -- an order that is read or written

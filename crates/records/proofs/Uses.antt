@@ -15,7 +15,7 @@ use Rattle.records.proofs.Table.{both-left, both-right, at}
 abbrev pub usesTable : List ℕ
 usesTable = 3 ∷ 11 ∷ 11 ∷ 17 ∷ 25 ∷ 3 ∷ 11 ∷ 11 ∷ 17 ∷ 3 ∷ 11 ∷ 11 ∷ 1 ∷ 9 ∷ 0 ∷ 1 ∷ 4 ∷ 4 ∷ 5 ∷ 3 ∷ 11 ∷ 11 ∷ 17 ∷ 25 ∷ 3 ∷ 11 ∷ 11 ∷ 17 ∷ 25 ∷ 4 ∷ 4 ∷ 4 ∷ 4 ∷ 4 ∷ 4 ∷ 1 ∷ 1 ∷ 4 ∷ 0 ∷ 4 ∷ 0 ∷ 0 ∷ 4 ∷ 4 ∷ []
 
-also : (m n : ℕ) (b : Bool) → T (eqb m n && b) → (m ≡ n) × T b
+pub also : (m n : ℕ) (b : Bool) → T (eqb m n && b) → (m ≡ n) × T b
 also m n b t = (eqb→eq m n (both-left (eqb m n) b t), both-right (eqb m n) b t)
 
 -- two records, field by field

@@ -1,5 +1,7 @@
 -- What the contracts of `records` cite, from document 01. Lemmas stand below `Lemmas`; nothing else here needs them.
 pub mod Bytes  -- little-endian numbers, and bytes stored in an output
 pub mod Checked  -- the first bad or surplus record of a list, for records of any kind
+pub mod Contexts  -- binding records and contexts
 pub mod Codes  -- what each instruction's record holds, name by name
 pub mod Instructions  -- instruction records: well-formed, read, written
+pub mod Orders  -- order records

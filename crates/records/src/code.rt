@@ -264,7 +264,7 @@ fn label_ok(used: bool, l: u32) -> bool
     if used { label_held(l) } else { l == 0 }
 }
 
-fn word_ok(used: bool, w: u64) -> bool
+pub fn word_ok(used: bool, w: u64) -> bool
     ensures { λ ok. ⌜ ok ≡ wordOk used w ⌝ }
 {
     if used { true } else { w == 0 }

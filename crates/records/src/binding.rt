@@ -1,0 +1,117 @@
+// Binding records and contexts.
+ghost use mathlib.Core.Path.{_≡_};
+ghost use Prim.Native.Nat.{_+_, _≤_};
+ghost use lib.ListN.{length, drop};
+ghost use Rattle.records.specs.Bytes.{stored};
+ghost use Rattle.records.specs.Contexts.{kindByte, kindOf, bindingBytes, bindingIn, bindingStarts, checkedContext, bindingAt};
+use crate::bytes;
+use crate::check::Checked;
+
+// What a variable holds: linked, for any Chirality but Ext, or an integer.
+pub enum Kind {
+    Linked,
+    Ext,
+}
+
+pub struct Binding {
+    pub kind: Kind,
+    pub id: u32,
+}
+
+pub enum BindingRead {
+    Found(Binding),
+    Absent,
+}
+
+fn kind_byte(kind: Kind) -> u8
+    ensures { λ r. ⌜ r ≡ kindByte kind ⌝ }
+{
+    match kind {
+        Kind::Linked => 0,
+        Kind::Ext => 1,
+    }
+}
+
+fn kind_of(byte: u8) -> Kind
+    ensures { λ r. ⌜ r ≡ kindOf byte ⌝ }
+{
+    if byte == 0 { Kind::Linked } else { Kind::Ext }
+}
+
+// The binding at byte `at`.
+pub fn binding_at(s: &[u8], at: usize) -> Binding
+    requires { ⌜ at + 8 ≤ length (now s) ⌝ }
+    ensures { λ r. ⌜ r ≡ bindingIn (drop at (now (s .entry))) ⌝ }
+{
+    let kind = kind_of(s[at + 2]);
+    let id = bytes::number4(s, at + 4);
+    Binding { kind, id }
+}
+
+// Whether a whole, well-formed binding starts at byte `at`.
+fn binding_starts(s: &[u8], at: usize) -> bool
+    requires { ⌜ at ≤ length (now s) ⌝ }
+    ensures { λ r. ⌜ r ≡ bindingStarts (drop at (now (s .entry))) ⌝ }
+{
+    if s.len() - at < 8 {
+        return false;
+    }
+    if s[at] == 0xA7 {} else {
+        return false;
+    }
+    if s[at + 1] == 1 {} else {
+        return false;
+    }
+    if s[at + 2] <= 1 {} else {
+        return false;
+    }
+    s[at + 3] == 0
+}
+
+// A context: at most 4,096 bindings.
+pub fn check_context(s: &[u8]) -> Checked
+    ensures { λ r. ⌜ r ≡ checkedContext (now (s .entry)) ⌝ }
+{
+    let mut at = 0;
+    let mut k = 0;
+    while at < s.len() {
+        if 4096 <= k {
+            return Checked::Malformed(k + 1);
+        }
+        if binding_starts(s, at) {} else {
+            return Checked::Malformed(k + 1);
+        }
+        at += 8;
+        k += 1;
+    }
+    Checked::Good(k)
+}
+
+// Binding k, from 0.
+pub fn read_binding(s: &[u8], k: usize) -> BindingRead
+    ensures { λ r. ⌜ r ≡ bindingAt (now (s .entry)) k ⌝ }
+{
+    if s.len() / 8 <= k {
+        return BindingRead::Absent;
+    }
+    let at = 8 * k;
+    if binding_starts(s, at) {
+        BindingRead::Found(binding_at(s, at))
+    } else {
+        BindingRead::Absent
+    }
+}
+
+// The record of b at byte `at`, whole, or nothing where it does not fit.
+pub fn write_binding(out: &mut [u8], at: usize, b: Binding)
+    ensures { λ r. ⌜ now (out .exit) ≡ stored (now (out .entry)) at (bindingBytes b) ⌝ }
+{
+    let held = b.kind;
+    let kind = kind_byte(held);
+    if at <= out.len() {
+        if 8 <= out.len() - at {
+            bytes::store_head(out, at, 0xA7, 0x01, kind, 0);
+            bytes::store4(out, at + 4, b.id);
+        }
+    }
+}

@@ -1,0 +1,228 @@
+// Order records: what a channel planner sends.
+ghost use mathlib.Core.Path.{_≡_};
+ghost use Prim.Native.Nat.{_+_, _≤_};
+ghost use lib.ListN.{length};
+ghost use Rattle.records.specs.Bytes.{stored};
+ghost use Rattle.records.specs.Orders.{flagOf, operationOf, newlineFlag, orderFieldsOf, orderOf, orderBits, orderOperandsOk, orderOk, orderBytes, orderIn, orderStarts, orderRead};
+use crate::bytes;
+use crate::code;
+
+pub enum Operation {
+    Add,
+    Sub,
+    Mul,
+    Div,
+    Rem,
+}
+
+// The seven orders. Variables go by place in the context, from 0.
+pub enum Order {
+    // value
+    Put(u64),
+    // operation, a, b
+    Compute(Operation, u32, u32),
+    // a, n times
+    Copy(u32, u32),
+    Drop,
+    // n, tag
+    Store(u32, u64),
+    // n
+    Load(u32),
+    // whether a newline follows, a
+    Print(bool, u32),
+}
+
+// The fields of an order record. Those that its code does not use are zero.
+pub struct OrderFields {
+    pub code: u8,
+    pub flag: u8,
+    pub a: u32,
+    pub b: u32,
+    pub n: u32,
+    pub value: u64,
+}
+
+// One whole order, or the place of the first bad or surplus record.
+pub enum OrderRead {
+    Whole(Order),
+    Malformed(usize),
+}
+
+fn flag_of(operation: Operation) -> u8
+    ensures { λ r. ⌜ r ≡ flagOf operation ⌝ }
+{
+    match operation {
+        Operation::Add => 0,
+        Operation::Sub => 1,
+        Operation::Mul => 2,
+        Operation::Div => 3,
+        Operation::Rem => 4,
+    }
+}
+
+fn operation_of(flag: u8) -> Operation
+    ensures { λ r. ⌜ r ≡ operationOf flag ⌝ }
+{
+    match flag {
+        0 => Operation::Add,
+        1 => Operation::Sub,
+        2 => Operation::Mul,
+        3 => Operation::Div,
+        _ => Operation::Rem,
+    }
+}
+
+fn newline_flag(newline: bool) -> u8
+    ensures { λ r. ⌜ r ≡ newlineFlag newline ⌝ }
+{
+    if newline { 1 } else { 0 }
+}
+
+impl OrderFields {
+    fn of(code: u8, flag: u8, a: u32, b: u32, n: u32, value: u64) -> Self
+        ensures { λ r. ⌜ r ≡ record { code = code; flag = flag; a = a; b = b; n = n; value = value } ⌝ }
+    {
+        Self {
+            code,
+            flag,
+            a,
+            b,
+            n,
+            value,
+        }
+    }
+}
+
+pub fn order_fields_of(o: Order) -> OrderFields
+    ensures { λ r. ⌜ r ≡ orderFieldsOf o ⌝ }
+{
+    match o {
+        Order::Put(value) => OrderFields::of(1, 0, 0, 0, 0, value),
+        Order::Compute(operation, a, b) => OrderFields::of(2, flag_of(operation), a, b, 0, 0),
+        Order::Copy(a, n) => OrderFields::of(3, 0, a, 0, n, 0),
+        Order::Drop => OrderFields::of(4, 0, 0, 0, 0, 0),
+        Order::Store(n, tag) => OrderFields::of(5, 0, 0, 0, n, tag),
+        Order::Load(n) => OrderFields::of(6, 0, 0, 0, n, 0),
+        Order::Print(newline, a) => OrderFields::of(7, newline_flag(newline), a, 0, 0, 0),
+    }
+}
+
+// The order of a record's fields.
+fn order_of(f: OrderFields) -> Order
+    requires { ⌜ (1 ≤ f .code) × (f .code ≤ 7) ⌝ }
+    ensures { λ r. ⌜ r ≡ orderOf f ⌝ }
+{
+    let code = f.code;
+    match code {
+        1 => Order::Put(f.value),
+        2 => Order::Compute(operation_of(f.flag), f.a, f.b),
+        3 => Order::Copy(f.a, f.n),
+        4 => Order::Drop,
+        5 => Order::Store(f.n, f.value),
+        6 => Order::Load(f.n),
+        _ => Order::Print(f.flag == 1, f.a),
+    }
+}
+
+// How many flags each code has.
+const FLAGS: [u8; 7] = [1, 5, 1, 1, 1, 1, 2];
+
+// Which fields each code uses: 1 a, 2 b, 4 n, 8 value.
+const USES: [u8; 7] = [8, 3, 5, 0, 12, 4, 1];
+
+fn order_operands_ok(uses: u8, f: OrderFields) -> bool
+    ensures { λ ok. ⌜ ok ≡ orderOperandsOk (orderBits (f .code) uses) f ⌝ }
+{
+    if code::word_ok(uses % 2 == 1, f.a as u64) {} else {
+        return false;
+    }
+    if code::word_ok(uses / 2 % 2 == 1, f.b as u64) {} else {
+        return false;
+    }
+    if code::word_ok(uses / 4 % 2 == 1, f.n as u64) {} else {
+        return false;
+    }
+    code::word_ok(uses / 8 % 2 == 1, f.value)
+}
+
+fn order_ok(f: OrderFields) -> bool
+    ensures { λ ok. ⌜ ok ≡ orderOk f ⌝ }
+{
+    let code = f.code;
+    if code == 0 {
+        return false;
+    }
+    if 7 < code {
+        return false;
+    }
+    let k = (code as usize) - 1;
+    if f.flag < FLAGS[k] {} else {
+        return false;
+    }
+    order_operands_ok(USES[k], f)
+}
+
+// The fields of the order that starts `s`.
+fn order_in(s: &[u8]) -> OrderFields
+    requires { ⌜ 24 ≤ length (now s) ⌝ }
+    ensures { λ r. ⌜ r ≡ orderIn (now (s .entry)) ⌝ }
+{
+    let a = bytes::number4(s, 4);
+    let b = bytes::number4(s, 8);
+    let n = bytes::number4(s, 12);
+    let value = bytes::number8(s, 16);
+    OrderFields {
+        code: s[1],
+        flag: s[2],
+        a,
+        b,
+        n,
+        value,
+    }
+}
+
+// Whether a whole, well-formed order starts `s`.
+fn order_starts(s: &[u8]) -> bool
+    ensures { λ r. ⌜ r ≡ orderStarts (now (s .entry)) ⌝ }
+{
+    if s.len() < 24 {
+        return false;
+    }
+    if s[0] == 0xA8 {} else {
+        return false;
+    }
+    if s[3] == 0 {} else {
+        return false;
+    }
+    order_ok(order_in(s))
+}
+
+// An order alone: refused at place 1 where it is bad or not whole, at place 2 where more follows.
+pub fn read_order(s: &[u8]) -> OrderRead
+    ensures { λ r. ⌜ r ≡ orderRead (now (s .entry)) ⌝ }
+{
+    if order_starts(s) {} else {
+        return OrderRead::Malformed(1);
+    }
+    if s.len() == 24 {
+        OrderRead::Whole(order_of(order_in(s)))
+    } else {
+        OrderRead::Malformed(2)
+    }
+}
+
+// The record of o at byte `at`, whole, or nothing where it does not fit.
+pub fn write_order(out: &mut [u8], at: usize, o: Order)
+    ensures { λ r. ⌜ now (out .exit) ≡ stored (now (out .entry)) at (orderBytes (orderFieldsOf o)) ⌝ }
+{
+    let f = order_fields_of(o);
+    if at <= out.len() {
+        if 24 <= out.len() - at {
+            bytes::store_head(out, at, 0xA8, f.code, f.flag, 0);
+            bytes::store4(out, at + 4, f.a);
+            bytes::store4(out, at + 8, f.b);
+            bytes::store4(out, at + 12, f.n);
+            bytes::store8(out, at + 16, f.value);
+        }
+    }
+}
