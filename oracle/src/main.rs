@@ -1,0 +1,3 @@
+//! Puts requests to the published Rust and to the port, and compares what they answer.
+
+fn main() {}

@@ -1,0 +1,21 @@
+//! Stands in for the root of the crate `axcut2x86_64`. The published `lib.rs` also names the
+//! module `parallel_moves`, which was not supplied; all modules here are the published files.
+
+#[rustfmt::skip]
+#[path = "../../../target/published/lang/axcut2x86_64/src/code.rs"]
+pub mod code;
+#[rustfmt::skip]
+#[path = "../../../target/published/lang/axcut2x86_64/src/config.rs"]
+pub mod config;
+#[rustfmt::skip]
+#[path = "../../../target/published/lang/axcut2x86_64/src/into_routine.rs"]
+pub mod into_routine;
+#[rustfmt::skip]
+#[path = "../../../target/published/lang/axcut2x86_64/src/memory.rs"]
+pub mod memory;
+#[rustfmt::skip]
+#[path = "../../../target/published/lang/axcut2x86_64/src/utils.rs"]
+pub mod utils;
+
+/// The back end: the type on which the published files implement their traits.
+pub struct Backend;
