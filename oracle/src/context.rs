@@ -1,0 +1,67 @@
+//! Contexts as requests write them: kinds (`e3l`) and ids (`7,5*3`), kept as runs, since a count
+//! may be far more than memory holds.
+
+#[derive(Debug, Clone, Copy, PartialEq, Eq)]
+pub enum Kind {
+    Linked,
+    Ext,
+}
+
+/// Items with the number of times that each stands in a row.
+#[derive(Debug, Clone)]
+pub struct Runs<T>(Vec<(T, u64)>);
+
+pub type Kinds = Runs<Kind>;
+pub type Ids = Runs<u64>;
+
+impl<T: Copy> Runs<T> {
+    /// The items one by one, or none if there are more than `most`.
+    pub fn expand(&self, most: u64) -> Option<Vec<T>> {
+        let length = self
+            .0
+            .iter()
+            .fold(0u64, |sum, (_, count)| sum.saturating_add(*count));
+        (length <= most).then(|| {
+            let runs = self.0.iter();
+            runs.flat_map(|&(item, count)| std::iter::repeat_n(item, count as usize))
+                .collect()
+        })
+    }
+}
+
+pub fn read_kinds(text: &str) -> Result<Kinds, String> {
+    if text == "-" {
+        return Ok(Runs(Vec::new()));
+    }
+    let mut runs = Vec::new();
+    let mut rest = text;
+    while let Some(letter) = rest.chars().next() {
+        let kind = match letter {
+            'e' => Kind::Ext,
+            'l' => Kind::Linked,
+            _ => return Err("a kind is e or l".to_string()),
+        };
+        rest = &rest[1..];
+        let digits = rest.bytes().take_while(u8::is_ascii_digit).count();
+        let count = match digits {
+            0 => 1,
+            _ => crate::parse::number(&rest[..digits])?,
+        };
+        runs.push((kind, count));
+        rest = &rest[digits..];
+    }
+    Ok(Runs(runs))
+}
+
+pub fn read_ids(text: &str) -> Result<Ids, String> {
+    if text == "-" {
+        return Ok(Runs(Vec::new()));
+    }
+    let run = |item: &str| {
+        let (id, count) = item.split_once('*').unwrap_or((item, "1"));
+        Ok((crate::parse::number(id)?, crate::parse::number(count)?))
+    };
+    Ok(Runs(
+        text.split(',').map(run).collect::<Result<_, String>>()?,
+    ))
+}

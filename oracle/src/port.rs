@@ -1,0 +1,91 @@
+//! The port's library: its functions as they are exported for C, and safe functions over them.
+
+use crate::lent::Lent;
+use crate::record::SIZE;
+
+/// Whether the port was linked. If not, none of the functions below may be called.
+pub const LINKED: bool = cfg!(port);
+
+/// Declares functions of the archive, or in a build without it functions that fail.
+macro_rules! exported {
+    ($(fn $name:ident($($parameter:ident: $type:ty),*) -> $result:ty;)*) => {
+        #[cfg(port)]
+        unsafe extern "C" {
+            $(fn $name($($parameter: $type),*) -> $result;)*
+        }
+        $(
+            #[cfg(not(port))]
+            unsafe fn $name($(_: $type),*) -> $result {
+                unreachable!("built without the port")
+            }
+        )*
+    };
+}
+
+exported! {
+    fn axcut_check_context(context: *const u8, len: usize) -> u64;
+    fn axcut_check_records(records: *const u8, len: usize, place: *mut u64) -> u64;
+    fn axcut_check_order(order: *const u8, len: usize, place: *mut u64) -> u64;
+    fn axcut_list(
+        records: *const u8,
+        len: usize,
+        text: *mut u8,
+        text_len: usize,
+        value: *mut u64
+    ) -> u64;
+}
+
+/// What the port returned: 0 or document 01's number, and the word beside it.
+#[derive(Debug, Clone, Copy, PartialEq, Eq)]
+pub struct Returned {
+    pub number: u64,
+    pub value: u64,
+}
+
+/// The port changed bytes that it must keep.
+#[derive(Debug, PartialEq, Eq)]
+pub struct Damaged;
+
+/// The number alone: 0, or 1 for a malformed context.
+pub fn check_context(context: &[u8]) -> u64 {
+    unsafe { axcut_check_context(context.as_ptr(), context.len()) }
+}
+
+/// The value is the place of the first bad or surplus record.
+pub fn check_records(records: &[u8]) -> Returned {
+    let mut value = 0;
+    let number = unsafe { axcut_check_records(records.as_ptr(), records.len(), &mut value) };
+    Returned { number, value }
+}
+
+/// The value is the place of the first bad or surplus record.
+pub fn check_order(order: &[u8]) -> Returned {
+    let mut value = 0;
+    let number = unsafe { axcut_check_order(order.as_ptr(), order.len(), &mut value) };
+    Returned { number, value }
+}
+
+/// More room than the listing of these records needs: a line has at most 71 bytes.
+pub fn ample_text(records: &[u8]) -> usize {
+    100 + records.len() / SIZE * 80
+}
+
+/// The text of a listing into an output of the given length. On a refusal there is no text, and
+/// the value is a record's place or the bytes needed.
+pub fn list(records: &[u8], room: usize) -> Result<(Returned, Vec<u8>), Damaged> {
+    let mut text = Lent::new(room);
+    let mut value = 0;
+    let output = text.output();
+    let number = unsafe {
+        axcut_list(
+            records.as_ptr(),
+            records.len(),
+            output.as_mut_ptr(),
+            output.len(),
+            &mut value,
+        )
+    };
+    let length = if number == 0 { value } else { 0 };
+    let written = text.written(length).ok_or(Damaged)?;
+    Ok((Returned { number, value }, written.to_vec()))
+}
