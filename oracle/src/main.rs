@@ -1,17 +1,24 @@
 //! Puts requests to the published Rust and to the port, and compares what they answer.
 
+mod agree;
 mod answer;
 mod codes;
 mod context;
 mod conversion;
+mod differ;
+mod generate;
 mod hex;
+mod inputs;
 mod lent;
 mod parse;
 mod port;
 mod port_side;
+mod random;
+mod reading;
 mod record;
 mod request;
 mod rust_side;
+mod well_formed;
 
 use answer::Answer;
 use request::Request;
@@ -19,7 +26,11 @@ use std::io::{BufRead, Write};
 use std::process::ExitCode;
 
 const USAGE: &str = "\
-oracle compare rust|port   answers requests on standard input";
+oracle compare rust|port                           answers requests on standard input
+oracle differ                                      puts them to both and counts differences
+oracle generate emission|sample|checks [OPTIONS]   writes requests (--count 1000, --seed 1)
+oracle agree [OPTIONS]                             holds the port against document 01
+                                                   (--count 100000, --seed 1)";
 
 /// Why a command did not run to its end.
 enum Failure {
@@ -33,7 +44,8 @@ fn main() -> ExitCode {
     let words: Vec<String> = std::env::args().skip(1).collect();
     let words: Vec<&str> = words.iter().map(String::as_str).collect();
     let failure = match run(&words) {
-        Ok(()) => return ExitCode::SUCCESS,
+        Ok(true) => return ExitCode::SUCCESS,
+        Ok(false) => return ExitCode::FAILURE,
         Err(failure) => failure,
     };
     match failure {
@@ -44,7 +56,8 @@ fn main() -> ExitCode {
     ExitCode::from(2)
 }
 
-fn run(words: &[&str]) -> Result<(), Failure> {
+/// Runs a command; false if it found a difference.
+fn run(words: &[&str]) -> Result<bool, Failure> {
     let input = std::io::stdin().lock();
     match words {
         ["compare", "rust"] => answer_all(input, rust_side::answer).map_err(Failure::Files)?,
@@ -52,13 +65,44 @@ fn run(words: &[&str]) -> Result<(), Failure> {
             need_port()?;
             answer_all(input, port_side::answer).map_err(Failure::Files)?;
         }
+        ["differ"] => {
+            need_port()?;
+            return differ::run(requests(input)).map_err(Failure::Files);
+        }
+        ["generate", kind, options @ ..] => {
+            let (count, seed) = options_of(options, 1_000)?;
+            let list = generate::list(kind, count, seed).ok_or(Failure::Usage)?;
+            write_lines(&list).map_err(Failure::Files)?;
+        }
+        ["agree", options @ ..] => {
+            let (count, seed) = options_of(options, 100_000)?;
+            need_port()?;
+            return Ok(agree::run(count, seed));
+        }
         _ => return Err(Failure::Usage),
     }
-    Ok(())
+    Ok(true)
 }
 
 fn need_port() -> Result<(), Failure> {
     port::LINKED.then_some(()).ok_or(Failure::WithoutPort)
+}
+
+/// The count and the seed, from options in any sequence.
+fn options_of(options: &[&str], count: u64) -> Result<(u64, u64), Failure> {
+    let (mut count, mut seed) = (count, 1);
+    for option in options.chunks(2) {
+        let [name, value] = option else {
+            return Err(Failure::Usage);
+        };
+        let value = parse::number(value).map_err(|_| Failure::Usage)?;
+        match *name {
+            "--count" => count = value,
+            "--seed" => seed = value,
+            _ => return Err(Failure::Usage),
+        }
+    }
+    Ok((count, seed))
 }
 
 /// Answers every request in sequence.
@@ -80,4 +124,12 @@ fn requests(input: impl BufRead) -> impl Iterator<Item = std::io::Result<String>
         Ok(line) => !line.trim().is_empty() && !line.starts_with('#'),
         Err(_) => true,
     })
+}
+
+fn write_lines(lines: &[String]) -> std::io::Result<()> {
+    let mut output = std::io::BufWriter::new(std::io::stdout().lock());
+    for line in lines {
+        writeln!(output, "{line}")?;
+    }
+    output.flush()
 }
