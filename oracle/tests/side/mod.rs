@@ -1,0 +1,19 @@
+//! Runs `compare rust` on requests.
+
+use std::io::Write;
+use std::process::{Command, Stdio};
+
+/// What `compare rust` writes for a list of requests.
+pub fn compare_rust(requests: &str) -> String {
+    let mut command = Command::new(env!("CARGO_BIN_EXE_oracle"));
+    command.args(["compare", "rust"]);
+    command.stdin(Stdio::piped()).stdout(Stdio::piped());
+    let mut child = command.spawn().unwrap();
+    let mut input = child.stdin.take().unwrap();
+    let requests = requests.to_string();
+    let writer = std::thread::spawn(move || input.write_all(requests.as_bytes()).unwrap());
+    let output = child.wait_with_output().unwrap();
+    writer.join().unwrap();
+    assert!(output.status.success());
+    String::from_utf8(output.stdout).unwrap()
+}
