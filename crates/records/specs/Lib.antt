@@ -5,3 +5,4 @@ pub mod Contexts  -- binding records and contexts
 pub mod Codes  -- what each instruction's record holds, name by name
 pub mod Instructions  -- instruction records: well-formed, read, written
 pub mod Orders  -- order records
+pub mod ReadBack  -- the claim that records are read back as they were written
