@@ -1,0 +1,13 @@
+use borrow.Author.Needs.{needs}
+use Rattle.emit.specs.Laws.{_⨾_}
+use Rattle.emit.proofs.emit4.Statement.{statement}
+use Rattle.emit.proofs.emit4.Tie as tie
+
+pub emit4-spec : {M : Type 1} → statement M
+emit4-spec =
+    tie.close
+    (tie.spec
+    (λ c κs. search needs)
+    (λ c κs. search needs)
+    (λ c. search needs)
+    (λ c. c .before .before .before .before .before .before .emit2 .ensures ⨾ c .before .before .emit22 .ensures))

@@ -1,0 +1,97 @@
+-- Structured code: records in sequence, a part that is skipped if a word is zero, and a choice between two parts.
+-- A tree's records are the tree flattened from a label counter; inner labels are drawn first, "then" before "else".
+-- From memory.rs, skip_if_zero and if_zero_then_else, and document 01, 'Instruction record', on labels.
+use Prim.Native.Nat.{ℕ, _+_}
+use mathlib.Core.Path.{_≡_, refl}
+use mathlib.Core.Bool.{Bool, true, false}
+use mathlib.Core.List.{List, [], _∷_, _++_}
+use Rattle.records.specs.declared.code.Code.{Code}
+use Rattle.records.specs.declared.code.Code.the-variants.{ADD, ADDRM, ADDMR, ADDI, ADDIM, SUB, SUBRM, SUBMR, SUBI, IMUL, IMULRM, IMULMR, IDIV, IDIVM, CQO, JMP, JMPL, JMPLN, LEAL, MOV, MOVS, MOVL, MOVI, MOVIM, CMP, CMPRM, CMPMR, CMPI, CMPIM, JEL, JNEL, JLL, JLEL, JGL, JGEL, PUSH, POP, CALL, RET, LAB, NOEXECSTACK, TEXT, GLOBAL, EXTERN}
+
+-- whether a record goes on to the next one: no jump, no label, no return
+abbrev pub straight : Code → Bool
+straight (ADD a b) = true
+straight (ADDRM a b offset) = true
+straight (ADDMR a offset b) = true
+straight (ADDI a value) = true
+straight (ADDIM a offset value) = true
+straight (SUB a b) = true
+straight (SUBRM a b offset) = true
+straight (SUBMR a offset b) = true
+straight (SUBI a value) = true
+straight (IMUL a b) = true
+straight (IMULRM a b offset) = true
+straight (IMULMR a offset b) = true
+straight (IDIV a) = true
+straight (IDIVM a offset) = true
+straight CQO = true
+straight (JMP a) = false
+straight (JMPL label) = false
+straight (JMPLN label) = false
+straight (LEAL a label) = true
+straight (MOV a b) = true
+straight (MOVS a b offset) = true
+straight (MOVL a b offset) = true
+straight (MOVI a value) = true
+straight (MOVIM a offset value) = true
+straight (CMP a b) = true
+straight (CMPRM a b offset) = true
+straight (CMPMR a offset b) = true
+straight (CMPI a value) = true
+straight (CMPIM a offset value) = true
+straight (JEL label) = false
+straight (JNEL label) = false
+straight (JLL label) = false
+straight (JLEL label) = false
+straight (JGL label) = false
+straight (JGEL label) = false
+straight (PUSH a) = true
+straight (POP a) = true
+straight (CALL label) = true
+straight RET = false
+straight (LAB label) = false
+straight NOEXECSTACK = true
+straight TEXT = true
+straight (GLOBAL label) = true
+straight (EXTERN label) = true
+
+pub data Tree : Type 0 where
+  nop : Tree
+  leaf : (x : Code) → straight x ≡ true → Tree
+  seq : Tree → Tree → Tree
+  -- the compare x, and the part unless x finds equal
+  skip-if-zero : (x : Code) → straight x ≡ true → Tree → Tree
+  -- the compare x, the first part if it finds equal, else the second
+  if-zero : (x : Code) → straight x ≡ true → Tree → Tree → Tree
+
+-- how many labels a tree draws
+abbrev pub labels : Tree → ℕ
+labels nop = 0
+labels (leaf x p) = 0
+labels (seq t u) = labels t + labels u
+labels (skip-if-zero x p t) = labels t + 1
+labels (if-zero x p t e) = labels t + labels e + 2
+
+-- how many records it has
+abbrev pub size : Tree → ℕ
+size nop = 0
+size (leaf x p) = 1
+size (seq t u) = size t + size u
+size (skip-if-zero x p t) = size t + 3
+size (if-zero x p t e) = size t + size e + 5
+
+-- its records, where n labels above the counter c are drawn already
+abbrev pub flatAt : Tree → ℕ → ℕ → List Code
+flatAt nop c n = []
+flatAt (leaf x p) c n = x ∷ []
+flatAt (seq t u) c n = flatAt t c n ++ flatAt u c (n + labels t)
+flatAt (skip-if-zero x p t) c n =
+    x ∷ JEL (c + (n + labels t + 1)) ∷ (flatAt t c n ++ LAB (c + (n + labels t + 1)) ∷ [])
+flatAt (if-zero x p t e) c n =
+    x ∷ JEL (c + (n + labels t + labels e + 1)) ∷ (flatAt e c (n + labels t)
+    ++ (JMPL (c + (n + labels t + labels e + 2)) ∷ LAB (c + (n + labels t + labels e + 1)) ∷ (flatAt t c n
+    ++ LAB (c + (n + labels t + labels e + 2)) ∷ [])))
+
+-- its records from the counter c
+abbrev pub flat : Tree → ℕ → List Code
+flat t c = flatAt t c 0
