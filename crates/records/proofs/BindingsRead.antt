@@ -12,7 +12,10 @@ use Rattle.records.specs.declared.binding.Kind.{Kind}
 use Rattle.records.specs.declared.binding.Binding.{Binding}
 use Rattle.records.specs.declared.binding.BindingRead.the-variants.{Found, Absent}
 use Rattle.records.specs.Bytes.{le, number, stored}
-use Rattle.records.specs.Contexts.{kindByte, kindOf, bindingBytes, bindingIn, bindingStarts, bindingAt}
+use Rattle.records.specs.declared.check.Checked.the-variants.{Good}
+use Rattle.records.specs.Checked.{places, checked}
+use Rattle.records.specs.Contexts.{kindByte, kindOf, bindingBytes, bindingIn, bindingStarts, checkedContext, bindingAt}
+use Rattle.records.proofs.Checking.{good-within}
 use Rattle.records.proofs.Conditions.{and-left}
 use Rattle.records.proofs.Numbers.{number-drop}
 use Rattle.records.proofs.Starting.{too-short, long-enough, first-byte}
@@ -96,3 +99,8 @@ module _ (o : List ℕ) (i : ℕ) (b : Binding) where
   pub binding-too-long : length o < i + 8 → o ≡ stored o i (bindingBytes b)
   unfolding bindingBytes le
   binding-too-long h = stored-nothing o i (bindingBytes b) h
+
+-- a context that is accepted has at most 4,096 bindings, all of them whole
+pub context-within : (s : List ℕ) (n : ℕ) → checkedContext s ≡ Good n → (n ≤ 4096) × (8 * n ≤ length s)
+unfolding checked
+context-within s n e = good-within bindingStarts 8 4096 s starts-whole 0 (places 8 s) n e (omega arith) (omega arith)

@@ -1,13 +1,14 @@
 -- A check of a list, record by record: where it starts, what one turn keeps, and what each end of the loop answers.
 use Prim.Native.Nat.{ℕ, zero, suc, _+_, _*_, _-_, _≤_, _<_}
 use mathlib.Core.Path.{_≡_, refl, sym, _∙_}
-use mathlib.Core.Bool.{Bool, true, false}
+use mathlib.Core.Bool.{Bool, true, false, _&&_, cond}
 use mathlib.Core.List.{List}
-use native.Mathlib.Nat.{sub-zero}
+use native.Mathlib.Nat.{sub-zero, mul-suc}
 use native.Mathlib.Numerals.{add-one}
 use native.Mathlib.Omega.{arith}
-use lib.ListN.{length, drop}
-use borrow.Author.Tests.{lt-ltb, le-ltb}
+use lib.Dec.{ltb}
+use lib.ListN.{length, drop, length-drop}
+use borrow.Author.Tests.{lt-ltb, le-ltb, ltb-true}
 use Rattle.records.specs.declared.check.Checked.{Checked}
 use Rattle.records.specs.declared.check.Checked.the-variants.{Good, Malformed}
 use Rattle.records.specs.Checked.{firstBad, places, checked}
@@ -34,3 +35,20 @@ module _ (ok : List ℕ → Bool) (size limit : ℕ) (s : List ℕ) where
     pub done : n ≤ k → Good k ≡ all
     unfolding firstBad
     done h = let m : n - k ≡ 0 = omega arith in rw (so-far, m)
+
+-- a list that is accepted has no more records than the limit, all of them whole
+module _ (ok : List ℕ → Bool) (size limit : ℕ) (s : List ℕ) (whole : (t : List ℕ) → ok t ≡ true → size ≤ length t) where
+  pub good-within : (k n m : ℕ) → firstBad ok size limit s k n ≡ Good m → k ≤ limit → size * k ≤ length s → (m ≤ limit) × (size * m ≤ length s)
+  unfolding firstBad
+  good-within k zero m e l h = let q : m ≡ k = cc in rw q (l, h)
+  good-within k (suc n) m e l h = by (ltb k limit) (ok (drop (size * k) s)) refl refl (λ r l′ h′. good-within (suc k) n m r l′ h′) e
+    where
+      by : (a b : Bool) → ltb k limit ≡ a → ok (drop (size * k) s) ≡ b
+          → (firstBad ok size limit s (suc k) n ≡ Good m → suc k ≤ limit → size * suc k ≤ length s → (m ≤ limit) × (size * m ≤ length s))
+          → cond (a && b) (firstBad ok size limit s (suc k) n) (Malformed (suc k)) ≡ Good m
+          → (m ≤ limit) × (size * m ≤ length s)
+      by true true p q go r =
+          let w = simp length-drop at (whole (drop (size * k) s) q) in
+          go r (ltb-true k limit p) (rw mul-suc (omega arith))
+      by true false p q go r = let z : _≡_ {A = ℕ} 0 1 = cc in absurd (omega arith)
+      by false b p q go r = let z : _≡_ {A = ℕ} 0 1 = cc in absurd (omega arith)

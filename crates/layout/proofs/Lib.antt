@@ -1,0 +1,1 @@
+pub mod Placing  -- positions, operands and ids

@@ -1,0 +1,21 @@
+use borrow.Author.Needs.{needs}
+use mathlib.Core.Path.{sym, _∙_}
+use native.Mathlib.Omega.{arith}
+use Rattle.records.proofs.BindingsRead.{context-within}
+use Rattle.layout.proofs.Placing.{fresh, fresh-malformed}
+use Rattle.layout.proofs.utils.fresh_temporary.Statement.{statement}
+use Rattle.layout.proofs.utils.fresh_temporary.Tie as tie
+
+pub fresh-temporary-spec : {M : Type 1} → statement M
+fresh-temporary-spec =
+    tie.close
+    (tie.spec
+    (λ c κs. search needs)
+    (λ c κs. search needs)
+    (λ c. search needs)
+    (λ c. let w = context-within (c .before .before .before .before .before .before .args .context .now) _ (sym (c .before .before .before .check-context .ensures) ∙ c .before .n .given .1) in omega arith)
+    (λ c. let w = context-within (c .before .before .before .before .before .before .args .context .now) _ (sym (c .before .before .before .check-context .ensures) ∙ c .before .n .given .1) in let h = c .before .before .before .before .number-of .ensures .1 in omega arith)
+    (λ c κs. search needs)
+    (λ c. search needs)
+    (λ c. fresh _ _ _ (sym (c .before .before .before .before .check-context .ensures) ∙ c .before .before .n .given .1) (c .before .before .before .before .before .number-of .ensures .0) (c .position .ensures))
+    (λ c. fresh-malformed _ _ _ (sym (c .before .before .check-context .ensures) ∙ c .enum-told .given .1)))

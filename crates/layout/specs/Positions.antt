@@ -1,0 +1,38 @@
+-- The operand of each position. From document 01, 'Binding record': variable i has positions 2i (Fst) and 2i+1 (Snd);
+-- positions 0..11 are registers 4..15, 12 and up are spills 1 and up, and past the last spill there is none.
+use Prim.Native.Nat.{ℕ, _+_, _<_}
+use mathlib.Core.Path.{_≡_}
+use mathlib.Core.Bool.{Bool, true, false, _&&_, _||_, cond}
+use mathlib.Core.List.{List, [], _∷_}
+use lib.Dec.{leb, ltb}
+use lib.ListN.{getD}
+use Rattle.layout.specs.declared.utils.Temporary.{Temporary}
+use Rattle.layout.specs.declared.utils.Temporary.the-variants.{Operand, Malformed, Missing, OutOfTemporaries}
+use Rattle.layout.specs.Config.{Config}
+
+-- the operand of position p
+unfoldable pub location : ℕ → ℕ
+location p = cond (ltb p 12) (p + 4) (p + 5)
+
+-- a table that gives each of 267 positions its operand
+abbrev pub Table : List ℕ → Type 0
+Table t = (p : ℕ) → p < 267 → getD t p 0 ≡ location p
+
+-- how many positions there are
+abbrev pub positions : Config → ℕ
+positions g = g .spills + 11
+
+-- what a caller may give as an operand: registers 4..15, spills from 1
+unfoldable pub operandOk : Config → ℕ → Bool
+operandOk g w = leb 4 w && ltb w (g .spills + 16) && (ltb w 16 || ltb 16 w)
+
+-- the answer for a position
+unfoldable pub positionAnswer : Config → ℕ → Temporary
+positionAnswer g p = cond (ltb p (positions g)) (Operand (location p)) OutOfTemporaries
+
+-- document 01's number for each answer, nothing where there is an operand
+abbrev pub temporaryCause : Temporary → List ℕ
+temporaryCause (Operand w) = []
+temporaryCause Malformed = 1 ∷ []
+temporaryCause Missing = 4 ∷ []
+temporaryCause OutOfTemporaries = 8 ∷ []

@@ -1,0 +1,3 @@
+// config.rs and utils.rs of the x86-64 back end.
+pub mod config; // registers, offsets
+pub mod utils; // where the variables stand

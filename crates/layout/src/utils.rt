@@ -1,0 +1,402 @@
+// Where the variables stand, from utils.rs.
+ghost use mathlib.Core.Path.{_≡_};
+ghost use mathlib.Core.Bool.{cond};
+ghost use Prim.Native.Nat.{_+_, _*_, _<_, _≤_};
+ghost use lib.Dec.{ltb};
+ghost use lib.ListN.{length, drop};
+ghost use Rattle.records.specs.Contexts.{bindingIn};
+ghost use Rattle.layout.specs.declared.utils.Temporary.the-variants.{Missing};
+ghost use Rattle.layout.specs.Config.{base};
+ghost use Rattle.layout.specs.Positions.{location, Table, operandOk, positionAnswer};
+ghost use Rattle.layout.specs.Queries.{numberOf, idPlace, freshTemporary, variableTemporary};
+use records::check::Checked;
+
+// The operand of each position: registers 4 to 15, then spills 1 to 255.
+const POSITIONS: [u64; 267] = [
+    4,
+    5,
+    6,
+    7,
+    8,
+    9,
+    10,
+    11,
+    12,
+    13,
+    14,
+    15,
+    17,
+    18,
+    19,
+    20,
+    21,
+    22,
+    23,
+    24,
+    25,
+    26,
+    27,
+    28,
+    29,
+    30,
+    31,
+    32,
+    33,
+    34,
+    35,
+    36,
+    37,
+    38,
+    39,
+    40,
+    41,
+    42,
+    43,
+    44,
+    45,
+    46,
+    47,
+    48,
+    49,
+    50,
+    51,
+    52,
+    53,
+    54,
+    55,
+    56,
+    57,
+    58,
+    59,
+    60,
+    61,
+    62,
+    63,
+    64,
+    65,
+    66,
+    67,
+    68,
+    69,
+    70,
+    71,
+    72,
+    73,
+    74,
+    75,
+    76,
+    77,
+    78,
+    79,
+    80,
+    81,
+    82,
+    83,
+    84,
+    85,
+    86,
+    87,
+    88,
+    89,
+    90,
+    91,
+    92,
+    93,
+    94,
+    95,
+    96,
+    97,
+    98,
+    99,
+    100,
+    101,
+    102,
+    103,
+    104,
+    105,
+    106,
+    107,
+    108,
+    109,
+    110,
+    111,
+    112,
+    113,
+    114,
+    115,
+    116,
+    117,
+    118,
+    119,
+    120,
+    121,
+    122,
+    123,
+    124,
+    125,
+    126,
+    127,
+    128,
+    129,
+    130,
+    131,
+    132,
+    133,
+    134,
+    135,
+    136,
+    137,
+    138,
+    139,
+    140,
+    141,
+    142,
+    143,
+    144,
+    145,
+    146,
+    147,
+    148,
+    149,
+    150,
+    151,
+    152,
+    153,
+    154,
+    155,
+    156,
+    157,
+    158,
+    159,
+    160,
+    161,
+    162,
+    163,
+    164,
+    165,
+    166,
+    167,
+    168,
+    169,
+    170,
+    171,
+    172,
+    173,
+    174,
+    175,
+    176,
+    177,
+    178,
+    179,
+    180,
+    181,
+    182,
+    183,
+    184,
+    185,
+    186,
+    187,
+    188,
+    189,
+    190,
+    191,
+    192,
+    193,
+    194,
+    195,
+    196,
+    197,
+    198,
+    199,
+    200,
+    201,
+    202,
+    203,
+    204,
+    205,
+    206,
+    207,
+    208,
+    209,
+    210,
+    211,
+    212,
+    213,
+    214,
+    215,
+    216,
+    217,
+    218,
+    219,
+    220,
+    221,
+    222,
+    223,
+    224,
+    225,
+    226,
+    227,
+    228,
+    229,
+    230,
+    231,
+    232,
+    233,
+    234,
+    235,
+    236,
+    237,
+    238,
+    239,
+    240,
+    241,
+    242,
+    243,
+    244,
+    245,
+    246,
+    247,
+    248,
+    249,
+    250,
+    251,
+    252,
+    253,
+    254,
+    255,
+    256,
+    257,
+    258,
+    259,
+    260,
+    261,
+    262,
+    263,
+    264,
+    265,
+    266,
+    267,
+    268,
+    269,
+    270,
+    271,
+];
+
+// An operand, or why there is none.
+pub enum Temporary {
+    Operand(u64),
+    Malformed,
+    Missing,
+    OutOfTemporaries,
+}
+
+pub enum TemporaryNumber {
+    Fst,
+    Snd,
+}
+
+fn number_of(number: TemporaryNumber) -> u64
+    ensures { λ r. ⌜ (r ≡ numberOf number) × (r ≤ 1) ⌝ }
+{
+    match number {
+        TemporaryNumber::Fst => 0,
+        TemporaryNumber::Snd => 1,
+    }
+}
+
+// The table, to be taken once and lent: a constant array is made anew at each mention.
+pub fn positions() -> [u64; 267]
+    ensures { λ r. ⌜ Table r ⌝ }
+{
+    POSITIONS
+}
+
+// The operand of a position.
+pub fn location_at(table: &[u64; 267], p: u64) -> u64
+    requires { ⌜ (Table (now table)) × (p < 267) ⌝ }
+    ensures { λ r. ⌜ r ≡ location p ⌝ }
+{
+    table[p as usize]
+}
+
+pub fn position(p: u64) -> Temporary
+    ensures { λ r. ⌜ r ≡ positionAnswer base p ⌝ }
+{
+    if 267 <= p {
+        return Temporary::OutOfTemporaries;
+    }
+    let table = positions();
+    Temporary::Operand(location_at(&table, p))
+}
+
+// Whether a caller may give the word as an operand.
+pub fn operand_ok(w: u64) -> bool
+    ensures { λ r. ⌜ r ≡ operandOk base w ⌝ }
+{
+    if w < 4 {
+        return false;
+    }
+    if 272 <= w {
+        return false;
+    }
+    if w < 16 {
+        return true;
+    }
+    16 < w
+}
+
+fn id_at(context: &[u8], k: usize) -> u32
+    requires { ⌜ 8 * k + 8 ≤ length (now context) ⌝ }
+    ensures { λ r. ⌜ r ≡ bindingIn (drop (8 * k) (now (context .entry))) .id ⌝ }
+{
+    let b = records::binding::binding_at(context, 8 * k);
+    b.id
+}
+
+// The place of the first of n bindings that has the id, or n.
+fn id_place(context: &[u8], id: u32, n: usize) -> usize
+    requires { ⌜ 8 * n ≤ length (now context) ⌝ }
+    ensures { λ r. ⌜ (r ≡ idPlace (now (context .entry)) id 0 n) × (r ≤ n) ⌝ }
+{
+    let mut k = 0;
+    while k < n {
+        if id_at(context, k) == id {
+            return k;
+        }
+        k += 1;
+    }
+    k
+}
+
+// The temporary past the context's last variable.
+pub fn fresh_temporary(number: TemporaryNumber, context: &[u8]) -> Temporary
+    ensures { λ r. ⌜ r ≡ freshTemporary base number (now (context .entry)) ⌝ }
+{
+    let half = number_of(number);
+    match records::binding::check_context(context) {
+        Checked::Good(n) => position(2 * (n as u64) + half),
+        Checked::Malformed(_) => Temporary::Malformed,
+    }
+}
+
+// The temporary of the first variable that has the id.
+pub fn variable_temporary(number: TemporaryNumber, context: &[u8], id: u32) -> Temporary
+    ensures { λ r. ⌜ r ≡ variableTemporary base number (now (context .entry)) id ⌝ }
+{
+    let half = number_of(number);
+    match records::binding::check_context(context) {
+        Checked::Good(n) => placed(id_place(context, id, n), n, half),
+        Checked::Malformed(_) => Temporary::Malformed,
+    }
+}
+
+fn placed(k: usize, n: usize, half: u64) -> Temporary
+    requires { ⌜ (k ≤ n) × ((n ≤ 4096) × (half ≤ 1)) ⌝ }
+    ensures { λ r. ⌜ r ≡ cond (ltb k n) (positionAnswer base (2 * k + half)) Missing ⌝ }
+{
+    if k < n {
+        position(2 * (k as u64) + half)
+    } else {
+        Temporary::Missing
+    }
+}
