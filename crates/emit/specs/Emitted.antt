@@ -9,8 +9,8 @@ use Rattle.records.specs.Bytes.{stored}
 use Rattle.records.specs.Codes.{fields, fieldsOf}
 use Rattle.records.specs.Instructions.{fieldsBytes}
 use Rattle.trees.specs.Tree.{Tree, labels, size, flat}
-use Rattle.emit.specs.declared.Cursor.{Cursor}
-use Rattle.emit.specs.declared.Row.{Row}
+use Rattle.emit.specs.declared.cursor.Cursor.{Cursor}
+use Rattle.emit.specs.declared.cursor.Row.{Row}
 
 abbrev pub rowFields : Row → Fields
 rowFields r = fields (r .0) (r .1) (r .2) (r .3) (r .4) (r .5)

@@ -13,7 +13,7 @@ use Rattle.records.specs.Bytes.{stored}
 use Rattle.records.specs.Instructions.{fieldsBytes}
 use Rattle.trees.specs.Tree.{Tree, straight, nop, seq, skip-if-zero, if-zero, labels, size, flatAt, flat}
 use Rattle.trees.specs.Flat.{flat-from, length-flat}
-use Rattle.emit.specs.declared.Cursor.{Cursor}
+use Rattle.emit.specs.declared.cursor.Cursor.{Cursor}
 use Rattle.emit.specs.Emitted.{written, fieldsList, Emitted, Emits}
 
 written-append : (xs ys : List Fields) (o : List ℕ) (i : ℕ) → written (written o i xs) (i + 24 * length xs) ys ≡ written o i (xs ++ ys)

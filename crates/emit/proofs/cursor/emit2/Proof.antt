@@ -1,7 +1,7 @@
 use borrow.Author.Needs.{needs}
 use Rattle.emit.specs.Laws.{_⨾_}
-use Rattle.emit.proofs.emit2.Statement.{statement}
-use Rattle.emit.proofs.emit2.Tie as tie
+use Rattle.emit.proofs.cursor.emit2.Statement.{statement}
+use Rattle.emit.proofs.cursor.emit2.Tie as tie
 
 pub emit2-spec : {M : Type 1} → statement M
 emit2-spec =

@@ -1,7 +1,7 @@
 use borrow.Author.Needs.{needs}
 use Rattle.emit.specs.Laws.{_⨾_}
-use Rattle.emit.proofs.emit4.Statement.{statement}
-use Rattle.emit.proofs.emit4.Tie as tie
+use Rattle.emit.proofs.cursor.emit4.Statement.{statement}
+use Rattle.emit.proofs.cursor.emit4.Tie as tie
 
 pub emit4-spec : {M : Type 1} → statement M
 emit4-spec =

@@ -1,7 +1,7 @@
 use borrow.Author.Needs.{needs}
 use Rattle.emit.specs.Laws.{_⨾_}
-use Rattle.emit.proofs.emit3.Statement.{statement}
-use Rattle.emit.proofs.emit3.Tie as tie
+use Rattle.emit.proofs.cursor.emit3.Statement.{statement}
+use Rattle.emit.proofs.cursor.emit3.Tie as tie
 
 pub emit3-spec : {M : Type 1} → statement M
 emit3-spec =

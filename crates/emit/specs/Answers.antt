@@ -1,0 +1,46 @@
+-- What an operation answers and leaves in its output, where nothing but the labels or the room can refuse it.
+-- From document 01, 'Causes and numbers': 9 before 10, a refusal writes nothing, output bytes past the records stay.
+use Prim.Native.Nat.{ℕ, _+_, _*_, _/_}
+use mathlib.Core.Bool.{Bool, true, false, cond}
+use mathlib.Core.List.{List, [], _∷_}
+use lib.Dec.{ltb}
+use lib.ListN.{length}
+use lib.Seq.{sets}
+use Rattle.records.specs.declared.code.Code.{Code}
+use Rattle.records.specs.ReadBack.{joined, codeBytes}
+use Rattle.emit.specs.declared.answer.Answer.{Answer}
+use Rattle.emit.specs.declared.answer.Answer.the-variants.{Written, Context, Body, Operand, Missing, Arguments, Count, Position, Labels, Room}
+
+-- document 01's number and values for each answer, nothing where the records are written
+abbrev pub causeOf : Answer → List ℕ
+causeOf (Written n counter) = []
+causeOf Context = 1 ∷ []
+causeOf (Body place) = 2 ∷ place ∷ []
+causeOf Operand = 3 ∷ []
+causeOf Missing = 4 ∷ []
+causeOf Arguments = 6 ∷ []
+causeOf Count = 7 ∷ []
+causeOf Position = 8 ∷ []
+causeOf Labels = 9 ∷ []
+causeOf (Room bytes) = 10 ∷ bytes ∷ []
+
+-- the answer for records of so many bytes that draw n labels
+unfoldable pub granted : ℕ → ℕ → ℕ → ℕ → Answer
+granted counter room bytes n =
+    cond (ltb 2147483647 (counter + n)) Labels (cond (ltb room bytes) (Room bytes) (Written (bytes / 24) (counter + n)))
+
+abbrev pub accepted : Answer → Bool
+accepted (Written n counter) = true
+accepted Context = false
+accepted (Body place) = false
+accepted Operand = false
+accepted Missing = false
+accepted Arguments = false
+accepted Count = false
+accepted Position = false
+accepted Labels = false
+accepted (Room bytes) = false
+
+-- the output: the records from its start where they are written, else as it was
+abbrev pub output : Answer → List ℕ → List Code → List ℕ
+output r o cs = cond (accepted r) (sets o 0 (joined codeBytes cs)) o

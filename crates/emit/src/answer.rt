@@ -1,0 +1,47 @@
+// What an operation answers.
+ghost use mathlib.Core.Path.{_≡_};
+ghost use mathlib.Core.Bool.{Bool};
+ghost use Prim.Native.Nat.{_+_, _*_, _<_, _^_};
+ghost use Rattle.emit.specs.Answers.{granted};
+use crate::cursor::Cursor;
+
+// Written, with the number of records and the counter after them; or refused, by document 01's causes.
+pub enum Answer {
+    Written(usize, u64),
+    // 1: the context
+    Context,
+    // 2: a record of the body, with its place
+    Body(usize),
+    // 3: an operand or a label
+    Operand,
+    // 4: an id or a place that is not there
+    Missing,
+    // 6: too many arguments
+    Arguments,
+    // 7: a share count
+    Count,
+    // 8: a position past the last
+    Position,
+    // 9: labels
+    Labels,
+    // 10: the output is too short, with the bytes needed
+    Room(usize),
+}
+
+// The answer where nothing but labels or room can refuse: need is the cursor past the records, from a cursor at 0 and counter 0.
+pub fn grant(counter: u64, room: usize, need: Cursor) -> Answer
+    requires { ⌜ need .counter < 2 ^ 32 ⌝ }
+    ensures { λ r. ⌜ r ≡ granted counter room (need .at) (need .counter) ⌝ }
+{
+    if 2147483647 < counter {
+        return Answer::Labels;
+    }
+    let after = counter + need.counter;
+    if 2147483647 < after {
+        return Answer::Labels;
+    }
+    if room < need.at {
+        return Answer::Room(need.at);
+    }
+    Answer::Written(need.at / 24, after)
+}
