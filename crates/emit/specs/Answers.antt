@@ -2,6 +2,7 @@
 -- From document 01, 'Causes and numbers': 9 before 10, a refusal writes nothing, output bytes past the records stay.
 use Prim.Native.Nat.{ℕ, _+_, _*_, _/_}
 use mathlib.Core.Bool.{Bool, true, false, cond}
+use mathlib.Core.Path.{_≡_}
 use mathlib.Core.List.{List, [], _∷_}
 use lib.Dec.{ltb}
 use lib.ListN.{length}
@@ -44,3 +45,8 @@ accepted (Room bytes) = false
 -- the output: the records from its start where they are written, else as it was
 abbrev pub output : Answer → List ℕ → List Code → List ℕ
 output r o cs = cond (accepted r) (sets o 0 (joined codeBytes cs)) o
+
+-- what a public operation ensures: its answer r is the one expected, and the output holds the records cs if it is written
+pub record Answers (o o′ : List ℕ) (r expected : Answer) (cs : List Code) : Type 0 where
+  pub answer : r ≡ expected
+  pub bytes : o′ ≡ output expected o cs

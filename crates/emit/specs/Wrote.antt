@@ -1,13 +1,14 @@
 -- From what an emitter leaves to an operation's answer and output.
 use Prim.Native.Nat.{ℕ, _+_, _*_, _/_, _≤_, _<_}
-use mathlib.Core.Bool.{true, false}
+use mathlib.Core.Bool.{Bool, true, false, cond}
 use mathlib.Core.Path.{_≡_, refl, sym, ap, _∙_}
 use mathlib.Core.List.{List, [], _∷_, _++_}
 use native.Mathlib.Nat.{add-zero, add-suc, suc-add}
 use native.Mathlib.Omega.{arith}
+use lib.Dec.{ltb}
 use lib.ListN.{length}
 use lib.Seq.{sets, length-sets}
-use borrow.Author.Tests.{lt-ltb, le-ltb, le-leb}
+use borrow.Author.Tests.{lt-ltb, le-ltb, ltb-false}
 use Rattle.records.specs.declared.code.Code.{Code}
 use Rattle.records.specs.declared.code.Fields.{Fields}
 use Rattle.records.specs.Bytes.{le, stored}
@@ -21,7 +22,7 @@ use Rattle.emit.specs.declared.cursor.Cursor.{Cursor}
 use Rattle.emit.specs.declared.answer.Answer.{Answer}
 use Rattle.emit.specs.declared.answer.Answer.the-variants.{Written, Labels, Room}
 use Rattle.emit.specs.Emitted.{written, fieldsList, Emitted, Emits}
-use Rattle.emit.specs.Answers.{granted, accepted, output}
+use Rattle.emit.specs.Answers.{granted, accepted, output, Answers}
 use Rattle.emit.specs.Laws.{listed, length-fields}
 
 pub bytes-long : (f : Fields) → length (fieldsBytes f) ≡ 24
@@ -52,3 +53,49 @@ module _ (counter room bytes n : ℕ) where
   pub granted-all : counter + n ≤ 2147483647 → bytes ≤ room → Written (bytes / 24) (counter + n) ≡ granted counter room bytes n
   unfolding granted
   granted-all h r = rw (le-ltb 2147483647 (counter + n) h, le-ltb room bytes r)
+
+  -- what an accepted answer says
+  pub granted-if : accepted (granted counter room bytes n) ≡ true → (counter + n ≤ 2147483647) × (bytes ≤ room)
+  unfolding granted
+  granted-if e = by (ltb 2147483647 (counter + n)) (ltb room bytes) refl refl e
+    where
+      by : (a b : Bool) → ltb 2147483647 (counter + n) ≡ a → ltb room bytes ≡ b
+        → accepted (cond a Labels (cond b (Room bytes) (Written (bytes / 24) (counter + n)))) ≡ true
+        → (counter + n ≤ 2147483647) × (bytes ≤ room)
+      by true b p q r = let z : _≡_ {A = ℕ} 0 1 = cc in absurd (omega arith)
+      by false true p q r = let z : _≡_ {A = ℕ} 0 1 = cc in absurd (omega arith)
+      by false false p q r = (ltb-false 2147483647 (counter + n) p, ltb-false room bytes q)
+
+-- a refusal leaves the output
+pub refused : {o : List ℕ} {r expected : Answer} {cs : List Code} {b : Bool} → r ≡ expected → b ≡ accepted r → b ≡ false → Answers o o r expected cs
+refused e a f = record { answer = e; bytes = rw (← e, ← a, f) }
+
+-- the answer's bounds on the counter and the room, from the size that a first pass told
+pub room-for : {o₀ o₁ : List ℕ} {p need : Cursor} {r : Answer} {b : Bool} (t : Tree) (counter room : ℕ) → Emits o₀ p o₁ need t → p .at ≡ 0 → p .counter ≡ 0
+    → r ≡ granted counter room (need .at) (need .counter) → b ≡ accepted r → b ≡ true
+    → (counter + labels t ≤ 2147483647) × (24 * size t ≤ room)
+room-for t counter room d a c e q k =
+    let w = granted-if counter room _ _ (ap accepted (sym e) ∙ sym q ∙ k) in
+    (omega (arith, w .0, d .drawn), omega (arith, w .1, d .place))
+
+-- a first pass on another output tells the size; the second writes
+module _ {o₀ o₁ : List ℕ} {p need : Cursor} (t : Tree) (counter : ℕ) (d : Emits o₀ p o₁ need t) (a : p .at ≡ 0) (c : p .counter ≡ 0) where
+  same : (room : ℕ) → granted counter room (need .at) (need .counter) ≡ granted counter room (24 * size t) (labels t)
+  same room =
+      let h : need .at ≡ 24 * size t = omega (arith, d .place) in
+      let k : need .counter ≡ labels t = omega (arith, d .drawn) in
+      rw (h, k)
+
+  module _ (o : List ℕ) {r : Answer} (e : r ≡ granted counter (length o) (need .at) (need .counter)) {b : Bool} (f : b ≡ accepted r) where
+    pub not-written : b ≡ false → Answers o o r (granted counter (length o) (24 * size t) (labels t)) (flat t counter)
+    not-written g = refused (e ∙ same (length o)) f g
+
+    pub wrote : {o′ : List ℕ} {q z : Cursor} → b ≡ true → Emits o q o′ z t → q .at ≡ 0 → q .counter ≡ counter
+      → Answers o o′ r (granted counter (length o) (24 * size t) (labels t)) (flat t counter)
+    wrote g w i j =
+        let h = room-for t counter (length o) d a c e f g in
+        let l = length-flat t counter 0 in
+        record {
+          answer = e ∙ same (length o);
+          bytes = w .bytes ∙ rw (i, j, ← (e ∙ same (length o)), ← f, g) (written-whole (flat t counter) o 0 (omega arith));
+        }

@@ -2,7 +2,7 @@
 ghost use mathlib.Core.Path.{_≡_};
 ghost use mathlib.Core.Bool.{Bool};
 ghost use Prim.Native.Nat.{_+_, _*_, _<_, _^_};
-ghost use Rattle.emit.specs.Answers.{granted};
+ghost use Rattle.emit.specs.Answers.{granted, accepted};
 use crate::cursor::Cursor;
 
 // Written, with the number of records and the counter after them; or refused, by document 01's causes.
@@ -44,4 +44,21 @@ pub fn grant(counter: u64, room: usize, need: Cursor) -> Answer
         return Answer::Room(need.at);
     }
     Answer::Written(need.at / 24, after)
+}
+
+pub fn is_written(answer: Answer) -> bool
+    ensures { λ r. ⌜ r ≡ accepted answer ⌝ }
+{
+    match answer {
+        Answer::Written(_, _) => true,
+        Answer::Context => false,
+        Answer::Body(_) => false,
+        Answer::Operand => false,
+        Answer::Missing => false,
+        Answer::Arguments => false,
+        Answer::Count => false,
+        Answer::Position => false,
+        Answer::Labels => false,
+        Answer::Room(_) => false,
+    }
 }

@@ -3,4 +3,5 @@ pub mod bytes; // little-endian numbers in slices
 pub mod check; // the answer of a check
 pub mod binding; // binding records and contexts
 pub mod code; // instruction records
+pub mod number; // the codes' numbers, for records made in bulk
 pub mod order; // order records

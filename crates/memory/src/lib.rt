@@ -1,0 +1,2 @@
+// memory.rs of the x86-64 back end: blocks and objects.
+pub mod block; // one block
