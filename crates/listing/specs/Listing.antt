@@ -1,0 +1,68 @@
+-- The listing of a list of instruction records, and what the lister prints. From document 01, 'Worked numbers' (the lister) and
+-- 'Causes and numbers'. The names of the codes are a parameter; those of the Rust stand in `Names`.
+use Prim.Native.Nat.{ℕ, zero, suc, _*_, _-_}
+use mathlib.Core.Bool.{cond}
+use mathlib.Core.List.{List, [], _∷_, _++_}
+use lib.Dec.{leb}
+use lib.ListN.{length, getD, drop}
+use Rattle.records.specs.declared.check.Checked.{Checked}
+use Rattle.records.specs.declared.check.Checked.the-variants.{Good, Malformed as Bad}
+use Rattle.records.specs.declared.code.Fields.{Fields}
+use Rattle.records.specs.Instructions.{fieldsIn, checkedCodes}
+use Rattle.listing.specs.declared.Listed.{Listed}
+use Rattle.listing.specs.declared.Listed.the-variants.{Text, Malformed, Short}
+use Rattle.listing.specs.Text.{ascii, decimal, signed}
+
+-- the name of a code, the first of which is 1
+abbrev pub nameOf : List (List ℕ) → ℕ → List ℕ
+nameOf names code = getD names (code - 1) []
+
+-- what follows a space
+abbrev pub spaced : List ℕ → List ℕ
+spaced bs = ascii " " ++ bs
+
+-- a, b, label, offset, value
+unfoldable pub operands : Fields → List ℕ
+operands f = spaced (decimal (f .a)) ++ spaced (decimal (f .b)) ++ spaced (decimal (f .label)) ++ spaced (signed (f .offset)) ++ spaced (signed (f .value))
+
+-- the line of a record: its place, its code's name, its operands
+unfoldable pub line : List (List ℕ) → ℕ → Fields → List ℕ
+line names place f = decimal place ++ spaced (nameOf names (f .code)) ++ operands f ++ ascii "\n"
+
+-- the lines of the first k records of s
+unfoldable pub lines : List (List ℕ) → List ℕ → ℕ → List ℕ
+lines names s zero = []
+lines names s (suc k) = lines names s k ++ line names (suc k) (fieldsIn (drop (24 * k) s))
+
+-- the header, and the lines of all n records of s
+unfoldable pub listing : List (List ℕ) → List ℕ → ℕ → List ℕ
+listing names s n = decimal n ++ ascii " records\n" ++ lines names s n
+
+-- the lister takes at most 2,730 records
+abbrev pub checkedList : List ℕ → Checked
+checkedList s = checkedCodes 2730 s
+
+-- the text that is written: none where the list is refused
+unfoldable pub textOf : List (List ℕ) → List ℕ → Checked → List ℕ
+textOf names s (Good n) = listing names s n
+textOf names s (Bad place) = []
+
+-- the answer where the output has room for so many bytes
+unfoldable pub answerOf : List (List ℕ) → List ℕ → ℕ → Checked → Listed
+answerOf names s room (Good n) = cond (leb (length (listing names s n)) room) (Text (length (listing names s n))) (Short (length (listing names s n)))
+answerOf names s room (Bad place) = Malformed place
+
+-- document 01's number and values for each answer, nothing where the list is accepted and its listing written
+abbrev pub causeOf : Listed → List ℕ
+causeOf (Text size) = []
+causeOf (Malformed place) = 2 ∷ place ∷ []
+causeOf (Short needed) = 10 ∷ needed ∷ []
+
+-- the number and the place of a refusal, on one line
+unfoldable pub refusal : ℕ → List ℕ
+refusal place = ascii "2 " ++ decimal place ++ ascii "\n"
+
+-- what the lister prints
+unfoldable pub printedOf : List (List ℕ) → List ℕ → Checked → List ℕ
+printedOf names s (Good n) = listing names s n
+printedOf names s (Bad place) = refusal place

@@ -1,0 +1,60 @@
+// The text listing of instruction records.
+mod lines; // the lines, the header and the refusal
+mod names; // the 44 names
+mod text; // bytes and numbers put into a text
+
+use records::check::Checked;
+use records::code;
+ghost use mathlib.Core.Path.{_≡_};
+ghost use Prim.Native.Nat.{_≤_};
+ghost use lib.ListN.{length};
+ghost use Rattle.records.specs.Bytes.{stored};
+ghost use Rattle.listing.specs.Names.{codeNames};
+ghost use Rattle.listing.specs.Listing.{checkedList, textOf, answerOf, printedOf};
+
+pub enum Listed {
+    Text(usize), // how many bytes were written
+    Malformed(usize), // cause 2: the place of the first bad or surplus record
+    Short(usize), // cause 10: how many bytes are needed
+}
+
+// The listing of at most 2,730 records, at the start of `text`.
+pub fn list_records(records: &[u8], text: &mut [u8]) -> Listed
+    ensures answer { λ r. ⌜ r ≡ answerOf codeNames (now (records .entry)) (length (now (text .entry))) (checkedList (now (records .entry))) ⌝ }
+    ensures written { λ r. ⌜ now (text .exit) ≡ stored (now (text .entry)) 0 (textOf codeNames (now (records .entry)) (checkedList (now (records .entry)))) ⌝ }
+{
+    let checked = code::check_codes(records, 2730);
+    match checked {
+        Checked::Malformed(place) => Listed::Malformed(place),
+        Checked::Good(count) => {
+            let mut none = [0u8; 1];
+            let size = lines::put_listing(&mut none, records, count);
+            if text.len() < size {
+                return Listed::Short(size);
+            }
+            lines::put_listing(text, records, count);
+            Listed::Text(size)
+        }
+    }
+}
+
+// What the lister prints, at the start of `text` where it fits whole. Answers how many bytes it is.
+pub fn print_records(records: &[u8], text: &mut [u8]) -> usize
+    ensures size { λ r. ⌜ r ≡ length (printedOf codeNames (now (records .entry)) (checkedList (now (records .entry)))) ⌝ }
+    ensures bound { λ r. ⌜ r ≤ 382229 ⌝ }
+    ensures written { λ r. ⌜ now (text .exit) ≡ stored (now (text .entry)) 0 (printedOf codeNames (now (records .entry)) (checkedList (now (records .entry)))) ⌝ }
+{
+    let listed = list_records(records, text);
+    match listed {
+        Listed::Text(size) => size,
+        Listed::Short(size) => size,
+        Listed::Malformed(place) => {
+            let mut none = [0u8; 1];
+            let size = lines::put_refusal(&mut none, place);
+            if text.len() < size {
+                return size;
+            }
+            lines::put_refusal(text, place)
+        }
+    }
+}
