@@ -44,17 +44,10 @@ pub fn print_records(records: &[u8], text: &mut [u8]) -> usize
     ensures bound { λ r. ⌜ r ≤ 382229 ⌝ }
     ensures written { λ r. ⌜ now (text .exit) ≡ stored (now (text .entry)) 0 (printedOf codeNames (now (records .entry)) (checkedList (now (records .entry)))) ⌝ }
 {
-    let listed = list_records(records, text);
-    match listed {
-        Listed::Text(size) => size,
-        Listed::Short(size) => size,
-        Listed::Malformed(place) => {
-            let mut none = [0u8; 1];
-            let size = lines::put_refusal(&mut none, place);
-            if text.len() < size {
-                return size;
-            }
-            lines::put_refusal(text, place)
-        }
+    let mut none = [0u8; 1];
+    let size = lines::put_printed(&mut none, records);
+    if text.len() < size {
+        return size;
     }
+    lines::put_printed(text, records)
 }

@@ -5,7 +5,7 @@ ghost use Prim.Native.Nat.{_+_, _*_, _≤_};
 ghost use Rattle.records.specs.Instructions.{fieldsIn};
 ghost use Rattle.listing.specs.Text.{ascii, decimal};
 ghost use Rattle.listing.specs.Names.{codeNames};
-ghost use Rattle.listing.specs.Listing.{operands, line, lines, listing, checkedList, refusal};
+ghost use Rattle.listing.specs.Listing.{operands, line, lines, listing, checkedList, refusal, printedOf};
 ghost use Rattle.listing.specs.Putting.{farthest, Puts};
 use crate::names;
 use crate::text;
@@ -57,10 +57,21 @@ pub fn put_listing(text: &mut [u8], records: &[u8], count: usize) -> usize
     put_lines(text, lines, records, count)
 }
 
-pub fn put_refusal(text: &mut [u8], place: usize) -> usize
+fn put_refusal(text: &mut [u8], place: usize) -> usize
     ensures { λ r. ⌜ Puts 23 (now (text .entry)) 0 (now (text .exit)) r (refusal place) ⌝ }
 {
     let at = text::put_bytes(text, 0, b"2 ");
     let end = text::put_decimal(text, at, place as u64);
     text::put_byte(text, end, b'\n')
+}
+
+// The listing, or the refusal where the list is malformed.
+pub fn put_printed(text: &mut [u8], records: &[u8]) -> usize
+    ensures { λ r. ⌜ Puts 382229 (now (text .entry)) 0 (now (text .exit)) r (printedOf codeNames (now (records .entry)) (checkedList (now (records .entry)))) ⌝ }
+{
+    let checked = code::check_codes(records, 2730);
+    match checked {
+        Checked::Good(count) => put_listing(text, records, count),
+        Checked::Malformed(place) => put_refusal(text, place),
+    }
 }

@@ -1,0 +1,21 @@
+use borrow.Author.Needs.{needs}
+use Rattle.listing.specs.Listing.{operands}
+use Rattle.listing.proofs.Putting.{_⨟_}
+use Rattle.listing.proofs.lines.put_operands.Statement.{statement}
+use Rattle.listing.proofs.lines.put_operands.Tie as tie
+
+pub put-operands-spec : {M : Type 1} → statement M
+unfolding operands
+put-operands-spec =
+    tie.close
+    (tie.spec
+    (λ c. search needs)
+    (λ c κs. search needs)
+    (λ c. search needs)
+    (λ c κs. search needs)
+    (λ c. search needs)
+    (λ c κs. search needs)
+    (λ c κs. search needs)
+    (λ c κs. search needs)
+    (λ c. search needs)
+    (λ c. c .before .before .before .before .before .before .before .before .before .before .before .before .before .before .before .before .before .before .before .before .put-spaced .ensures ⨟ c .before .before .before .before .before .before .before .before .before .before .before .before .before .before .before .put-spaced2 .ensures ⨟ c .before .before .before .before .before .before .before .before .before .before .put-spaced3 .ensures ⨟ c .before .before .before .before .before .before .put-spaced-signed .ensures ⨟ c .before .before .put-spaced-signed2 .ensures))
