@@ -9,7 +9,6 @@ use native.Mathlib.Omega.{arith}
 use lib.Dec.{ltb}
 use lib.ListN.{length, drop}
 use borrow.Author.Tests.{ltb-true}
-use Rattle.records.specs.declared.check.Checked.{Checked}
 use Rattle.records.specs.declared.check.Checked.the-variants.{Good, Malformed}
 use Rattle.records.specs.declared.code.Fields.{Fields}
 use Rattle.records.specs.Checked.{firstBad, checked}

@@ -1,12 +1,12 @@
 -- Bytes put at an index, one after the other, are put together.
-use Prim.Native.Nat.{ℕ, suc, _+_, _≤_, _<_}
+use Prim.Native.Nat.{ℕ, _+_, _≤_, _<_}
 use mathlib.Core.Path.{_≡_, refl, sym, ap, _∙_, subst}
 use mathlib.Core.List.{List, [], _∷_, _++_}
 use native.Mathlib.Nat.{add-zero}
 use native.Mathlib.Numerals.{add-one}
 use native.Mathlib.Omega.{arith}
 use lib.ListN.{length, getD, set, take, length-append}
-use lib.Seq.{sets, length-sets, set-out, take-suc, take-all}
+use lib.Seq.{length-sets, set-out, take-suc, take-all}
 use Rattle.records.proofs.Storing.{sets-then}
 use Rattle.listing.specs.Putting.{Puts}
 
@@ -33,7 +33,7 @@ _⨟_ {i = i} {j = j} {o = o} {bs = bs} {cs = cs} p q =
     record {
       bytes = q .bytes ∙ (rw (p .bytes) (sets-then bs cs o i j (sym (p .next))));
       next = simp length-append (omega arith);
-      few = omega arith
+      few = omega arith;
     }
 
 -- a list put byte by byte

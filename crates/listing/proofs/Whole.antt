@@ -1,6 +1,6 @@
 -- A text that is measured first, and then stored where it fits whole.
-use Prim.Native.Nat.{ℕ, _+_, _≤_, _<_}
-use mathlib.Core.Path.{_≡_, refl, sym, _∙_}
+use Prim.Native.Nat.{ℕ, _≤_, _<_}
+use mathlib.Core.Path.{_≡_, refl, _∙_}
 use mathlib.Core.List.{List, []}
 use native.Mathlib.Omega.{arith}
 use lib.ListN.{length}
@@ -12,7 +12,6 @@ use Rattle.records.proofs.Storing.{stored-whole, stored-nothing}
 use Rattle.listing.specs.declared.Listed.the-variants.{Text, Malformed, Short}
 use Rattle.listing.specs.Listing.{listing, textOf, answerOf, refusal, printedOf}
 use Rattle.listing.specs.Putting.{Puts}
-use Rattle.listing.proofs.Putting.{at-most}
 
 pub size : {m j : ℕ} {o o′ bs : List ℕ} → Puts m o 0 o′ j bs → j ≡ length bs
 size p = let e = p .next in omega arith

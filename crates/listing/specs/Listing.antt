@@ -58,11 +58,21 @@ causeOf (Text size) = []
 causeOf (Malformed place) = 2 ∷ place ∷ []
 causeOf (Short needed) = 10 ∷ needed ∷ []
 
--- the number and the place of a refusal, on one line
+-- numbers on one line
+abbrev pub row : List ℕ → List ℕ
+row [] = ascii "\n"
+row (n ∷ []) = decimal n ++ ascii "\n"
+row (n ∷ m ∷ ns) = decimal n ++ spaced (row (m ∷ ns))
+
+-- the number and the place of a refusal
 unfoldable pub refusal : ℕ → List ℕ
-refusal place = ascii "2 " ++ decimal place ++ ascii "\n"
+refusal place = row (causeOf (Malformed place))
 
 -- what the lister prints
 unfoldable pub printedOf : List (List ℕ) → List ℕ → Checked → List ℕ
 printedOf names s (Good n) = listing names s n
 printedOf names s (Bad place) = refusal place
+
+-- a bound on the bytes that it prints: 20 digits and 9 letters in the header, and 140 bytes in each of 2,730 lines
+abbrev pub longest : ℕ
+longest = 382229

@@ -10,7 +10,10 @@ ghost use Prim.Native.Nat.{_≤_};
 ghost use lib.ListN.{length};
 ghost use Rattle.records.specs.Bytes.{stored};
 ghost use Rattle.listing.specs.Names.{codeNames};
-ghost use Rattle.listing.specs.Listing.{checkedList, textOf, answerOf, printedOf};
+ghost use Rattle.listing.specs.Listing.{checkedList, textOf, answerOf, printedOf, longest};
+
+// No more bytes than this are printed.
+pub const LONGEST: usize = 382229;
 
 pub enum Listed {
     Text(usize), // how many bytes were written
@@ -41,7 +44,7 @@ pub fn list_records(records: &[u8], text: &mut [u8]) -> Listed
 // What the lister prints, at the start of `text` where it fits whole. Answers how many bytes it is.
 pub fn print_records(records: &[u8], text: &mut [u8]) -> usize
     ensures size { λ r. ⌜ r ≡ length (printedOf codeNames (now (records .entry)) (checkedList (now (records .entry)))) ⌝ }
-    ensures bound { λ r. ⌜ r ≤ 382229 ⌝ }
+    ensures bound { λ r. ⌜ r ≤ longest ⌝ }
     ensures written { λ r. ⌜ now (text .exit) ≡ stored (now (text .entry)) 0 (printedOf codeNames (now (records .entry)) (checkedList (now (records .entry)))) ⌝ }
 {
     let mut none = [0u8; 1];

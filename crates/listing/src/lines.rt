@@ -1,11 +1,8 @@
 // The lines of a listing, its header, and the line of a refusal.
 ghost use mathlib.Core.Path.{_≡_};
-ghost use mathlib.Core.List.{_++_};
 ghost use Prim.Native.Nat.{_+_, _*_, _≤_};
-ghost use Rattle.records.specs.Instructions.{fieldsIn};
-ghost use Rattle.listing.specs.Text.{ascii, decimal};
 ghost use Rattle.listing.specs.Names.{codeNames};
-ghost use Rattle.listing.specs.Listing.{operands, line, lines, listing, checkedList, refusal, printedOf};
+ghost use Rattle.listing.specs.Listing.{operands, line, lines, listing, checkedList, refusal, printedOf, longest};
 ghost use Rattle.listing.specs.Putting.{farthest, Puts};
 use crate::names;
 use crate::text;
@@ -13,6 +10,7 @@ use records::check::Checked;
 use records::code;
 use records::code::Fields;
 
+// The five fields after the name.
 fn put_operands(text: &mut [u8], at: usize, f: Fields) -> usize
     requires { ⌜ at + 107 ≤ farthest ⌝ }
     ensures { λ r. ⌜ Puts 107 (now (text .entry)) at (now (text .exit)) r (operands f) ⌝ }
@@ -50,7 +48,7 @@ fn put_lines(text: &mut [u8], at: usize, records: &[u8], count: usize) -> usize
 // The listing of well-formed records, from the start of `text`.
 pub fn put_listing(text: &mut [u8], records: &[u8], count: usize) -> usize
     requires { ⌜ checkedList (now records) ≡ Checked.Good count ⌝ }
-    ensures { λ r. ⌜ Puts 382229 (now (text .entry)) 0 (now (text .exit)) r (listing codeNames (now (records .entry)) count) ⌝ }
+    ensures { λ r. ⌜ Puts longest (now (text .entry)) 0 (now (text .exit)) r (listing codeNames (now (records .entry)) count) ⌝ }
 {
     let word = text::put_decimal(text, 0, count as u64);
     let lines = text::put_bytes(text, word, b" records\n");
@@ -67,7 +65,7 @@ fn put_refusal(text: &mut [u8], place: usize) -> usize
 
 // The listing, or the refusal where the list is malformed.
 pub fn put_printed(text: &mut [u8], records: &[u8]) -> usize
-    ensures { λ r. ⌜ Puts 382229 (now (text .entry)) 0 (now (text .exit)) r (printedOf codeNames (now (records .entry)) (checkedList (now (records .entry)))) ⌝ }
+    ensures { λ r. ⌜ Puts longest (now (text .entry)) 0 (now (text .exit)) r (printedOf codeNames (now (records .entry)) (checkedList (now (records .entry)))) ⌝ }
 {
     let checked = code::check_codes(records, 2730);
     match checked {

@@ -1,6 +1,6 @@
 // Bytes and numbers put into a text at an index. Each function stores what fits and answers the index past all of it: run on a text
 // without room it gives the size.
-ghost use mathlib.Core.List.{[], _∷_, _++_};
+ghost use mathlib.Core.List.{[], _∷_};
 ghost use Prim.Native.Nat.{_+_, _≤_};
 ghost use lib.ListN.{length};
 ghost use Rattle.listing.specs.Text.{digits, decimal, signed};

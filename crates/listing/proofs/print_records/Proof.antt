@@ -1,5 +1,4 @@
 use borrow.Author.Needs.{needs}
-use native.Mathlib.Omega.{arith}
 use Rattle.listing.proofs.Whole.{size, whole, kept}
 use Rattle.listing.proofs.print_records.Statement.{statement}
 use Rattle.listing.proofs.print_records.Tie as tie

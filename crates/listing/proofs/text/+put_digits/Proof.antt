@@ -1,11 +1,9 @@
 -- The measure is how many digits are left to put.
 use Prim.Native.Nat.{ℕ, _<_}
 use native.Mathlib.Omega.{arith}
-use mathlib.Core.Path.{_∙_}
 use borrow.Author.Needs.{needs}
 use borrow.Fn.Kinds.{In}
 use borrow.Fn.PlainCycle.{Measures, is, falls, and}
-use Rattle.listing.proofs.Putting.{same-length}
 use Rattle.listing.proofs.Digits.{puts-none, puts-one, puts-more}
 use Rattle.listing.proofs.text.put_digits.Reads as put-digits
 use Rattle.listing.proofs.text.put_digits.Kinds as put-digits-kinds
