@@ -52,6 +52,13 @@ unfoldable pub answerOf : List (List ℕ) → List ℕ → ℕ → Checked → L
 answerOf names s room (Good n) = cond (leb (length (listing names s n)) room) (Text (length (listing names s n))) (Short (length (listing names s n)))
 answerOf names s room (Bad place) = Malformed place
 
+-- what is written for the bytes of a list of records, and what is answered
+abbrev pub listedText : List (List ℕ) → List ℕ → List ℕ
+listedText names s = textOf names s (checkedList s)
+
+abbrev pub listed : List (List ℕ) → List ℕ → ℕ → Listed
+listed names s room = answerOf names s room (checkedList s)
+
 -- document 01's number and values for each answer, nothing where the list is accepted and its listing written
 abbrev pub causeOf : Listed → List ℕ
 causeOf (Text size) = []
@@ -68,10 +75,13 @@ row (n ∷ m ∷ ns) = decimal n ++ spaced (row (m ∷ ns))
 unfoldable pub refusal : ℕ → List ℕ
 refusal place = row (causeOf (Malformed place))
 
--- what the lister prints
 unfoldable pub printedOf : List (List ℕ) → List ℕ → Checked → List ℕ
 printedOf names s (Good n) = listing names s n
 printedOf names s (Bad place) = refusal place
+
+-- what the lister prints for the bytes that it reads
+abbrev pub printed : List (List ℕ) → List ℕ → List ℕ
+printed names s = printedOf names s (checkedList s)
 
 -- a bound on the bytes that it prints: 20 digits and 9 letters in the header, and 140 bytes in each of 2,730 lines
 abbrev pub longest : ℕ

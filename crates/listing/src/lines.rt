@@ -2,7 +2,7 @@
 ghost use mathlib.Core.Path.{_≡_};
 ghost use Prim.Native.Nat.{_+_, _*_, _≤_};
 ghost use Rattle.listing.specs.Names.{codeNames};
-ghost use Rattle.listing.specs.Listing.{operands, line, lines, listing, checkedList, refusal, printedOf, longest};
+ghost use Rattle.listing.specs.Listing.{operands, line, lines, listing, checkedList, refusal, printed, longest};
 ghost use Rattle.listing.specs.Putting.{farthest, Puts};
 use crate::names;
 use crate::text;
@@ -65,7 +65,7 @@ fn put_refusal(text: &mut [u8], place: usize) -> usize
 
 // The listing, or the refusal where the list is malformed.
 pub fn put_printed(text: &mut [u8], records: &[u8]) -> usize
-    ensures { λ r. ⌜ Puts longest (now (text .entry)) 0 (now (text .exit)) r (printedOf codeNames (now (records .entry)) (checkedList (now (records .entry)))) ⌝ }
+    ensures { λ r. ⌜ Puts longest (now (text .entry)) 0 (now (text .exit)) r (printed codeNames (now (records .entry))) ⌝ }
 {
     let checked = code::check_codes(records, 2730);
     match checked {
