@@ -60,8 +60,8 @@ module _ (counter room bytes n : ℕ) where
   granted-if e = by (ltb 2147483647 (counter + n)) (ltb room bytes) refl refl e
     where
       by : (a b : Bool) → ltb 2147483647 (counter + n) ≡ a → ltb room bytes ≡ b
-        → accepted (cond a Labels (cond b (Room bytes) (Written (bytes / 24) (counter + n)))) ≡ true
-        → (counter + n ≤ 2147483647) × (bytes ≤ room)
+          → accepted (cond a Labels (cond b (Room bytes) (Written (bytes / 24) (counter + n)))) ≡ true
+          → (counter + n ≤ 2147483647) × (bytes ≤ room)
       by true b p q r = let z : _≡_ {A = ℕ} 0 1 = cc in absurd (omega arith)
       by false true p q r = let z : _≡_ {A = ℕ} 0 1 = cc in absurd (omega arith)
       by false false p q r = (ltb-false 2147483647 (counter + n) p, ltb-false room bytes q)
@@ -91,7 +91,7 @@ module _ {o₀ o₁ : List ℕ} {p need : Cursor} (t : Tree) (counter : ℕ) (d 
     not-written g = refused (e ∙ same (length o)) f g
 
     pub wrote : {o′ : List ℕ} {q z : Cursor} → b ≡ true → Emits o q o′ z t → q .at ≡ 0 → q .counter ≡ counter
-      → Answers o o′ r (granted counter (length o) (24 * size t) (labels t)) (flat t counter)
+        → Answers o o′ r (granted counter (length o) (24 * size t) (labels t)) (flat t counter)
     wrote g w i j =
         let h = room-for t counter (length o) d a c e f g in
         let l = length-flat t counter 0 in

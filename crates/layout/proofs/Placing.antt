@@ -1,14 +1,15 @@
 -- The table of positions is the rule, by one computed test; and the answers of the queries.
 use Prim.Native.Nat.{ℕ, zero, suc, _+_, _*_, _-_, _≤_, _<_}
 use mathlib.Core.Path.{_≡_, refl, sym, ap, _∙_}
-use mathlib.Core.Bool.{Bool, true, false, cond}
+use mathlib.Core.Bool.{Bool, true, false, _&&_, _||_, cond}
 use mathlib.Core.List.{List, [], _∷_}
 use native.Mathlib.Nat.{sub-zero}
 use native.Mathlib.Numerals.{add-one}
 use native.Mathlib.Omega.{arith}
-use lib.Dec.{T, ltb, eqb, eqb→eq}
+use lib.Dec.{T, leb, ltb, eqb, eqb→eq}
 use lib.ListN.{length, getD, drop}
-use borrow.Author.Tests.{eq-eqb, ne-eqb, lt-ltb, le-ltb, lt-leb, le-leb}
+use borrow.Author.Tests.{eq-eqb, ne-eqb, lt-ltb, le-ltb, lt-leb, le-leb, leb-true, ltb-true}
+use Rattle.records.proofs.Conditions.{and-left, and-right}
 use Rattle.records.proofs.Table.{at}
 use Rattle.records.specs.declared.check.Checked.{Checked}
 use Rattle.records.specs.declared.check.Checked.the-variants.{Good, Malformed}
@@ -55,6 +56,12 @@ module _ (w : ℕ) where
   pub spilled : 16 ≤ w → w < 272 → ltb 16 w ≡ operandOk base w
   unfolding operandOk
   spilled l h = rw (le-leb 4 w (omega arith), lt-ltb w 272 h, le-ltb w 16 l)
+
+  pub operand-range : {b : Bool} → b ≡ operandOk base w → b ≡ true → (4 ≤ w) × (w < 272)
+  unfolding operandOk
+  operand-range e t =
+      let r = and-left (leb 4 w && ltb w 272) (ltb w 16 || ltb 16 w) (sym e ∙ t) in
+      (leb-true 4 w (and-left (leb 4 w) (ltb w 272) r), ltb-true w 272 (and-right (leb 4 w) (ltb w 272) r))
 
 -- a search for an id: k of n bindings are passed, and the rest is to be searched
 module _ (s : List ℕ) (id k n : ℕ) {i : ℕ} (here : i ≡ bindingIn (drop (8 * k) s) .id) (h : k < n) where
