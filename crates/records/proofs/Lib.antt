@@ -9,3 +9,5 @@ pub mod Checking  -- the turns and the ends of a check of a list
 pub mod CodesRead  -- an instruction record that is read
 pub mod BindingsRead  -- a binding that is read
 pub mod OrdersRead  -- an order that is read or written
+pub mod Each  -- what holds of each element of a list
+pub mod Digits  -- numbers and their bytes, both ways
