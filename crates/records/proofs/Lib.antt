@@ -11,3 +11,4 @@ pub mod BindingsRead  -- a binding that is read
 pub mod OrdersRead  -- an order that is read or written
 pub mod Each  -- what holds of each element of a list
 pub mod Digits  -- numbers and their bytes, both ways
+pub mod Joined  -- lists of records of one kind
