@@ -12,3 +12,7 @@ pub mod OrdersRead  -- an order that is read or written
 pub mod Each  -- what holds of each element of a list
 pub mod Digits  -- numbers and their bytes, both ways
 pub mod Joined  -- lists of records of one kind
+pub mod Kept  -- fields made into an item and back
+pub mod CodesBack  -- an instruction written and read back
+pub mod BindingsBack  -- a binding written and read back
+pub mod OrdersBack  -- an order written and read back
