@@ -16,3 +16,4 @@ pub mod Kept  -- fields made into an item and back
 pub mod CodesBack  -- an instruction written and read back
 pub mod BindingsBack  -- a binding written and read back
 pub mod OrdersBack  -- an order written and read back
+pub mod ReadBack  -- the claim that records are read back as they were written
