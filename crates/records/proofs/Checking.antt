@@ -1,6 +1,6 @@
 -- A check of a list, record by record: where it starts, what one turn keeps, and what each end of the loop answers.
 use Prim.Native.Nat.{ℕ, zero, suc, _+_, _*_, _-_, _≤_, _<_}
-use mathlib.Core.Path.{_≡_, refl, sym, _∙_}
+use mathlib.Core.Path.{_≡_, refl, _∙_}
 use mathlib.Core.Bool.{Bool, true, false, _&&_, cond}
 use mathlib.Core.List.{List}
 use native.Mathlib.Nat.{sub-zero, mul-suc}
@@ -12,6 +12,7 @@ use borrow.Author.Tests.{lt-ltb, le-ltb, ltb-true}
 use Rattle.records.specs.declared.check.Checked.{Checked}
 use Rattle.records.specs.declared.check.Checked.the-variants.{Good, Malformed}
 use Rattle.records.specs.Checked.{firstBad, places, checked}
+use Rattle.records.proofs.Conditions.{both}
 
 module _ (ok : List ℕ → Bool) (size limit : ℕ) (s : List ℕ) where
   pub begun : checked ok size limit s ≡ firstBad ok size limit s 0 (places size s - 0)
@@ -36,19 +37,18 @@ module _ (ok : List ℕ → Bool) (size limit : ℕ) (s : List ℕ) where
     unfolding firstBad
     done h = let m : n - k ≡ 0 = omega arith in rw (so-far, m)
 
+pub passed : {m : ℕ} (b : Bool) (c : Checked) (place : ℕ) → cond b c (Malformed place) ≡ Good m → (b ≡ true) × (c ≡ Good m)
+passed true c place e = (refl, e)
+passed false c place e = (cc, cc)
+
 -- a list that is accepted has no more records than the limit, all of them whole
 module _ (ok : List ℕ → Bool) (size limit : ℕ) (s : List ℕ) (whole : (t : List ℕ) → ok t ≡ true → size ≤ length t) where
   pub good-within : (k n m : ℕ) → firstBad ok size limit s k n ≡ Good m → k ≤ limit → size * k ≤ length s → (m ≤ limit) × (size * m ≤ length s)
   unfolding firstBad
   good-within k zero m e l h = let q : m ≡ k = cc in rw q (l, h)
-  good-within k (suc n) m e l h = by (ltb k limit) (ok (drop (size * k) s)) refl refl (λ r l′ h′. good-within (suc k) n m r l′ h′) e
-    where
-      by : (a b : Bool) → ltb k limit ≡ a → ok (drop (size * k) s) ≡ b
-          → (firstBad ok size limit s (suc k) n ≡ Good m → suc k ≤ limit → size * suc k ≤ length s → (m ≤ limit) × (size * m ≤ length s))
-          → cond (a && b) (firstBad ok size limit s (suc k) n) (Malformed (suc k)) ≡ Good m
-          → (m ≤ limit) × (size * m ≤ length s)
-      by true true p q go r =
-          let w = simp length-drop at (whole (drop (size * k) s) q) in
-          go r (ltb-true k limit p) (rw mul-suc (omega arith))
-      by true false p q go r = let z : _≡_ {A = ℕ} 0 1 = cc in absurd (omega arith)
-      by false b p q go r = let z : _≡_ {A = ℕ} 0 1 = cc in absurd (omega arith)
+  good-within k (suc n) m e l h =
+      let t = drop (size * k) s in
+      let p = passed (ltb k limit && ok t) (firstBad ok size limit s (suc k) n) (suc k) e in
+      let b = both (ltb k limit) (ok t) (p .0) in
+      let w = simp length-drop at (whole t (b .1)) in
+      good-within (suc k) n m (p .1) (ltb-true k limit (b .0)) (rw mul-suc (omega arith))

@@ -1,7 +1,7 @@
 -- Lists of records of one kind, from what holds of one record: each is read at its place, the list is accepted, and a list that is accepted is the records of its items.
 use Prim.Native.Nat.{ℕ, zero, suc, _+_, _*_, _≤_, _<_}
-use mathlib.Core.Path.{_≡_, refl, sym}
-use mathlib.Core.Bool.{Bool, true, false, _&&_, cond}
+use mathlib.Core.Path.{_≡_, sym}
+use mathlib.Core.Bool.{Bool, true, _&&_}
 use mathlib.Core.List.{List, [], _∷_, _++_, append-assoc}
 use native.Mathlib.Nat.{zero-add, add-zero, add-suc, suc-add, add-comm, mul-zero, mul-suc, le-of-suc-le-suc, not-suc-le-zero}
 use native.Mathlib.Omega.{arith}
@@ -9,10 +9,10 @@ use lib.Dec.{ltb}
 use lib.ListN.{length, getD, drop, length-append, drop-of-length-le}
 use lib.Seq.{drop-cons, drop-at, drop-drop}
 use borrow.Author.Tests.{lt-ltb}
-use Rattle.records.specs.declared.check.Checked.{Checked}
-use Rattle.records.specs.declared.check.Checked.the-variants.{Good, Malformed}
+use Rattle.records.specs.declared.check.Checked.the-variants.{Good}
 use Rattle.records.specs.Checked.{firstBad, places, checked}
 use Rattle.records.specs.ReadBack.{Each, Bytes, joined, items}
+use Rattle.records.proofs.Checking.{passed}
 use Rattle.records.proofs.Conditions.{and-right}
 use Rattle.records.proofs.Each.{each-at, each-drop}
 
@@ -22,10 +22,6 @@ pub record Laws {A : Type 0} (size : ℕ) (bytes : A → List ℕ) (starts : Lis
   pub good : (x : A) (rest : List ℕ) → W x → starts (bytes x ++ rest) ≡ true
   pub same : (x : A) (rest : List ℕ) → W x → item (bytes x ++ rest) ≡ x
   pub back : (s : List ℕ) → starts s ≡ true → Bytes s → bytes (item s) ++ drop size s ≡ s
-
-passed : {m : ℕ} (b : Bool) (c : Checked) (place : ℕ) → cond b c (Malformed place) ≡ Good m → (b ≡ true) × (c ≡ Good m)
-passed true c place e = (refl, e)
-passed false c place e = (cc, cc)
 
 module _ {A : Type 0} {size : ℕ} {bytes : A → List ℕ} {starts : List ℕ → Bool} {item : List ℕ → A} {W : A → Type 0}
     (laws : Laws size bytes starts item W) where
