@@ -1,4 +1,4 @@
--- What the contracts of `records` cite, from document 01. Lemmas stand below `Lemmas`; nothing else here needs them.
+-- What the contracts of `records` cite, from document 01. Lemmas stand in `proofs`.
 pub mod Bytes  -- little-endian numbers, and bytes stored in an output
 pub mod Checked  -- the first bad or surplus record of a list, for records of any kind
 pub mod Contexts  -- binding records and contexts
