@@ -17,3 +17,4 @@ pub mod CodesBack  -- an instruction written and read back
 pub mod BindingsBack  -- a binding written and read back
 pub mod OrdersBack  -- an order written and read back
 pub mod ReadBack  -- the claim that records are read back as they were written
+pub mod Hardware  -- the table of hardware numbers is the rule

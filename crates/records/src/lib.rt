@@ -7,6 +7,7 @@ pub mod binding; // binding records and contexts
 pub mod code; // instruction records
 pub mod number; // the codes' numbers, for records made in bulk
 pub mod order; // order records
+pub mod register; // registers as the processor encodes them
 
 // Records that are written are read back the same, and what is read, written again, gives the same bytes.
 pub fn records_read_back()

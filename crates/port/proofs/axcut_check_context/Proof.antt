@@ -1,0 +1,13 @@
+use borrow.Author.Needs.{needs}
+use Rattle.port.proofs.axcut_check_context.Statement.{statement}
+use Rattle.port.proofs.axcut_check_context.Tie as tie
+
+pub axcut-check-context-spec : {M : Type 1} → statement M
+axcut-check-context-spec =
+    tie.close
+    (tie.spec
+    (λ c κs. search needs)
+    (λ c. search needs)
+    (λ c. search needs)
+    (λ c. rw (← (c .before .before .check-context .ensures), c .enum-told .given .1))
+    (λ c. rw (← (c .before .before .check-context .ensures), c .enum-told2 .given .1)))
