@@ -1,0 +1,69 @@
+-- What the crate promises: after every list of orders from the fresh heap, the heap is sound in document 01's sense, each variable holds its value,
+-- and the frontier is at most one past the most blocks that the variables reached after any one order (document 02, Job 7).
+-- The number of fields in a block, the blocks' addresses and the chunk sizes of an object are any.
+use mathlib.Core.Path.{_≡_}
+use mathlib.Core.Logic.{_≢_}
+use mathlib.Core.List.{List, [], _∷_}
+use Prim.Native.Nat.{ℕ, suc, _+_, _*_, _≤_, _<_}
+use lib.ListN.{length}
+use Rattle.heap.specs.Counting.{occ, refs}
+use Rattle.heap.specs.Blocks.{Layout, blocks, pointers, children, Memory, Chain}
+use Rattle.heap.specs.Reachability.{Reachable, ReachableCount}
+use Rattle.heap.specs.Values.{HoldAll}
+use Rattle.heap.specs.Orders.{State, Run, Every, Some}
+
+-- a sound heap whose first block never used is number frontier; the roots are the variables' pointers
+pub record Sound (L : Layout) (M : Memory) (frontier : ℕ) (roots : List ℕ) : Type 0 where
+  pub linear : List ℕ
+  pub lazy : List ℕ
+  pub held : List ℕ
+  pub linear-chain : Chain (M .header) (M .linear-head) linear 0
+  pub lazy-chain : Chain (M .header) (M .lazy-head) lazy (L .address frontier)
+  -- each block below the frontier is in exactly one of the three, and no other block is in any
+  pub parts : (b : ℕ) → occ b linear + occ b lazy + occ b held ≡ occ b (blocks L frontier)
+  -- a held block's count is its pointers less one
+  pub counts : (b : ℕ) → occ b held ≢ 0 → suc (M .header b) ≡ occ b roots + refs (children (M .fields)) b lazy + refs (children (M .fields)) b held
+  -- held is what pointers lead to, from the variables and the lazily freed blocks
+  pub held-reachable : (b : ℕ) → occ b held ≢ 0 → Reachable (children (M .fields)) (λ x. occ x roots + refs (children (M .fields)) x lazy) b
+  pub reachable-held : (b : ℕ) → Reachable (children (M .fields)) (λ x. occ x roots + refs (children (M .fields)) x lazy) b → occ b held ≢ 0
+  -- blocks from the frontier up start with 0
+  pub untouched : (i : ℕ) → frontier ≤ i → M .header (L .address i) ≡ 0
+
+abbrev pub SoundState : Layout → ℕ → State → Type 0
+SoundState L frontier s = Sound L (s .memory) frontier (pointers (s .variables))
+
+-- block b is held or on HEAP's list in a state; it is neither
+abbrev pub Used : Layout → ℕ → State → Type 0
+Used L b s = (n : ℕ) × (sound : SoundState L n s) × (occ b (sound .linear) + occ b (sound .held) ≢ 0)
+
+abbrev pub Unused : Layout → ℕ → State → Type 0
+Unused L b s = (n : ℕ) (sound : SoundState L n s) → occ b (sound .linear) + occ b (sound .held) ≡ 0
+
+-- the frontier is the first block never held or on HEAP's list
+pub record FirstNeverUsed (L : Layout) (states : List State) (frontier : ℕ) : Type 0 where
+  pub below : (i : ℕ) → i < frontier → Some (Used L (L .address i)) states
+  pub above : (i : ℕ) → frontier ≤ i → Every (Unused L (L .address i)) states
+
+-- what holds after a list of orders
+pub record HeapAfter (sizes : ℕ → List ℕ) (L : Layout) (past : List State) (now : State) : Type 0 where
+  pub frontier : ℕ
+  pub sound : SoundState L frontier now
+  pub first-never-used : FirstNeverUsed L (now ∷ past) frontier
+  -- the blocks that a link of an object names: each has one pointer at most
+  pub linked : ℕ → ℕ
+  pub one-pointer : (b : ℕ) → b ≢ 0 → linked b ≢ 0
+      → occ b (pointers (now .variables)) + refs (children (now .memory .fields)) b (sound .lazy) + refs (children (now .memory .fields)) b (sound .held) ≤ 1
+  pub holds : HoldAll sizes (now .memory .fields) linked (now .values) (now .variables)
+  -- no count is larger than the variables and all fields could name
+  pub count-bounded : (most b : ℕ) → ((x : ℕ) → length (now .memory .fields x) ≤ most) → occ b (sound .held) ≢ 0 → now .memory .header b < length (now .variables) + most * frontier
+
+unfoldable pub AbstractHeapStaysSound : Type 0
+AbstractHeapStaysSound = (sizes : ℕ → List ℕ) (L : Layout) (past : List State) (now : State) → [] ≡ sizes 0 → Run sizes L past now → HeapAfter sizes L past now
+
+-- the variables lead to at most that many blocks
+abbrev pub ReachesAtMost : ℕ → State → Type 0
+ReachesAtMost most s = (count : ℕ) → ReachableCount (s .memory .fields) (pointers (s .variables)) count → count ≤ most
+
+unfoldable pub FrontierWithinPeak : Type 0
+FrontierWithinPeak = (sizes : ℕ → List ℕ) (L : Layout) (past : List State) (now : State) (frontier peak : ℕ) → [] ≡ sizes 0 → Run sizes L past now
+    → SoundState L frontier now → Every (ReachesAtMost peak) (now ∷ past) → frontier ≤ suc peak

@@ -1,0 +1,23 @@
+-- How often an address stands in a list of addresses, and how often the fields of a list of blocks name it.
+-- The sets of document 01 (linear list, lazy list, held blocks) and its reference counts are stated by these numbers, so that each proof is arithmetic.
+use mathlib.Core.List.{List, [], _∷_}
+use Prim.Native.Nat.{ℕ, _+_}
+use native.Mathlib.Decide.{ℕ-discrete}
+
+abbrev pub one-if : {A : Type 0} → Dec A → ℕ
+one-if (yes _) = 1
+one-if (no _) = 0
+
+-- 1 if the two numbers are the same, else 0
+unfoldable pub same : ℕ → ℕ → ℕ
+same a b = one-if (ℕ-discrete a b)
+
+-- how often b stands in the list
+abbrev pub occ : ℕ → List ℕ → ℕ
+occ b [] = 0
+occ b (x ∷ xs) = same b x + occ b xs
+
+-- how often the fields of the listed blocks name b
+abbrev pub refs : (ℕ → List ℕ) → ℕ → List ℕ → ℕ
+refs children b [] = 0
+refs children b (x ∷ xs) = occ b (children x) + refs children b xs

@@ -1,0 +1,77 @@
+-- The plain machine's values, and what it means that a variable or a field holds one.
+-- From document 01, 'Plain machine of demand 3': linked holds its tag in Snd and its list by Fst, 0 if empty, else the object.
+use mathlib.Core.Path.{_≡_}
+use mathlib.Core.Logic.{_≢_}
+use mathlib.Core.List.{List, [], _∷_, _++_}
+use Prim.Native.Nat.{ℕ, zero, suc}
+use lib.ListN.{length}
+use Rattle.heap.specs.Counting.{occ}
+use Rattle.heap.specs.Blocks.{Cell, pointers}
+
+mutual
+  pub data Value : Type 0 where
+    integer : ℕ → Value
+    object : ℕ → Values → Value
+
+  pub data Values : Type 0 where
+    nil : Values
+    cons : Value → Values → Values
+
+abbrev pub countOf : Values → ℕ
+countOf nil = 0
+countOf (cons v vs) = suc (countOf vs)
+
+abbrev pub joined : Values → Values → Values
+joined nil ws = ws
+joined (cons v vs) ws = cons v (joined vs ws)
+
+abbrev pub firstOf : ℕ → Values → Values
+firstOf zero vs = nil
+firstOf (suc n) nil = nil
+firstOf (suc n) (cons v vs) = cons v (firstOf n vs)
+
+abbrev pub restOf : ℕ → Values → Values
+restOf zero vs = vs
+restOf (suc n) nil = nil
+restOf (suc n) (cons v vs) = restOf n vs
+
+abbrev pub valueAt : ℕ → Values → Value
+valueAt n nil = integer 0
+valueAt zero (cons v vs) = v
+valueAt (suc n) (cons v vs) = valueAt n vs
+
+abbrev pub copies : ℕ → Value → Values
+copies zero v = nil
+copies (suc n) v = cons v (copies n v)
+
+-- an object's values in chunks, one to a block
+abbrev pub concat : List (List Cell) → List Cell
+concat [] = []
+concat (c ∷ chunks) = c ++ concat chunks
+
+abbrev pub lengths : List (List Cell) → List ℕ
+lengths [] = []
+lengths (c ∷ chunks) = length c ∷ lengths chunks
+
+-- unused fields: every Fst is 0
+abbrev pub NoPointers : List Cell → Type 0
+NoPointers cs = (b : ℕ) → b ≢ 0 → occ b (pointers cs) ≡ 0
+
+-- The blocks of an object from the first: unused fields, the chunk, and in all but the last the link to the next block.
+-- linked is 1 at the blocks that a link names.
+abbrev pub Object : (ℕ → List Cell) → (ℕ → ℕ) → ℕ → List (List Cell) → Type 0
+Object fields linked p [] = p ≡ 0
+Object fields linked p (c ∷ []) = (p ≢ 0) × (unused : List Cell) × NoPointers unused × (fields p ≡ unused ++ c)
+Object fields linked p (c ∷ d ∷ chunks) =
+    (p ≢ 0) × (unused : List Cell) × NoPointers unused × (link : Cell) × (fields p ≡ unused ++ (c ++ (link ∷ []))) × (linked (link .fst) ≡ 1) × Object fields linked (link .fst) (d ∷ chunks)
+
+-- where an object of n values has chunks of the lengths sizes n; no link names a value's object
+abbrev mutual
+  pub Holds : (ℕ → List ℕ) → (ℕ → List Cell) → (ℕ → ℕ) → Value → Cell → Type 0
+  Holds sizes fields linked (integer w) c = (c .fst ≡ 0) × (c .snd ≡ w)
+  Holds sizes fields linked (object tag vs) c =
+      (c .snd ≡ tag) × (c .fst ≢ 0 → linked (c .fst) ≡ 0) × (chunks : List (List Cell)) × Object fields linked (c .fst) chunks × HoldAll sizes fields linked vs (concat chunks) × (lengths chunks ≡ sizes (countOf vs))
+
+  pub HoldAll : (ℕ → List ℕ) → (ℕ → List Cell) → (ℕ → ℕ) → Values → List Cell → Type 0
+  HoldAll sizes fields linked nil cs = cs ≡ []
+  HoldAll sizes fields linked (cons v vs) cs = (c : Cell) × (rest : List Cell) × (cs ≡ c ∷ rest) × Holds sizes fields linked v c × HoldAll sizes fields linked vs rest

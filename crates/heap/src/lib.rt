@@ -1,0 +1,11 @@
+// The heap of document 01 as a theory: blocks, free lists, reference counts, reachability and values held, with no machine in it.
+// Each promise is the claim of a function that does nothing: its statement is in specs/Claims.antt, its proof cites the theorem.
+ghost use Rattle.heap.specs.Claims.{AbstractHeapStaysSound, FrontierWithinPeak};
+
+pub fn abstract_heap_stays_sound()
+    ensures { λ r. ⌜ AbstractHeapStaysSound ⌝ }
+{}
+
+pub fn frontier_within_peak()
+    ensures { λ r. ⌜ FrontierWithinPeak ⌝ }
+{}
