@@ -9,7 +9,7 @@ use lib.ListN.{length}
 use Rattle.heap.specs.Counting.{occ, refs}
 use Rattle.heap.specs.Blocks.{Layout, blocks, pointers, children, Memory, Chain}
 use Rattle.heap.specs.Reachability.{Reachable, ReachableCount}
-use Rattle.heap.specs.Values.{HoldAll}
+use Rattle.heap.specs.Values.{integer, nil, cons, HoldAll}
 use Rattle.heap.specs.Orders.{State, Run, Every, Some}
 
 -- a sound heap whose first block never used is number frontier; the roots are the variables' pointers
@@ -54,6 +54,10 @@ pub record HeapAfter (sizes : ℕ → List ℕ) (L : Layout) (past : List State)
   pub one-pointer : (b : ℕ) → b ≢ 0 → linked b ≢ 0
       → occ b (pointers (now .variables)) + refs (children (now .memory .fields)) b (sound .lazy) + refs (children (now .memory .fields)) b (sound .held) ≤ 1
   pub holds : HoldAll sizes (now .memory .fields) linked (now .values) (now .variables)
+  -- the variables lead to some number of blocks, and to no other
+  pub reachable : ℕ
+  pub reachable-count : ReachableCount (now .memory .fields) (pointers (now .variables)) reachable
+  pub reachable-unique : (count : ℕ) → ReachableCount (now .memory .fields) (pointers (now .variables)) count → count ≡ reachable
   -- no count is larger than the variables and all fields could name
   pub count-bounded : (most b : ℕ) → ((x : ℕ) → length (now .memory .fields x) ≤ most) → occ b (sound .held) ≢ 0 → now .memory .header b < length (now .variables) + most * frontier
 
@@ -67,3 +71,7 @@ ReachesAtMost most s = (count : ℕ) → ReachableCount (s .memory .fields) (poi
 unfoldable pub FrontierWithinPeak : Type 0
 FrontierWithinPeak = (sizes : ℕ → List ℕ) (L : Layout) (past : List State) (now : State) (frontier peak : ℕ) → [] ≡ sizes 0 → Run sizes L past now
     → SoundState L frontier now → Every (ReachesAtMost peak) (now ∷ past) → frontier ≤ suc peak
+
+-- Runs are there to speak of: in any layout, some run of three orders ends with an integer that was put, stored and loaded.
+unfoldable pub RunsExist : Type 0
+RunsExist = (L : Layout) → (sizes : ℕ → List ℕ) × ([] ≡ sizes 0) × (past : List State) × (length past ≡ 3) × (now : State) × (now .values ≡ cons (integer 7) nil) × Run sizes L past now

@@ -7,7 +7,7 @@ use native.Mathlib.Decide.{ℕ-discrete}
 use native.Mathlib.Omega.{arith}
 use Rattle.heap.specs.Counting.{occ, refs}
 use Rattle.heap.specs.Blocks.{Layout, Cell}
-use Rattle.heap.specs.Reachability.{Reachable, start, follow, ReachableFrom, ReachableCount}
+use Rattle.heap.specs.Reachability.{Reachable, start, follow, ReachableCount}
 use Rattle.heap.specs.Invariant.{NewestFirst, Invariant, Held}
 use Rattle.heap.specs.CountingLemmas.{same-self, same-other, split, refs-member, refs-find, length-le}
 use Rattle.heap.specs.BlockLemmas.{block-once, block-nonzero, unnamed-outside}
@@ -63,14 +63,12 @@ module _ {L : Layout} {children : ℕ → List ℕ} {header : ℕ → ℕ} {line
       by (inl z) = absurd (z (omega (arith, v .parts b, block-once L frontier b)))
       by (inr r) = r
 
--- a larger reachable set, counted
-pub reachable-count-le : {fields fields′ : ℕ → List Cell} {roots roots′ : List ℕ} {c c′ : ℕ} → ((b : ℕ) → ReachableFrom fields roots b → ReachableFrom fields′ roots′ b)
-    → ReachableCount fields roots c → ReachableCount fields′ roots′ c′ → c ≤ c′
-reachable-count-le f p q = omega (arith, p .size, q .size, length-le (p .list) (q .list) (λ b. by b (ℕ-discrete (occ b (p .list)) 0)))
+reachable-count-le : {fields : ℕ → List Cell} {roots : List ℕ} {c d : ℕ} → ReachableCount fields roots c → ReachableCount fields roots d → c ≤ d
+reachable-count-le p q = omega (arith, p .size, q .size, length-le (p .list) (q .list) (λ b. by b (ℕ-discrete (occ b (p .list)) 0)))
   where
     by : (b : ℕ) → Dec (occ b (p .list) ≡ 0) → occ b (p .list) ≤ occ b (q .list)
     by b (yes z) = omega arith
-    by b (no z) = omega (arith, p .once b, q .complete b (f b (p .listed b z)))
+    by b (no z) = omega (arith, p .once b, q .complete b (p .listed b z))
 
 pub reachable-count-unique : {fields : ℕ → List Cell} {roots : List ℕ} {c d : ℕ} → ReachableCount fields roots c → ReachableCount fields roots d → c ≡ d
-reachable-count-unique p q = omega (arith, reachable-count-le (λ b r. r) p q, reachable-count-le (λ b r. r) q p)
+reachable-count-unique p q = omega (arith, reachable-count-le p q, reachable-count-le q p)

@@ -13,8 +13,9 @@ use Rattle.heap.specs.Claims.{Used, Unused, FirstNeverUsed, AbstractHeap
 use Rattle.heap.specs.Invariant.{Consistent, Represents, Advanced}
 use Rattle.heap.specs.CountingLemmas.{occ-length, pointers-length}
 use Rattle.heap.specs.BlockLemmas.{block-above, block-below}
-use Rattle.heap.specs.ReachabilityLemmas.{reachable-is-held}
+use Rattle.heap.specs.ReachabilityLemmas.{reachable-is-held, reachable-count-unique}
 use Rattle.heap.specs.SoundLemmas.{sound, sound-refs, sound-lazy, count-bounded, frontier-unique, full-heap}
+use Rattle.heap.specs.RoomLemmas.{reachable-counted}
 use Rattle.heap.specs.OrderLemmas.{represents-fresh, represents-order}
 
 -- what the induction carries
@@ -74,6 +75,7 @@ abstract-heap-stays-sound sizes L past now none r =
     let q = progress none r in
     let g = q .represents .consistent in
     let f = sound g in
+    let c = reachable-counted g in
     record {
       frontier = q .frontier;
       sound = f;
@@ -81,6 +83,9 @@ abstract-heap-stays-sound sizes L past now none r =
       linked = q .represents .linked;
       one-pointer = λ b nz m. omega (arith, g .one-pointer b nz m, sound-refs g b);
       holds = q .represents .holds;
+      reachable = c .0;
+      reachable-count = c .1;
+      reachable-unique = λ count k. reachable-count-unique k (c .1);
       count-bounded = λ most b h m. omega (arith, pointers-length (now .variables), count-bounded most (λ x _. fewer most h x) (g .invariant) (reachable-is-held (g .invariant) (λ x. omega (arith, sound-refs g x)) (f .held-reachable b m)));
     }
   where

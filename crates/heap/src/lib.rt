@@ -1,6 +1,6 @@
 // The heap of document 01 as a theory: blocks, free lists, reference counts, reachability and values held, with no machine in it.
-// Each promise is the claim of a function that does nothing: its statement is in specs/Claims.antt, its proof cites the theorem.
-ghost use Rattle.heap.specs.Claims.{AbstractHeapStaysSound, FrontierWithinPeak};
+// Each promise is the claim of a function that does nothing: its statement is in specs/Claims.antt, and its proof cites the theorem.
+ghost use Rattle.heap.specs.Claims.{AbstractHeapStaysSound, FrontierWithinPeak, RunsExist};
 
 pub fn abstract_heap_stays_sound()
     ensures { λ r. ⌜ AbstractHeapStaysSound ⌝ }
@@ -8,4 +8,9 @@ pub fn abstract_heap_stays_sound()
 
 pub fn frontier_within_peak()
     ensures { λ r. ⌜ FrontierWithinPeak ⌝ }
+{}
+
+// that the two speak of something
+pub fn runs_exist()
+    ensures { λ r. ⌜ RunsExist ⌝ }
 {}

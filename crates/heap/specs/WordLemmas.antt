@@ -1,0 +1,104 @@
+-- The address arithmetic of blocks, for any number of fields, and what a change of words leaves of headers and fields.
+use mathlib.Core.Path.{_≡_, refl, sym, ap, _∙_, fun-ext}
+use mathlib.Core.Logic.{_≢_}
+use mathlib.Core.List.{List, [], _∷_, _++_}
+use Prim.Native.Nat.{ℕ, zero, suc, _+_, _-_, _*_, _/_, _≤_, _<_}
+use native.Mathlib.Nat.{mul-le-mul-left, mul-div-cancel-left}
+use native.Mathlib.Decide.{ℕ-discrete, decLt}
+use native.Mathlib.Omega.{arith}
+use lib.ListN.{length}
+use Rattle.heap.specs.Blocks.{Layout, Cell, cell}
+use Rattle.heap.specs.Words.{stride, addressOf, numberOf, if-block, byAddress, headers, cellsFrom, blockFields}
+
+-- words of two blocks are one only if the blocks and the places in them are
+pub places-distinct : (W j x r s : ℕ) → r < W → s < W → W * j + r ≡ W * x + s → (j ≡ x) × (r ≡ s)
+places-distinct W j x r s hr hs e = by (decLt j x) (decLt x j)
+  where
+    by : Dec (j < x) → Dec (x < j) → (j ≡ x) × (r ≡ s)
+    by (yes a) _ = absurd (omega (arith, mul-le-mul-left W a))
+    by (no a) (yes b) = absurd (omega (arith, mul-le-mul-left W b))
+    by (no a) (no b) = let q : j ≡ x = omega arith in (q, omega (arith, ap (λ (y : ℕ). W * y) q))
+
+abbrev pub layout : ℕ → Layout
+layout fieldCount = record {
+  address = addressOf fieldCount;
+  nonzero = λ j. omega arith;
+  distinct = λ i j e. places-distinct (stride fieldCount) i j 0 0 (omega arith) (omega arith) (omega arith) .0;
+}
+
+pub number-of-address : (fieldCount j : ℕ) → numberOf fieldCount (addressOf fieldCount j) ≡ j
+unfolding numberOf
+number-of-address fieldCount j =
+    let e : (65536 + 8 * (stride fieldCount * j) - 65536) / 8 ≡ stride fieldCount * j = omega arith in
+    rw e (mul-div-cancel-left j (omega arith))
+
+module _ {A : Type 0} (fieldCount : ℕ) where
+  chosen : (of : ℕ → A) (other : A) (j b : ℕ) → numberOf fieldCount b ≡ j → addressOf fieldCount j ≡ b → (d : Dec (addressOf fieldCount (numberOf fieldCount b) ≡ b)) → if-block d (of (numberOf fieldCount b)) other ≡ of j
+  chosen of other j b e a (yes _) = ap of e
+  chosen of other j b e a (no f) = absurd (f (ap (addressOf fieldCount) e ∙ a))
+
+  pub by-address-at : (of : ℕ → A) (other : A) (j : ℕ) → byAddress fieldCount of other (addressOf fieldCount j) ≡ of j
+  unfolding byAddress
+  by-address-at of other j =
+      chosen of other j (addressOf fieldCount j) (number-of-address fieldCount j) refl (ℕ-discrete (addressOf fieldCount (numberOf fieldCount (addressOf fieldCount j))) (addressOf fieldCount j))
+
+  unchanged : (of of′ : ℕ → A) (other : A) (j b : ℕ) → ((x : ℕ) → x ≢ j → of′ x ≡ of x) → b ≢ addressOf fieldCount j → (d : Dec (addressOf fieldCount (numberOf fieldCount b) ≡ b))
+      → if-block d (of′ (numberOf fieldCount b)) other ≡ if-block d (of (numberOf fieldCount b)) other
+  unchanged of of′ other j b f ne (yes e) = f (numberOf fieldCount b) (λ q. ne (sym e ∙ ap (addressOf fieldCount) q))
+  unchanged of of′ other j b f ne (no _) = refl
+
+  pub by-address-off : (of of′ : ℕ → A) (other : A) (j : ℕ) → ((x : ℕ) → x ≢ j → of′ x ≡ of x) → (b : ℕ) → b ≢ addressOf fieldCount j → byAddress fieldCount of′ other b ≡ byAddress fieldCount of other b
+  unfolding byAddress
+  by-address-off of of′ other j f b ne = unchanged of of′ other j b f ne (ℕ-discrete (addressOf fieldCount (numberOf fieldCount b)) b)
+
+module _ (fieldCount : ℕ) (words : ℕ → ℕ) where
+  pub header-at : (j : ℕ) → headers fieldCount words (addressOf fieldCount j) ≡ words (stride fieldCount * j + 0)
+  unfolding headers
+  header-at j = by-address-at fieldCount (λ (j : ℕ). words (stride fieldCount * j + 0)) 0 j
+
+  pub fields-at : (j : ℕ) → blockFields fieldCount words (addressOf fieldCount j) ≡ cellsFrom fieldCount words j 0 fieldCount
+  unfolding blockFields
+  fields-at j = by-address-at fieldCount (λ (j : ℕ). cellsFrom fieldCount words j 0 fieldCount) [] j
+
+  pub cells-length : (j t n : ℕ) → length (cellsFrom fieldCount words j t n) ≡ n
+  unfolding cellsFrom
+  cells-length j t zero = refl
+  cells-length j t (suc n) = ap suc (cells-length j (suc t) n)
+
+  pub cells-append : (j t a b : ℕ) → cellsFrom fieldCount words j t (a + b) ≡ cellsFrom fieldCount words j t a ++ cellsFrom fieldCount words j (t + a) b
+  unfolding cellsFrom
+  cells-append j t zero b =
+      let e : 0 + b ≡ b = omega arith in
+      let e₂ : t + 0 ≡ t = omega arith in
+      rw (e, e₂)
+  cells-append j t (suc a) b =
+      let e : suc a + b ≡ suc (a + b) = omega arith in
+      let e₂ : t + suc a ≡ suc t + a = omega arith in
+      rw (e, e₂) (ap (λ (z : List Cell). cell (words (stride fieldCount * j + (2 + 2 * t))) (words (stride fieldCount * j + (3 + 2 * t))) ∷ z) (cells-append j (suc t) a b))
+
+module _ (fieldCount : ℕ) (words words′ : ℕ → ℕ) where
+  -- the words of the n fields are the same
+  pub cells-agree : (j t n : ℕ) → ((w : ℕ) → 2 + 2 * t ≤ w → w < 2 + 2 * (t + n) → words′ (stride fieldCount * j + w) ≡ words (stride fieldCount * j + w)) → cellsFrom fieldCount words′ j t n ≡ cellsFrom fieldCount words j t n
+  unfolding cellsFrom
+  cells-agree j t zero f = refl
+  cells-agree j t (suc n) f = rw (f (2 + 2 * t) (omega arith) (omega arith), f (3 + 2 * t) (omega arith) (omega arith), cells-agree j (suc t) n (λ w a b. f w (omega arith) (omega arith)))
+
+  -- the first words of all blocks are the same; of all blocks but j
+  pub header-all : ((x : ℕ) → words′ (stride fieldCount * x + 0) ≡ words (stride fieldCount * x + 0)) → headers fieldCount words′ ≡ headers fieldCount words
+  unfolding headers
+  header-all f = ap (λ (of : ℕ → ℕ). byAddress fieldCount of 0) (fun-ext f)
+
+  pub header-off : (j : ℕ) → ((x : ℕ) → x ≢ j → words′ (stride fieldCount * x + 0) ≡ words (stride fieldCount * x + 0)) → (b : ℕ) → b ≢ addressOf fieldCount j → headers fieldCount words′ b ≡ headers fieldCount words b
+  unfolding headers
+  header-off j f = by-address-off fieldCount (λ (j : ℕ). words (stride fieldCount * j + 0)) (λ (j : ℕ). words′ (stride fieldCount * j + 0)) 0 j f
+
+  -- the fields' words of all blocks are the same; of all blocks but j
+  pub fields-all : ((x w : ℕ) → 2 ≤ w → w < stride fieldCount → words′ (stride fieldCount * x + w) ≡ words (stride fieldCount * x + w)) → blockFields fieldCount words′ ≡ blockFields fieldCount words
+  unfolding blockFields
+  fields-all f = ap (λ (of : ℕ → List Cell). byAddress fieldCount of []) (fun-ext (λ x. cells-agree x 0 fieldCount (λ w a b. f x w (omega arith) (omega arith))))
+
+  pub fields-off : (j : ℕ) → ((x w : ℕ) → x ≢ j → w < stride fieldCount → words′ (stride fieldCount * x + w) ≡ words (stride fieldCount * x + w)) → (b : ℕ) → b ≢ addressOf fieldCount j
+      → blockFields fieldCount words′ b ≡ blockFields fieldCount words b
+  unfolding blockFields
+  fields-off j f =
+      by-address-off fieldCount (λ (j : ℕ). cellsFrom fieldCount words j 0 fieldCount) (λ (j : ℕ). cellsFrom fieldCount words′ j 0 fieldCount) [] j (λ x n. cells-agree x 0 fieldCount (λ w a b. f x w n (omega arith)))

@@ -1,0 +1,39 @@
+-- The abstract memory that the lent heap's words show: blocks of some number of fields, from address 65,536.
+-- From document 01, 'A block is 64 bytes': count or next pointer first, one word unused, then Fst and Snd of each field. Words are numbered from the heap's first.
+use mathlib.Core.List.{List, [], _∷_}
+use Prim.Native.Nat.{ℕ, zero, suc, _+_, _-_, _*_, _/_}
+use native.Mathlib.Decide.{ℕ-discrete}
+use Rattle.heap.specs.Blocks.{Cell, cell, Memory}
+
+-- the words of a block
+abbrev pub stride : ℕ → ℕ
+stride fieldCount = 2 + 2 * fieldCount
+
+-- block j's address, and the number of the block at an address
+abbrev pub addressOf : ℕ → ℕ → ℕ
+addressOf fieldCount j = 65536 + 8 * (stride fieldCount * j)
+
+unfoldable pub numberOf : ℕ → ℕ → ℕ
+numberOf fieldCount b = ((b - 65536) / 8) / stride fieldCount
+
+abbrev pub if-block : {A : Type 0} {P : Type 0} → Dec P → A → A → A
+if-block (yes _) x other = x
+if-block (no _) x other = other
+
+-- a function of block numbers as one of addresses, with another answer where no block begins
+unfoldable pub byAddress : {A : Type 0} → ℕ → (ℕ → A) → A → ℕ → A
+byAddress fieldCount of other b = if-block (ℕ-discrete (addressOf fieldCount (numberOf fieldCount b)) b) (of (numberOf fieldCount b)) other
+
+unfoldable pub headers : ℕ → (ℕ → ℕ) → ℕ → ℕ
+headers fieldCount words = byAddress fieldCount (λ (j : ℕ). words (stride fieldCount * j + 0)) 0
+
+-- n fields of block j from field t
+unfoldable pub cellsFrom : ℕ → (ℕ → ℕ) → ℕ → ℕ → ℕ → List Cell
+cellsFrom fieldCount words j t zero = []
+cellsFrom fieldCount words j t (suc n) = cell (words (stride fieldCount * j + (2 + 2 * t))) (words (stride fieldCount * j + (3 + 2 * t))) ∷ cellsFrom fieldCount words j (suc t) n
+
+unfoldable pub blockFields : ℕ → (ℕ → ℕ) → ℕ → List Cell
+blockFields fieldCount words = byAddress fieldCount (λ (j : ℕ). cellsFrom fieldCount words j 0 fieldCount) []
+
+abbrev pub memoryOf : ℕ → (ℕ → ℕ) → ℕ → ℕ → Memory
+memoryOf fieldCount words linear-head lazy-head = record { header = headers fieldCount words; fields = blockFields fieldCount words; linear-head = linear-head; lazy-head = lazy-head }
