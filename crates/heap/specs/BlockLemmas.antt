@@ -1,4 +1,5 @@
--- The first n blocks are distinct and not null; chains, counts of pointers and the newest-first rule stay where what they read does.
+-- The first n blocks are distinct and not null, and each has a number.
+-- Chains, counts of pointers and the newest-first rule stay as they are where the blocks that they read do.
 use mathlib.Core.Path.{_≡_, refl, sym, _∙_}
 use mathlib.Core.Logic.{_≢_}
 use mathlib.Core.List.{List, [], _∷_}

@@ -1,4 +1,5 @@
--- A consistent heap under a change of roots, of counts with roots, and under drop; and what is preserved, composed.
+-- A consistent heap stays so under a change of roots, of counts with roots, and under drop.
+-- Preserved parts compose, and carry objects and values with them.
 use mathlib.Core.Path.{_≡_, refl, _∙_}
 use mathlib.Core.Logic.{_≢_}
 use mathlib.Core.List.{List, _∷_}

@@ -2,15 +2,12 @@
 -- The sets of document 01 (linear list, lazy list, held blocks) and its reference counts are stated by these numbers, so that each proof is arithmetic.
 use mathlib.Core.List.{List, [], _∷_}
 use Prim.Native.Nat.{ℕ, _+_}
-use native.Mathlib.Decide.{ℕ-discrete}
-
-abbrev pub one-if : {A : Type 0} → Dec A → ℕ
-one-if (yes _) = 1
-one-if (no _) = 0
+use mathlib.Core.Bool.{cond}
+use lib.Dec.{eqb}
 
 -- 1 if the two numbers are the same, else 0
 unfoldable pub same : ℕ → ℕ → ℕ
-same a b = one-if (ℕ-discrete a b)
+same a b = cond {A = ℕ} (eqb a b) 1 0
 
 -- how often b stands in the list
 abbrev pub occ : ℕ → List ℕ → ℕ

@@ -1,29 +1,23 @@
 -- Laws of the counts: of joined and repeated lists, of a list without one place of a number, and of lists by their lengths.
+-- A statement of every block is split into one block and the others, so that `omega` closes both.
 use mathlib.Core.Path.{_≡_, refl, sym, ap, subst}
 use mathlib.Core.Logic.{_≢_}
 use mathlib.Core.List.{List, [], _∷_, _++_}
 use Prim.Native.Nat.{ℕ, zero, suc, _+_, _*_, _≤_}
 use native.Mathlib.Decide.{ℕ-discrete}
 use native.Mathlib.Omega.{arith}
+use borrow.Author.Tests.{eq-eqb, ne-eqb}
 use lib.ListN.{length, replicate}
-use Rattle.heap.specs.Counting.{one-if, same, occ, refs}
+use Rattle.heap.specs.Counting.{same, occ, refs}
 use Rattle.heap.specs.Blocks.{Cell, pointers}
-
-same-yes : {a b : ℕ} (d : Dec (a ≡ b)) → a ≡ b → one-if d ≡ 1
-same-yes (yes _) e = refl
-same-yes (no f) e = absurd (f e)
-
-same-no : {a b : ℕ} (d : Dec (a ≡ b)) → a ≢ b → one-if d ≡ 0
-same-no (yes e) f = absurd (f e)
-same-no (no _) f = refl
 
 pub same-self : (a : ℕ) → same a a ≡ 1
 unfolding same
-same-self a = same-yes (ℕ-discrete a a) refl
+same-self a = rw (eq-eqb a a refl)
 
 pub same-other : {a b : ℕ} → a ≢ b → same a b ≡ 0
 unfolding same
-same-other {a} {b} f = same-no (ℕ-discrete a b) f
+same-other {a} {b} f = rw (ne-eqb a b f)
 
 -- a statement of every number from that of one number and that of the others
 split-by : {P : ℕ → Type 0} (p b : ℕ) → Dec (b ≡ p) → P p → ((b : ℕ) → b ≢ p → P b) → P b

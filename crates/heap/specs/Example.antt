@@ -1,4 +1,5 @@
--- A run of three orders from the fresh heap, in any layout: an integer is put, stored in a block, and loaded, which releases the block.
+-- A run of three orders from the fresh heap, in any layout.
+-- An integer is put, stored in a block, and loaded, which releases the block.
 use mathlib.Core.Path.{_≡_, refl, ap}
 use mathlib.Core.Logic.{_≢_}
 use mathlib.Core.Bool.{cond}

@@ -1,4 +1,5 @@
--- Copy and both loads keep the heap consistent: an object that stays is counted one less and its values shared, one that goes is released block by block.
+-- Copy and both loads keep the heap consistent.
+-- An object that stays is counted one less and its values are shared; one that goes is released block by block.
 use mathlib.Core.Path.{_≡_, refl, _∙_}
 use mathlib.Core.Logic.{_≢_}
 use mathlib.Core.List.{List, [], _∷_, _++_, append-assoc}

@@ -1,4 +1,5 @@
 -- Erase, release and acquire keep the invariant, and so does every change of counts and roots together: share, and the load of an object that stays.
+-- Roots are told by an equation of counts, never by the shape of a list.
 use mathlib.Core.Path.{_≡_, refl, sym, ap, _∙_}
 use mathlib.Core.Logic.{_≢_}
 use mathlib.Core.List.{List, [], _∷_, _++_}

@@ -1,4 +1,5 @@
 -- Each order takes the plain machine's step: variables that hold its values before hold them after, in a consistent heap.
+-- The fresh heap holds no values.
 use mathlib.Core.Path.{_≡_, refl, ap, _∙_}
 use mathlib.Core.List.{List, [], _∷_, _++_}
 use Prim.Native.Nat.{ℕ, zero, suc, _+_, _-_}
@@ -9,7 +10,7 @@ use Rattle.heap.specs.Counting.{occ}
 use Rattle.heap.specs.Blocks.{Layout, Cell, cell, pointers, Memory}
 use Rattle.heap.specs.Values.{integer, object, Values, nil, cons, countOf, joined, firstOf, restOf, valueAt, copies, concat, lengths, Object, Holds, HoldAll}
 use Rattle.heap.specs.Operations.{Erase, StoreObject, ReadObject, ReleaseObject, Share, ShareLoad, withHeaders, withLazy}
-use Rattle.heap.specs.Orders.{Order, plain, Legal, Performs, puts, copies-one, drops, stores-none, stores-some, loads-none, loads-last, loads-shared, Fresh}
+use Rattle.heap.specs.Orders.{Order, plain, Legal, Performs, puts, makes-copies, drops, stores-none, stores-some, loads-none, loads-last, loads-shared, Fresh}
 use Rattle.heap.specs.Invariant.{Consistent, Represents, Advanced}
 use Rattle.heap.specs.CountingLemmas.{same-self, same-other, occ-append, occ-pointers}
 use Rattle.heap.specs.OperationLemmas.{named-held}
@@ -185,7 +186,7 @@ module _ {sizes : ℕ → List ℕ} {L : Layout} {M : Memory} {m : ℕ} {values 
       → Represents sizes L M m variables values → Advanced sizes L m M′ variables′ (plain o values)
   unfolding plain Legal
   represents-order none (puts w xs) l s = still (represents-put xs w s)
-  represents-order none (copies-one xs ys c n header′ e) l s = still (represents-copy xs ys c n header′ e s)
+  represents-order none (makes-copies xs ys c n header′ e) l s = still (represents-copy xs ys c n header′ e s)
   represents-order none (drops xs c header′ lazy-head′ e) l s = still (rw (all-but-last xs c s) (represents-drop xs c header′ lazy-head′ e s))
   represents-order none (stores-none xs tag) l s = still (rw (sub-zero, first-all, rest-all) (represents-store-none xs tag none s))
   represents-order none (stores-some xs c chunks M′ p tag e st) l s =

@@ -39,7 +39,7 @@ Legal (load n) vs = (tag : ℕ) × (ws : Values) × (valueAt (countOf vs - 1) vs
 -- what an order does to the heap and to the variables
 pub data Performs (sizes : ℕ → List ℕ) (L : Layout) (M : Memory) : Order → List Cell → Memory → List Cell → Type 0 where
   puts : (w : ℕ) (xs : List Cell) → Performs sizes L M (put w) xs M (xs ++ (cell 0 w ∷ []))
-  copies-one : (xs ys : List Cell) (c : Cell) (n : ℕ) (header′ : ℕ → ℕ) → Share (replicate n (c .fst)) (M .header) header′
+  makes-copies : (xs ys : List Cell) (c : Cell) (n : ℕ) (header′ : ℕ → ℕ) → Share (replicate n (c .fst)) (M .header) header′
       → Performs sizes L M (copy (length xs) n) (xs ++ (c ∷ ys)) (withHeaders M header′) ((xs ++ (c ∷ ys)) ++ replicate n c)
   drops : (xs : List Cell) (c : Cell) (header′ : ℕ → ℕ) (lazy-head′ : ℕ) → Erase (c .fst) (M .header) (M .lazy-head) header′ lazy-head′
       → Performs sizes L M drop (xs ++ (c ∷ [])) (withLazy M header′ lazy-head′) xs

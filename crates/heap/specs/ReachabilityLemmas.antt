@@ -1,4 +1,5 @@
--- Held blocks are just those that pointers lead to from the roots and the lazily freed blocks; and the number of blocks that roots lead to is one only.
+-- Held blocks are just those that pointers lead to from the roots and the lazily freed blocks.
+-- The number of blocks that roots lead to is one only.
 use mathlib.Core.Path.{_≡_, refl}
 use mathlib.Core.Logic.{_≢_, _⊎_, inl, inr}
 use mathlib.Core.List.{List, [], _∷_}

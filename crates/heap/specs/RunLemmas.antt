@@ -1,4 +1,5 @@
--- The two claims, by induction over a run of orders: soundness, values held and the frontier's history go together.
+-- The claims, by induction over a run of orders.
+-- Soundness, values held and the frontier's history go together.
 use mathlib.Core.Path.{_≡_, refl, ap}
 use mathlib.Core.Logic.{inl, inr}
 use mathlib.Core.List.{List, [], _∷_}

@@ -1,4 +1,5 @@
--- A consistent heap is sound, its frontier is one number, its counts are bounded; and where no block but HEAP's is free, the roots lead to all others.
+-- A consistent heap is sound, its frontier is one number, and its counts are bounded.
+-- Where no block but HEAP's is free, the roots lead to all others.
 use mathlib.Core.Path.{_≡_, refl, sym, ap, _∙_}
 use mathlib.Core.Logic.{_≢_}
 use mathlib.Core.List.{List, [], _∷_}

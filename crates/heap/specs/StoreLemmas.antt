@@ -1,4 +1,5 @@
 -- The store of an object of any number of blocks keeps the heap consistent, and preserves all that the roots lead to.
+-- One block is written and acquired at a time, the object's last block first.
 use mathlib.Core.Path.{_≡_, ap, _∙_}
 use mathlib.Core.Logic.{_≢_}
 use mathlib.Core.List.{List, [], _∷_, _++_}

@@ -1,4 +1,5 @@
--- Values held stay held where the blocks that they reach stay the same; and laws of lists of values held, part by part.
+-- Values held stay held where the blocks that they reach stay the same; what a load reads by the chunks' lengths is what the object holds.
+-- Then laws of lists of values held, part by part.
 use mathlib.Core.Path.{_≡_, refl, sym, ap, _∙_}
 use mathlib.Core.Logic.{_≢_}
 use mathlib.Core.List.{List, [], _∷_, _++_}

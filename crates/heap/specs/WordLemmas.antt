@@ -1,4 +1,5 @@
 -- The address arithmetic of blocks, for any number of fields, and what a change of words leaves of headers and fields.
+-- No other file multiplies by the block's size.
 use mathlib.Core.Path.{_≡_, refl, sym, ap, _∙_, fun-ext}
 use mathlib.Core.Logic.{_≢_}
 use mathlib.Core.List.{List, [], _∷_, _++_}
@@ -6,9 +7,10 @@ use Prim.Native.Nat.{ℕ, zero, suc, _+_, _-_, _*_, _/_, _≤_, _<_}
 use native.Mathlib.Nat.{mul-le-mul-left, mul-div-cancel-left}
 use native.Mathlib.Decide.{ℕ-discrete, decLt}
 use native.Mathlib.Omega.{arith}
+use borrow.Author.Tests.{eq-eqb, ne-eqb}
 use lib.ListN.{length}
 use Rattle.heap.specs.Blocks.{Layout, Cell, cell}
-use Rattle.heap.specs.Words.{stride, addressOf, numberOf, if-block, byAddress, headers, cellsFrom, blockFields}
+use Rattle.heap.specs.Words.{stride, addressOf, numberOf, byAddress, headers, cellsFrom, blockFields}
 
 -- words of two blocks are one only if the blocks and the places in them are
 pub places-distinct : (W j x r s : ℕ) → r < W → s < W → W * j + r ≡ W * x + s → (j ≡ x) × (r ≡ s)
@@ -33,23 +35,17 @@ number-of-address fieldCount j =
     rw e (mul-div-cancel-left j (omega arith))
 
 module _ {A : Type 0} (fieldCount : ℕ) where
-  chosen : (of : ℕ → A) (other : A) (j b : ℕ) → numberOf fieldCount b ≡ j → addressOf fieldCount j ≡ b → (d : Dec (addressOf fieldCount (numberOf fieldCount b) ≡ b)) → if-block d (of (numberOf fieldCount b)) other ≡ of j
-  chosen of other j b e a (yes _) = ap of e
-  chosen of other j b e a (no f) = absurd (f (ap (addressOf fieldCount) e ∙ a))
-
-  pub by-address-at : (of : ℕ → A) (other : A) (j : ℕ) → byAddress fieldCount of other (addressOf fieldCount j) ≡ of j
+  by-address-at : (of : ℕ → A) (other : A) (j : ℕ) → byAddress fieldCount of other (addressOf fieldCount j) ≡ of j
   unfolding byAddress
-  by-address-at of other j =
-      chosen of other j (addressOf fieldCount j) (number-of-address fieldCount j) refl (ℕ-discrete (addressOf fieldCount (numberOf fieldCount (addressOf fieldCount j))) (addressOf fieldCount j))
+  by-address-at of other j = rw (number-of-address fieldCount j, eq-eqb (addressOf fieldCount j) (addressOf fieldCount j) refl)
 
-  unchanged : (of of′ : ℕ → A) (other : A) (j b : ℕ) → ((x : ℕ) → x ≢ j → of′ x ≡ of x) → b ≢ addressOf fieldCount j → (d : Dec (addressOf fieldCount (numberOf fieldCount b) ≡ b))
-      → if-block d (of′ (numberOf fieldCount b)) other ≡ if-block d (of (numberOf fieldCount b)) other
-  unchanged of of′ other j b f ne (yes e) = f (numberOf fieldCount b) (λ q. ne (sym e ∙ ap (addressOf fieldCount) q))
-  unchanged of of′ other j b f ne (no _) = refl
-
-  pub by-address-off : (of of′ : ℕ → A) (other : A) (j : ℕ) → ((x : ℕ) → x ≢ j → of′ x ≡ of x) → (b : ℕ) → b ≢ addressOf fieldCount j → byAddress fieldCount of′ other b ≡ byAddress fieldCount of other b
+  by-address-off : (of of′ : ℕ → A) (other : A) (j : ℕ) → ((x : ℕ) → x ≢ j → of′ x ≡ of x) → (b : ℕ) → b ≢ addressOf fieldCount j → byAddress fieldCount of′ other b ≡ byAddress fieldCount of other b
   unfolding byAddress
-  by-address-off of of′ other j f b ne = unchanged of of′ other j b f ne (ℕ-discrete (addressOf fieldCount (numberOf fieldCount b)) b)
+  by-address-off of of′ other j f b ne = by (ℕ-discrete (addressOf fieldCount (numberOf fieldCount b)) b)
+    where
+      by : Dec (addressOf fieldCount (numberOf fieldCount b) ≡ b) → byAddress fieldCount of′ other b ≡ byAddress fieldCount of other b
+      by (yes e) = rw (eq-eqb (addressOf fieldCount (numberOf fieldCount b)) b e) (f (numberOf fieldCount b) (λ q. ne (sym e ∙ ap (addressOf fieldCount) q)))
+      by (no n) = rw (ne-eqb (addressOf fieldCount (numberOf fieldCount b)) b n)
 
 module _ (fieldCount : ℕ) (words : ℕ → ℕ) where
   pub header-at : (j : ℕ) → headers fieldCount words (addressOf fieldCount j) ≡ words (stride fieldCount * j + 0)

@@ -2,7 +2,8 @@
 -- From document 01, 'A block is 64 bytes': count or next pointer first, one word unused, then Fst and Snd of each field. Words are numbered from the heap's first.
 use mathlib.Core.List.{List, [], _∷_}
 use Prim.Native.Nat.{ℕ, zero, suc, _+_, _-_, _*_, _/_}
-use native.Mathlib.Decide.{ℕ-discrete}
+use mathlib.Core.Bool.{cond}
+use lib.Dec.{eqb}
 use Rattle.heap.specs.Blocks.{Cell, cell, Memory}
 
 -- the words of a block
@@ -16,13 +17,9 @@ addressOf fieldCount j = 65536 + 8 * (stride fieldCount * j)
 unfoldable pub numberOf : ℕ → ℕ → ℕ
 numberOf fieldCount b = ((b - 65536) / 8) / stride fieldCount
 
-abbrev pub if-block : {A : Type 0} {P : Type 0} → Dec P → A → A → A
-if-block (yes _) x other = x
-if-block (no _) x other = other
-
 -- a function of block numbers as one of addresses, with another answer where no block begins
 unfoldable pub byAddress : {A : Type 0} → ℕ → (ℕ → A) → A → ℕ → A
-byAddress fieldCount of other b = if-block (ℕ-discrete (addressOf fieldCount (numberOf fieldCount b)) b) (of (numberOf fieldCount b)) other
+byAddress fieldCount of other b = cond (eqb (addressOf fieldCount (numberOf fieldCount b)) b) (of (numberOf fieldCount b)) other
 
 unfoldable pub headers : ℕ → (ℕ → ℕ) → ℕ → ℕ
 headers fieldCount words = byAddress fieldCount (λ (j : ℕ). words (stride fieldCount * j + 0)) 0
