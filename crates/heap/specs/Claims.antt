@@ -32,7 +32,7 @@ pub record Sound (L : Layout) (M : Memory) (frontier : ℕ) (roots : List ℕ) :
 abbrev pub SoundState : Layout → ℕ → State → Type 0
 SoundState L frontier s = Sound L (s .memory) frontier (pointers (s .variables))
 
--- block b is held or on HEAP's list in a state; it is neither
+-- block b is held or on HEAP's list in a state; and: it is neither
 abbrev pub Used : Layout → ℕ → State → Type 0
 Used L b s = (n : ℕ) × (sound : SoundState L n s) × (occ b (sound .linear) + occ b (sound .held) ≢ 0)
 
@@ -54,7 +54,7 @@ pub record HeapAfter (sizes : ℕ → List ℕ) (L : Layout) (past : List State)
   pub one-pointer : (b : ℕ) → b ≢ 0 → linked b ≢ 0
       → occ b (pointers (now .variables)) + refs (children (now .memory .fields)) b (sound .lazy) + refs (children (now .memory .fields)) b (sound .held) ≤ 1
   pub holds : HoldAll sizes (now .memory .fields) linked (now .values) (now .variables)
-  -- the variables lead to some number of blocks, and to no other
+  -- the variables lead to so many blocks, and to no other number
   pub reachable : ℕ
   pub reachable-count : ReachableCount (now .memory .fields) (pointers (now .variables)) reachable
   pub reachable-unique : (count : ℕ) → ReachableCount (now .memory .fields) (pointers (now .variables)) count → count ≡ reachable
