@@ -1,4 +1,5 @@
 -- What the operations of memory.rs write, and what they answer.
 pub mod Blocks  -- one block: erased, shared, acquired, a field stored or loaded
+pub mod Objects -- objects of many blocks, stored and loaded
 pub mod Answered  -- what the operations answer
 pub mod Sizes  -- lemmas: how many records and labels

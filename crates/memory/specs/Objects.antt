@@ -1,0 +1,117 @@
+-- Code that stores variables into an object of as many blocks as they need, and loads them again, as trees. From memory.rs.
+-- Variable v has the positions 2v and 2v+1; `ext v` says that it is an integer. The last block of an object holds g .fields variables, each other one
+-- fewer and, in its last field, the link to the next. The last variables are stored first, into the last block, and the first are loaded first.
+use Prim.Native.Nat.{ℕ, zero, suc, _+_, _*_, _-_, _/_}
+use mathlib.Core.Path.{refl}
+use mathlib.Core.Bool.{Bool, true, false, not, _&&_, cond}
+use lib.Dec.{ltb, eqb}
+use Rattle.records.specs.declared.code.Code.the-variants.{ADDIM, MOVS, MOVL, MOVI, MOVIM, CMPIM}
+use Rattle.trees.specs.Tree.{Tree, nop, leaf, seq, if-zero}
+use Rattle.layout.specs.Config.{Config, STACK, TEMP, HEAP, RETURN1, SPILLTEMP, stackOffset, fstOffset, sndOffset, MINUSONE}
+use Rattle.layout.specs.Positions.{location}
+use Rattle.memory.specs.Blocks.{shareRegister, blockRegister, acquireBlock, storeField, loadField, releaseBlock}
+
+abbrev pub fst : ℕ → ℕ
+fst v = location (2 * v)
+
+abbrev pub snd : ℕ → ℕ
+snd v = location (2 * v + 1)
+
+-- a zero in the Fst of each of the first n fields
+abbrev pub storeZeros : ℕ → Tree
+storeZeros zero = nop
+storeZeros (suc n) = seq (storeZeros n) (leaf (MOVIM HEAP (fstOffset n) 0) refl)
+
+-- how many blocks of c variables n of them fill
+abbrev pub chunks : ℕ → ℕ → ℕ
+chunks c n = (n + (c - 1)) / c
+
+module _ (g : Config) (ext : ℕ → Bool) where
+  -- variable v into field t of HEAP's block
+  abbrev pub storeValue : ℕ → ℕ → Tree
+  storeValue v t =
+      seq (storeField g (snd v) HEAP (sndOffset t))
+      (cond (ext v) (leaf (MOVIM HEAP (fstOffset t) 0) refl) (storeField g (fst v) HEAP (fstOffset t)))
+
+  -- the k variables from v on into the last of the first `free` fields, and zeros before them
+  abbrev pub storeValues : ℕ → ℕ → ℕ → Tree
+  storeValues v zero free = storeZeros free
+  storeValues v (suc k) free = seq (storeValue (v + k) (free - 1)) (storeValues v k (free - 1))
+
+  -- the link to the block just stored, then k variables from v on, into a block that goes into variable v's Fst
+  abbrev pub storeOther : ℕ → ℕ → Tree
+  storeOther v k =
+      seq (storeField g (fst (v + k)) HEAP (fstOffset (g .fields - 1)))
+      (seq (storeValues v k (g .fields - 1)) (acquireBlock g (fst v)))
+
+  -- the n variables from v on, in m blocks before the last
+  abbrev pub storeOthers : ℕ → ℕ → ℕ → Tree
+  storeOthers zero v n = nop
+  storeOthers (suc m) v n =
+      seq (storeOther (v + (n - (g .fields - 1))) (n - (n - (g .fields - 1)))) (storeOthers m v (n - (g .fields - 1)))
+
+  -- the last block of n variables from v on, and those before it
+  abbrev pub storeSome : ℕ → ℕ → Tree
+  storeSome v n =
+      seq (storeValues (v + (n - g .fields)) (n - (n - g .fields)) (g .fields))
+      (seq (acquireBlock g (fst (v + (n - g .fields)))) (storeOthers (chunks (g .fields - 1) (n - g .fields)) v (n - g .fields)))
+
+  -- n variables from v on into an object whose pointer goes into variable v's Fst; zero for none
+  abbrev pub storeObject : ℕ → ℕ → Tree
+  storeObject v n =
+      cond (eqb n 0)
+      (cond (ltb (fst v) 16) (leaf (MOVI (fst v) 0) refl) (leaf (MOVIM STACK (stackOffset g (fst v)) 0) refl))
+      (storeSome v n)
+
+  -- field t of the block in register r into variable v; a pointer that stays in the block too is shared
+  abbrev pub loadValue : Bool → ℕ → ℕ → ℕ → Tree
+  loadValue shared v t r =
+      seq (loadField g (snd v) r (sndOffset t))
+      (cond (ext v) nop (seq (loadField g (fst v) r (fstOffset t)) (cond shared (shareRegister (blockRegister g (fst v)) 1) nop)))
+
+  abbrev pub loadValues : Bool → ℕ → ℕ → ℕ → ℕ → Tree
+  loadValues shared v zero free r = nop
+  loadValues shared v (suc k) free r = seq (loadValue shared (v + k) (free - 1) r) (loadValues shared v k (free - 1) r)
+
+  -- how many variables a block holds; `other` says that it is not the last
+  abbrev pub capacity : Bool → ℕ
+  capacity other = cond other (g .fields - 1) (g .fields)
+
+  -- k variables from v on out of the block in register r, released unless it is shared; before them the link to the next block
+  abbrev pub loadBody : Bool → Bool → ℕ → ℕ → ℕ → Tree
+  loadBody shared other v k r =
+      seq (cond shared nop (releaseBlock r))
+      (seq (cond other (loadField g (fst (v + k)) r (fstOffset (g .fields - 1))) nop) (loadValues shared v k (capacity other) r))
+
+  -- the same out of the block in variable v's Fst. A block in a spill goes through register 4, which is set aside unless it was before,
+  -- and restored after the last block
+  abbrev pub loadBlock : Bool → Bool → Bool → ℕ → ℕ → Tree
+  loadBlock shared other freed v k =
+      cond (ltb (fst v) 16) (loadBody shared other v k (fst v))
+      (seq (cond freed nop (leaf (MOVS RETURN1 STACK (stackOffset g SPILLTEMP)) refl))
+      (seq (leaf (MOVL RETURN1 STACK (stackOffset g (fst v))) refl)
+      (seq (loadBody shared other v k RETURN1) (cond other nop (leaf (MOVL RETURN1 STACK (stackOffset g SPILLTEMP)) refl)))))
+
+  -- whether a block before the one that starts with variable v + n lay in a spill
+  abbrev pub freed : ℕ → ℕ → Bool
+  freed v n = ltb 0 n && not (ltb (fst (v + (n - (g .fields - 1)))) 16)
+
+  abbrev pub loadOthers : Bool → ℕ → ℕ → ℕ → Tree
+  loadOthers shared zero v n = nop
+  loadOthers shared (suc m) v n =
+      seq (loadOthers shared m v (n - (g .fields - 1)))
+      (loadBlock shared true (freed v (n - (g .fields - 1))) (v + (n - (g .fields - 1))) (n - (n - (g .fields - 1))))
+
+  abbrev pub loadSome : Bool → ℕ → ℕ → Tree
+  loadSome shared v n =
+      seq (loadOthers shared (chunks (g .fields - 1) (n - g .fields)) v (n - g .fields))
+      (loadBlock shared false (freed v (n - g .fields)) (v + (n - g .fields)) (n - (n - g .fields)))
+
+  -- n variables from v on out of the object in variable v's Fst: its blocks released where no other pointer names it, else its children shared
+  abbrev pub loadObject : ℕ → ℕ → Tree
+  loadObject v n =
+      cond (eqb n 0) nop
+      (seq (cond (ltb (fst v) 16) nop (leaf (MOVL TEMP STACK (stackOffset g (fst v))) refl))
+      (if-zero (CMPIM (blockRegister g (fst v)) 0 0) refl
+      (loadSome false v n)
+      (seq (leaf (ADDIM (blockRegister g (fst v)) 0 MINUSONE) refl) (loadSome true v n))))
