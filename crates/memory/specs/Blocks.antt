@@ -18,24 +18,29 @@ eraseRegister r =
 abbrev pub shareRegister : ℕ → ℕ → Tree
 shareRegister r n = skip-if-zero (CMPI r 0) refl (leaf (ADDIM r 0 n) refl)
 
+-- child i of HEAP's block, and the first n children
+abbrev pub eraseChild : ℕ → Tree
+eraseChild i = seq (leaf (MOVL TEMP HEAP (fstOffset i)) refl) (eraseRegister TEMP)
+
+abbrev pub eraseFields : ℕ → Tree
+eraseFields zero = nop
+eraseFields (suc n) = seq (eraseFields n) (eraseChild n)
+
+-- the register that holds the pointer to a block just taken
+abbrev pub blockRegister : ℕ → ℕ
+blockRegister w = cond (ltb w 16) w TEMP
+
 module _ (g : Config) where
   abbrev pub eraseBlock : ℕ → Tree
   eraseBlock w = cond (ltb w 16) (eraseRegister w) (seq (leaf (MOVL TEMP STACK (stackOffset g w)) refl) (eraseRegister TEMP))
 
+  abbrev pub shareSpill : ℕ → ℕ → Tree
+  shareSpill w n =
+      skip-if-zero (CMPIM STACK (stackOffset g w) 0) refl
+      (seq (leaf (MOVL TEMP STACK (stackOffset g w)) refl) (leaf (ADDIM TEMP 0 n) refl))
+
   abbrev pub shareBlock : ℕ → ℕ → Tree
-  shareBlock w n =
-      cond (ltb w 16) (shareRegister w n)
-      (skip-if-zero (CMPIM STACK (stackOffset g w) 0) refl
-      (seq (leaf (MOVL TEMP STACK (stackOffset g w)) refl) (leaf (ADDIM TEMP 0 n) refl)))
-
-  -- the first n children of HEAP's block
-  abbrev pub eraseFields : ℕ → Tree
-  eraseFields zero = nop
-  eraseFields (suc n) = seq (eraseFields n) (seq (leaf (MOVL TEMP HEAP (fstOffset n)) refl) (eraseRegister TEMP))
-
-  -- the register that holds the pointer to a block just taken
-  abbrev pub blockRegister : ℕ → ℕ
-  blockRegister w = cond (ltb w 16) w TEMP
+  shareBlock w n = cond (ltb w 16) (shareRegister w n) (shareSpill w n)
 
   -- HEAP's block goes into w
   abbrev pub takeBlock : ℕ → Tree
@@ -51,10 +56,12 @@ module _ (g : Config) where
       (seq (leaf (MOV FREE HEAP) refl) (leaf (ADDI FREE (blockBytes g)) refl))
       (seq (leaf (MOVIM HEAP 0 0) refl) (eraseFields (g .fields)))))
 
+  -- HEAP goes on to the next block of the linear list, else to one of the lazy list; the register holds the one just taken
+  abbrev pub nextBlock : ℕ → Tree
+  nextBlock r = seq (leaf (MOVL HEAP HEAP 0) refl) (if-zero (CMPI HEAP 0) refl nextLazy (leaf (MOVIM r 0 0) refl))
+
   abbrev pub acquireBlock : ℕ → Tree
-  acquireBlock w =
-      seq (takeBlock w)
-      (seq (leaf (MOVL HEAP HEAP 0) refl) (if-zero (CMPI HEAP 0) refl nextLazy (leaf (MOVIM (blockRegister w) 0 0) refl)))
+  acquireBlock w = seq (takeBlock w) (nextBlock (blockRegister w))
 
   -- a word from an operand into memory, and back
   abbrev pub storeField : ℕ → ℕ → ℕ → Tree

@@ -1,5 +1,6 @@
 -- What the operations of memory.rs write, and what they answer.
 pub mod Blocks  -- one block: erased, shared, acquired, a field stored or loaded
-pub mod Objects -- objects of many blocks, stored and loaded
+pub mod Objects  -- objects of many blocks, stored and loaded
 pub mod Answered  -- what the operations answer
 pub mod Sizes  -- lemmas: how many records and labels
+pub mod Flattened  -- the two runs of records of nextBlock

@@ -67,7 +67,7 @@ module _ (g : Config) (ext : ℕ → Bool) where
   abbrev pub loadValue : Bool → ℕ → ℕ → ℕ → Tree
   loadValue shared v t r =
       seq (loadField g (snd v) r (sndOffset t))
-      (cond (ext v) nop (seq (loadField g (fst v) r (fstOffset t)) (cond shared (shareRegister (blockRegister g (fst v)) 1) nop)))
+      (cond (ext v) nop (seq (loadField g (fst v) r (fstOffset t)) (cond shared (shareRegister (blockRegister (fst v)) 1) nop)))
 
   abbrev pub loadValues : Bool → ℕ → ℕ → ℕ → ℕ → Tree
   loadValues shared v zero free r = nop
@@ -112,6 +112,6 @@ module _ (g : Config) (ext : ℕ → Bool) where
   loadObject v n =
       cond (eqb n 0) nop
       (seq (cond (ltb (fst v) 16) nop (leaf (MOVL TEMP STACK (stackOffset g (fst v))) refl))
-      (if-zero (CMPIM (blockRegister g (fst v)) 0 0) refl
+      (if-zero (CMPIM (blockRegister (fst v)) 0 0) refl
       (loadSome false v n)
-      (seq (leaf (ADDIM (blockRegister g (fst v)) 0 MINUSONE) refl) (loadSome true v n))))
+      (seq (leaf (ADDIM (blockRegister (fst v)) 0 MINUSONE) refl) (loadSome true v n))))
