@@ -32,6 +32,14 @@ pub table-right : Table table
 unfolding right location
 table-right p h = eqb→eq (getD table p 0) (location p) (at right table tt p h)
 
+pub location-below : (p : ℕ) → p < 267 → location p < 272
+unfolding location
+location-below p h = by (ltb p 12) refl
+  where
+    by : (b : Bool) → ltb p 12 ≡ b → cond b (p + 4) (p + 5) < 272
+    by true e = omega arith
+    by false e = omega arith
+
 pub position-none : (p : ℕ) → 267 ≤ p → OutOfTemporaries ≡ positionAnswer base p
 unfolding positionAnswer
 position-none p h = rw (le-ltb p 267 h)

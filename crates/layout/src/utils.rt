@@ -314,7 +314,7 @@ pub fn positions() -> [u64; 267]
 // The operand of a position.
 pub fn location_at(table: &[u64; 267], p: u64) -> u64
     requires { ⌜ (Table (now table)) × (p < 267) ⌝ }
-    ensures { λ r. ⌜ r ≡ location p ⌝ }
+    ensures { λ r. ⌜ (r ≡ location p) × (r < 272) ⌝ }
 {
     table[p as usize]
 }

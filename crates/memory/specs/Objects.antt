@@ -4,7 +4,9 @@
 use Prim.Native.Nat.{ℕ, zero, suc, _+_, _*_, _-_, _/_}
 use mathlib.Core.Path.{refl}
 use mathlib.Core.Bool.{Bool, true, false, not, _&&_, cond}
+use mathlib.Core.List.{List}
 use lib.Dec.{ltb, eqb}
+use lib.ListN.{getD}
 use Rattle.records.specs.declared.code.Code.the-variants.{ADDIM, MOVS, MOVL, MOVI, MOVIM, CMPIM}
 use Rattle.trees.specs.Tree.{Tree, nop, leaf, seq, if-zero}
 use Rattle.layout.specs.Config.{Config, STACK, TEMP, HEAP, RETURN1, SPILLTEMP, stackOffset, fstOffset, sndOffset, MINUSONE}
@@ -17,6 +19,10 @@ fst v = location (2 * v)
 abbrev pub snd : ℕ → ℕ
 snd v = location (2 * v + 1)
 
+-- whether variable v is an integer, where the binding records s start with that of variable `first`
+abbrev pub extIn : List ℕ → ℕ → ℕ → Bool
+extIn s first v = eqb (getD s (8 * (v - first) + 2) 0) 1
+
 -- a zero in the Fst of each of the first n fields
 abbrev pub storeZeros : ℕ → Tree
 storeZeros zero = nop
@@ -26,12 +32,14 @@ storeZeros (suc n) = seq (storeZeros n) (leaf (MOVIM HEAP (fstOffset n) 0) refl)
 abbrev pub chunks : ℕ → ℕ → ℕ
 chunks c n = (n + (c - 1)) / c
 
+-- a variable's pointer into field t of HEAP's block, or zero where it is an integer
+abbrev pub storeFst : Config → Bool → ℕ → ℕ → Tree
+storeFst g integer v t = cond integer (leaf (MOVIM HEAP (fstOffset t) 0) refl) (storeField g (fst v) HEAP (fstOffset t))
+
 module _ (g : Config) (ext : ℕ → Bool) where
   -- variable v into field t of HEAP's block
   abbrev pub storeValue : ℕ → ℕ → Tree
-  storeValue v t =
-      seq (storeField g (snd v) HEAP (sndOffset t))
-      (cond (ext v) (leaf (MOVIM HEAP (fstOffset t) 0) refl) (storeField g (fst v) HEAP (fstOffset t)))
+  storeValue v t = seq (storeField g (snd v) HEAP (sndOffset t)) (storeFst g (ext v) v t)
 
   -- the k variables from v on into the last of the first `free` fields, and zeros before them
   abbrev pub storeValues : ℕ → ℕ → ℕ → Tree

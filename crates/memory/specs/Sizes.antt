@@ -1,11 +1,13 @@
 -- How many records and labels the trees of memory.rs have.
-use Prim.Native.Nat.{ℕ, _≤_}
+use Prim.Native.Nat.{ℕ, zero, suc, _+_, _*_, _-_, _≤_}
 use mathlib.Core.Bool.{Bool, true, false, cond}
 use mathlib.Core.Path.{_≡_, refl}
 use native.Mathlib.Omega.{arith}
 use lib.Dec.{ltb}
-use Rattle.trees.specs.Tree.{Tree, labels, size}
+use Rattle.records.specs.declared.code.Code.the-variants.{MOVIM}
+use Rattle.trees.specs.Tree.{Tree, leaf, labels, size}
 use Rattle.layout.specs.Config.{base}
+use Rattle.memory.specs.Objects.{fst, snd, storeZeros, storeValue, storeValues, storeOther, storeOthers}
 use Rattle.memory.specs.Blocks.{eraseBlock, shareBlock, takeBlock, acquireBlock, storeField, loadField}
 
 -- of a choice between two trees
@@ -30,3 +32,36 @@ store-field-size w r offset = either (ltb w 16) _ _ 0 2 refl refl (omega arith) 
 
 pub load-field-size : (w r offset : ℕ) → (labels (loadField base w r offset) ≡ 0) × (size (loadField base w r offset) ≤ 2)
 load-field-size w r offset = either (ltb w 16) _ _ 0 2 refl refl (omega arith) (omega arith)
+
+pub zeros-size : (n : ℕ) → (labels (storeZeros n) ≡ 0) × (size (storeZeros n) ≡ n)
+zeros-size zero = (refl, refl)
+zeros-size (suc n) = let z = zeros-size n in (omega arith, omega arith)
+
+module _ (ext : ℕ → Bool) where
+  pub store-value-size : (v t : ℕ) → (labels (storeValue base ext v t) ≡ 0) × (size (storeValue base ext v t) ≤ 4)
+  store-value-size v t =
+      let a = store-field-size (snd v) 2 (24 + 16 * t) in
+      let b = store-field-size (fst v) 2 (16 + 16 * t) in
+      let c = either (ext v) (leaf (MOVIM 2 (16 + 16 * t) 0) refl) (storeField base (fst v) 2 (16 + 16 * t)) 0 2 refl (b .0) (omega arith) (b .1) in
+      (omega arith, omega arith)
+
+  pub store-values-size : (v k free : ℕ) → k ≤ free → (labels (storeValues base ext v k free) ≡ 0) × (size (storeValues base ext v k free) ≤ 3 * k + free)
+  store-values-size v zero free h = let z = zeros-size free in (z .0, omega arith)
+  store-values-size v (suc k) free h =
+      let a = store-value-size (v + k) (free - 1) in
+      let z = store-values-size v k (free - 1) (omega arith) in
+      (omega arith, omega arith)
+
+  pub store-other-size : (v k : ℕ) → k ≤ 2 → (labels (storeOther base ext v k) ≡ 13) × (size (storeOther base ext v k) ≤ 65)
+  store-other-size v k h =
+      let a = store-field-size (fst (v + k)) 2 48 in
+      let z = store-values-size v k 2 h in
+      let q = acquire-size (fst v) in
+      (omega arith, omega arith)
+
+  pub store-others-size : (m v n : ℕ) → (labels (storeOthers base ext m v n) ≡ 13 * m) × (size (storeOthers base ext m v n) ≤ 65 * m)
+  store-others-size zero v n = (refl, omega arith)
+  store-others-size (suc m) v n =
+      let a = store-other-size (v + (n - 2)) (n - (n - 2)) (omega arith) in
+      let z = store-others-size m v (n - 2) in
+      (omega arith, omega arith)

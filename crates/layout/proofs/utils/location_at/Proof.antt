@@ -1,4 +1,5 @@
 use borrow.Author.Needs.{needs}
+use Rattle.layout.proofs.Placing.{location-below}
 use Rattle.layout.proofs.utils.location_at.Statement.{statement}
 use Rattle.layout.proofs.utils.location_at.Tie as tie
 
@@ -8,4 +9,4 @@ location-at-spec =
     (tie.spec
     (λ c. search needs)
     (λ c. search needs)
-    (λ c. c .before .pre .0 _ (c .before .pre .1)))
+    (λ c. let e = c .before .pre .0 _ (c .before .pre .1) in (e, rw e (location-below _ (c .before .pre .1)))))

@@ -10,4 +10,4 @@ position-spec =
     (λ c. position-none _ (c .if1 .taken))
     (λ c κs. search needs)
     (λ c κs. search needs)
-    (λ c. position-operand _ (c .before .before .before .if1 .left) (c .location-at .ensures)))
+    (λ c. position-operand _ (c .before .before .before .if1 .left) (c .location-at .ensures .0)))
