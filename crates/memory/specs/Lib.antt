@@ -4,3 +4,4 @@ pub mod Objects  -- objects of many blocks, stored and loaded
 pub mod Answered  -- what the operations answer
 pub mod Sizes  -- lemmas: how many records and labels
 pub mod Flattened  -- the two runs of records of nextBlock
+pub mod Unfolded  -- lemmas: one step of a store

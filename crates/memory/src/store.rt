@@ -69,3 +69,28 @@ fn store_value(
     let ext = is_ext(kinds, v - first);
     store_fst(out, q, table, ext, v, t)
 }
+
+// The k variables from v on into the last of the first `free` fields, and zeros before them.
+fn store_values(
+    out: &mut [u8],
+    p: Cursor,
+    table: &[u64; 267],
+    kinds: &[u8],
+    first: u64,
+    v: u64,
+    k: u64,
+    free: u64,
+) -> Cursor
+    requires { ⌜ (Table (now table)) × (first ≤ v) × (8 * (v + k - first) ≤ length (now kinds)) × (v + k ≤ 133) × (k ≤ free) × (free ≤ 3) × (p .at + 96 * k + 72 < 2 ^ 64) ⌝ }
+    ensures { λ q. ⌜ Emits (now (out .entry)) p (now (out .exit)) q (storeValues base (extIn (now (kinds .entry)) first) v k free) ⌝ }
+{
+    let mut q = p;
+    let mut left = k;
+    let mut at = free;
+    while 0 < left {
+        q = store_value(out, q, table, kinds, first, v + (left - 1), at - 1);
+        left -= 1;
+        at -= 1;
+    }
+    store_zeros(out, q, at)
+}
