@@ -7,7 +7,7 @@ ghost use lib.ListN.{length, getD};
 ghost use Rattle.emit.specs.Emitted.{Emits};
 ghost use Rattle.layout.specs.Config.{base};
 ghost use Rattle.layout.specs.Positions.{Table};
-ghost use Rattle.memory.specs.Objects.{extIn, storeZeros, storeFst, storeValue, storeValues, storeOther, storeOthers};
+ghost use Rattle.memory.specs.Objects.{extIn, storeZeros, storeFst, storeValue, storeValues, storeOther, storeOthers, storeSome};
 use crate::block;
 use emit::cursor::Cursor;
 use emit::cursor::Row;
@@ -93,4 +93,77 @@ fn store_values(
         at -= 1;
     }
     store_zeros(out, q, at)
+}
+
+// a less b, and 0 where b is more.
+fn less(a: u64, b: u64) -> u64
+    ensures { λ r. ⌜ r ≡ a - b ⌝ }
+{
+    if a < b { 0 } else { a - b }
+}
+
+// The link to the block just stored, then k variables from v on, into a block that goes into variable v's Fst.
+fn store_other(
+    out: &mut [u8],
+    p: Cursor,
+    table: &[u64; 267],
+    kinds: &[u8],
+    first: u64,
+    v: u64,
+    k: u64,
+) -> Cursor
+    requires { ⌜ (Table (now table)) × (first ≤ v) × (8 * (v + k - first) ≤ length (now kinds)) × (v + k ≤ 133) × (k ≤ 2) × (p .at + 1680 < 2 ^ 64) × (p .counter + 13 < 2 ^ 32) ⌝ }
+    ensures { λ q. ⌜ Emits (now (out .entry)) p (now (out .exit)) q (storeOther base (extIn (now (kinds .entry)) first) v k) ⌝ }
+{
+    let link = layout::utils::location_at(table, 2 * (v + k));
+    let pointer = layout::utils::location_at(table, 2 * v);
+    let q = block::store_field(out, p, link, HEAP, 48);
+    let s = store_values(out, q, table, kinds, first, v, k, 2);
+    block::acquire_block(out, s, pointer)
+}
+
+// The n variables from v on, in m blocks before the last.
+fn store_others(
+    out: &mut [u8],
+    p: Cursor,
+    table: &[u64; 267],
+    kinds: &[u8],
+    first: u64,
+    m: u64,
+    v: u64,
+    n: u64,
+) -> Cursor
+    requires { ⌜ (Table (now table)) × (first ≤ v) × (8 * (v + n - first) ≤ length (now kinds)) × (v + n ≤ 133) × (p .at + 1560 * m + 120 < 2 ^ 64) × (p .counter + 13 * m < 2 ^ 32) ⌝ }
+    ensures { λ q. ⌜ Emits (now (out .entry)) p (now (out .exit)) q (storeOthers base (extIn (now (kinds .entry)) first) m v n) ⌝ }
+{
+    let mut q = p;
+    let mut blocks = m;
+    let mut left = n;
+    while 0 < blocks {
+        let rest = less(left, 2);
+        q = store_other(out, q, table, kinds, first, v + rest, left - rest);
+        left = rest;
+        blocks -= 1;
+    }
+    q
+}
+
+// The last block of n variables from v on, and those before it.
+pub fn store_some(
+    out: &mut [u8],
+    p: Cursor,
+    table: &[u64; 267],
+    kinds: &[u8],
+    first: u64,
+    v: u64,
+    n: u64,
+) -> Cursor
+    requires { ⌜ (Table (now table)) × (first ≤ v) × (8 * (v + n - first) ≤ length (now kinds)) × (v + n ≤ 133) × (p .at + 240000 < 2 ^ 64) × (p .counter + 2000 < 2 ^ 32) ⌝ }
+    ensures { λ q. ⌜ Emits (now (out .entry)) p (now (out .exit)) q (storeSome base (extIn (now (kinds .entry)) first) v n) ⌝ }
+{
+    let rest = less(n, 3);
+    let pointer = layout::utils::location_at(table, 2 * (v + rest));
+    let q = store_values(out, p, table, kinds, first, v + rest, n - rest, 3);
+    let s = block::acquire_block(out, q, pointer);
+    store_others(out, s, table, kinds, first, (rest + 1) / 2, v, rest)
 }
