@@ -36,6 +36,15 @@ chunks c n = (n + (c - 1)) / c
 abbrev pub storeFst : Config → Bool → ℕ → ℕ → Tree
 storeFst g integer v t = cond integer (leaf (MOVIM HEAP (fstOffset t) 0) refl) (storeField g (fst v) HEAP (fstOffset t))
 
+-- a pointer just loaded to an operand is shared where it stays in its block too
+abbrev pub shareLoaded : Bool → ℕ → Tree
+shareLoaded shared w = cond shared (shareRegister (blockRegister w) 1) nop
+
+-- field t's pointer into variable v, unless it is an integer
+abbrev pub loadFst : Config → Bool → Bool → ℕ → ℕ → ℕ → Tree
+loadFst g integer shared v t r =
+    cond integer nop (seq (loadField g (fst v) r (fstOffset t)) (shareLoaded shared (fst v)))
+
 module _ (g : Config) (ext : ℕ → Bool) where
   -- variable v into field t of HEAP's block
   abbrev pub storeValue : ℕ → ℕ → Tree
@@ -73,9 +82,7 @@ module _ (g : Config) (ext : ℕ → Bool) where
 
   -- field t of the block in register r into variable v; a pointer that stays in the block too is shared
   abbrev pub loadValue : Bool → ℕ → ℕ → ℕ → Tree
-  loadValue shared v t r =
-      seq (loadField g (snd v) r (sndOffset t))
-      (cond (ext v) nop (seq (loadField g (fst v) r (fstOffset t)) (cond shared (shareRegister (blockRegister (fst v)) 1) nop)))
+  loadValue shared v t r = seq (loadField g (snd v) r (sndOffset t)) (loadFst g (ext v) shared v t r)
 
   abbrev pub loadValues : Bool → ℕ → ℕ → ℕ → ℕ → Tree
   loadValues shared v zero free r = nop

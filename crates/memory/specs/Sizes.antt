@@ -5,10 +5,10 @@ use mathlib.Core.Path.{_≡_, refl}
 use native.Mathlib.Omega.{arith}
 use lib.Dec.{ltb}
 use Rattle.records.specs.declared.code.Code.the-variants.{MOVIM}
-use Rattle.trees.specs.Tree.{Tree, leaf, labels, size}
+use Rattle.trees.specs.Tree.{Tree, nop, leaf, seq, labels, size}
 use Rattle.layout.specs.Config.{base}
-use Rattle.memory.specs.Objects.{fst, snd, storeZeros, storeValue, storeValues, storeOther, storeOthers}
-use Rattle.memory.specs.Blocks.{eraseBlock, shareBlock, takeBlock, acquireBlock, storeField, loadField}
+use Rattle.memory.specs.Objects.{fst, snd, storeZeros, storeValue, storeValues, storeOther, storeOthers, shareLoaded, loadFst, loadValue, loadValues}
+use Rattle.memory.specs.Blocks.{eraseBlock, shareRegister, blockRegister, shareBlock, takeBlock, acquireBlock, storeField, loadField}
 
 -- of a choice between two trees
 pub either : (b : Bool) (t u : Tree) (n m : ℕ) → labels t ≡ n → labels u ≡ n → size t ≤ m → size u ≤ m → (labels (cond b t u) ≡ n) × (size (cond b t u) ≤ m)
@@ -64,4 +64,32 @@ module _ (ext : ℕ → Bool) where
   store-others-size (suc m) v n =
       let a = store-other-size (v + (n - 2)) (n - (n - 2)) (omega arith) in
       let z = store-others-size m v (n - 2) in
+      (omega arith, omega arith)
+
+-- a bound for a choice between two trees
+pub within : (b : Bool) (t u : Tree) (n m : ℕ) → labels t ≤ n → labels u ≤ n → size t ≤ m → size u ≤ m → (labels (cond b t u) ≤ n) × (size (cond b t u) ≤ m)
+within true t u n m p q r s = (p, r)
+within false t u n m p q r s = (q, s)
+
+pub share-loaded-size : (shared : Bool) (w : ℕ) → (labels (shareLoaded shared w) ≤ 1) × (size (shareLoaded shared w) ≤ 4)
+share-loaded-size shared w = within shared (shareRegister (blockRegister w) 1) nop 1 4 (omega arith) (omega arith) (omega arith) (omega arith)
+
+pub load-fst-size : (integer shared : Bool) (v t r : ℕ) → (labels (loadFst base integer shared v t r) ≤ 1) × (size (loadFst base integer shared v t r) ≤ 6)
+load-fst-size integer shared v t r =
+    let a = load-field-size (fst v) r (16 + 16 * t) in
+    let s = share-loaded-size shared (fst v) in
+    within integer nop (seq (loadField base (fst v) r (16 + 16 * t)) (shareLoaded shared (fst v))) 1 6 (omega arith) (omega arith) (omega arith) (omega arith)
+
+module _ (ext : ℕ → Bool) (shared : Bool) where
+  pub load-value-size : (v t r : ℕ) → (labels (loadValue base ext shared v t r) ≤ 1) × (size (loadValue base ext shared v t r) ≤ 8)
+  load-value-size v t r =
+      let a = load-field-size (snd v) r (24 + 16 * t) in
+      let z = load-fst-size (ext v) shared v t r in
+      (omega arith, omega arith)
+
+  pub load-values-size : (v k free r : ℕ) → (labels (loadValues base ext shared v k free r) ≤ k) × (size (loadValues base ext shared v k free r) ≤ 8 * k)
+  load-values-size v zero free r = (omega arith, omega arith)
+  load-values-size v (suc k) free r =
+      let a = load-value-size (v + k) (free - 1) r in
+      let z = load-values-size v k (free - 1) r in
       (omega arith, omega arith)
