@@ -45,6 +45,24 @@ abbrev pub loadFst : Config → Bool → Bool → ℕ → ℕ → ℕ → Tree
 loadFst g integer shared v t r =
     cond integer nop (seq (loadField g (fst v) r (fstOffset t)) (shareLoaded shared (fst v)))
 
+abbrev pub releaseUnless : Bool → ℕ → Tree
+releaseUnless shared r = cond shared nop (releaseBlock r)
+
+-- `other` says that a block is not the last: the link to the next one goes into variable v's Fst
+abbrev pub loadLink : Config → Bool → ℕ → ℕ → Tree
+loadLink g other v r = cond other (loadField g (fst v) r (fstOffset (g .fields - 1))) nop
+
+-- how many variables a block holds
+abbrev pub capacity : Config → Bool → ℕ
+capacity g other = cond other (g .fields - 1) (g .fields)
+
+-- register 4 into spill 0, unless it is there already; and back after the last block
+abbrev pub setAside : Config → Bool → Tree
+setAside g aside = cond aside nop (leaf (MOVS RETURN1 STACK (stackOffset g SPILLTEMP)) refl)
+
+abbrev pub restore : Config → Bool → Tree
+restore g other = cond other nop (leaf (MOVL RETURN1 STACK (stackOffset g SPILLTEMP)) refl)
+
 module _ (g : Config) (ext : ℕ → Bool) where
   -- variable v into field t of HEAP's block
   abbrev pub storeValue : ℕ → ℕ → Tree
@@ -88,24 +106,21 @@ module _ (g : Config) (ext : ℕ → Bool) where
   loadValues shared v zero free r = nop
   loadValues shared v (suc k) free r = seq (loadValue shared (v + k) (free - 1) r) (loadValues shared v k (free - 1) r)
 
-  -- how many variables a block holds; `other` says that it is not the last
-  abbrev pub capacity : Bool → ℕ
-  capacity other = cond other (g .fields - 1) (g .fields)
-
   -- k variables from v on out of the block in register r, released unless it is shared; before them the link to the next block
   abbrev pub loadBody : Bool → Bool → ℕ → ℕ → ℕ → Tree
   loadBody shared other v k r =
-      seq (cond shared nop (releaseBlock r))
-      (seq (cond other (loadField g (fst (v + k)) r (fstOffset (g .fields - 1))) nop) (loadValues shared v k (capacity other) r))
+      seq (releaseUnless shared r) (seq (loadLink g other (v + k) r) (loadValues shared v k (capacity g other) r))
 
-  -- the same out of the block in variable v's Fst. A block in a spill goes through register 4, which is set aside unless it was before,
-  -- and restored after the last block
+  -- the same out of a block in a spill, which goes through register 4: that is set aside unless it was before, and restored after the last block
+  abbrev pub loadSpilled : Bool → Bool → Bool → ℕ → ℕ → Tree
+  loadSpilled shared other aside v k =
+      seq (setAside g aside)
+      (seq (leaf (MOVL RETURN1 STACK (stackOffset g (fst v))) refl) (seq (loadBody shared other v k RETURN1) (restore g other)))
+
+  -- the same out of the block in variable v's Fst
   abbrev pub loadBlock : Bool → Bool → Bool → ℕ → ℕ → Tree
-  loadBlock shared other freed v k =
-      cond (ltb (fst v) 16) (loadBody shared other v k (fst v))
-      (seq (cond freed nop (leaf (MOVS RETURN1 STACK (stackOffset g SPILLTEMP)) refl))
-      (seq (leaf (MOVL RETURN1 STACK (stackOffset g (fst v))) refl)
-      (seq (loadBody shared other v k RETURN1) (cond other nop (leaf (MOVL RETURN1 STACK (stackOffset g SPILLTEMP)) refl)))))
+  loadBlock shared other aside v k =
+      cond (ltb (fst v) 16) (loadBody shared other v k (fst v)) (loadSpilled shared other aside v k)
 
   -- whether a block before the one that starts with variable v + n lay in a spill
   abbrev pub freed : ℕ → ℕ → Bool

@@ -4,11 +4,11 @@ use mathlib.Core.Bool.{Bool, true, false, cond}
 use mathlib.Core.Path.{_≡_, refl}
 use native.Mathlib.Omega.{arith}
 use lib.Dec.{ltb}
-use Rattle.records.specs.declared.code.Code.the-variants.{MOVIM}
+use Rattle.records.specs.declared.code.Code.the-variants.{MOVS, MOVL, MOVIM}
 use Rattle.trees.specs.Tree.{Tree, nop, leaf, seq, labels, size}
-use Rattle.layout.specs.Config.{base}
-use Rattle.memory.specs.Objects.{fst, snd, storeZeros, storeValue, storeValues, storeOther, storeOthers, shareLoaded, loadFst, loadValue, loadValues}
-use Rattle.memory.specs.Blocks.{eraseBlock, shareRegister, blockRegister, shareBlock, takeBlock, acquireBlock, storeField, loadField}
+use Rattle.layout.specs.Config.{base, stackOffset}
+use Rattle.memory.specs.Objects.{fst, snd, storeZeros, storeValue, storeValues, storeOther, storeOthers, shareLoaded, loadFst, loadValue, loadValues, releaseUnless, loadLink, capacity, setAside, restore, loadBody, loadSpilled, loadBlock}
+use Rattle.memory.specs.Blocks.{eraseBlock, shareRegister, blockRegister, shareBlock, takeBlock, acquireBlock, storeField, loadField, releaseBlock}
 
 -- of a choice between two trees
 pub either : (b : Bool) (t u : Tree) (n m : ℕ) → labels t ≡ n → labels u ≡ n → size t ≤ m → size u ≤ m → (labels (cond b t u) ≡ n) × (size (cond b t u) ≤ m)
@@ -93,3 +93,38 @@ module _ (ext : ℕ → Bool) (shared : Bool) where
       let a = load-value-size (v + k) (free - 1) r in
       let z = load-values-size v k (free - 1) r in
       (omega arith, omega arith)
+
+pub release-size : (shared : Bool) (r : ℕ) → (labels (releaseUnless shared r) ≤ 0) × (size (releaseUnless shared r) ≤ 2)
+release-size shared r = within shared nop (releaseBlock r) 0 2 (omega arith) (omega arith) (omega arith) (omega arith)
+
+pub link-size : (other : Bool) (v r : ℕ) → (labels (loadLink base other v r) ≤ 0) × (size (loadLink base other v r) ≤ 2)
+link-size other v r =
+    let a = load-field-size (fst v) r 48 in
+    within other (loadField base (fst v) r 48) nop 0 2 (omega arith) (omega arith) (omega arith) (omega arith)
+
+pub aside-size : (aside : Bool) → (labels (setAside base aside) ≤ 0) × (size (setAside base aside) ≤ 1)
+aside-size aside = within aside nop (leaf (MOVS 4 0 (stackOffset base 16)) refl) 0 1 (omega arith) (omega arith) (omega arith) (omega arith)
+
+pub restore-size : (other : Bool) → (labels (restore base other) ≤ 0) × (size (restore base other) ≤ 1)
+restore-size other = within other nop (leaf (MOVL 4 0 (stackOffset base 16)) refl) 0 1 (omega arith) (omega arith) (omega arith) (omega arith)
+
+module _ (ext : ℕ → Bool) (shared other : Bool) where
+  pub body-size : (v k r : ℕ) → (labels (loadBody base ext shared other v k r) ≤ k) × (size (loadBody base ext shared other v k r) ≤ 8 * k + 4)
+  body-size v k r =
+      let a = release-size shared r in
+      let l = link-size other (v + k) r in
+      let z = load-values-size ext shared v k (capacity base other) r in
+      (omega arith, omega arith)
+
+  pub spilled-size : (aside : Bool) (v k : ℕ) → (labels (loadSpilled base ext shared other aside v k) ≤ k) × (size (loadSpilled base ext shared other aside v k) ≤ 8 * k + 7)
+  spilled-size aside v k =
+      let a = aside-size aside in
+      let z = body-size v k 4 in
+      let q = restore-size other in
+      (omega arith, omega arith)
+
+  pub block-size : (aside : Bool) (v k : ℕ) → (labels (loadBlock base ext shared other aside v k) ≤ k) × (size (loadBlock base ext shared other aside v k) ≤ 8 * k + 7)
+  block-size aside v k =
+      let a = body-size v k (fst v) in
+      let z = spilled-size aside v k in
+      within (ltb (fst v) 16) (loadBody base ext shared other v k (fst v)) (loadSpilled base ext shared other aside v k) k (8 * k + 7) (a .0) (z .0) (omega arith) (z .1)

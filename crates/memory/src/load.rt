@@ -6,11 +6,17 @@ ghost use lib.ListN.{length};
 ghost use Rattle.emit.specs.Emitted.{Emits};
 ghost use Rattle.layout.specs.Config.{base};
 ghost use Rattle.layout.specs.Positions.{Table};
-ghost use Rattle.memory.specs.Objects.{extIn, shareLoaded, loadFst, loadValue, loadValues};
+ghost use Rattle.memory.specs.Objects.{extIn, shareLoaded, loadFst, loadValue, loadValues, releaseUnless, loadLink, capacity, setAside, restore, loadBody, loadSpilled, loadBlock};
 use crate::block;
 use crate::store;
 use emit::cursor::Cursor;
+use emit::cursor::Row;
+use layout::config::RETURN1;
+use layout::config::SPILL_TEMP;
+use layout::config::STACK;
 use layout::config::TEMP;
+use records::number::MOVL;
+use records::number::MOVS;
 
 // A pointer just loaded to w is shared where it stays in its block too.
 fn share_loaded(out: &mut [u8], p: Cursor, shared: bool, w: u64) -> Cursor
@@ -108,4 +114,79 @@ fn load_values(
         at -= 1;
     }
     q
+}
+
+fn release_unless(out: &mut [u8], p: Cursor, shared: bool, r: u8) -> Cursor
+    requires { ⌜ p .at + 48 < 2 ^ 64 ⌝ }
+    ensures { λ q. ⌜ Emits (now (out .entry)) p (now (out .exit)) q (releaseUnless shared r) ⌝ }
+{
+    if shared {
+        return p;
+    }
+    block::release_block(out, p, r)
+}
+
+// The link to the next block into variable v's Fst, unless the block is the last.
+fn load_link(out: &mut [u8], p: Cursor, table: &[u64; 267], other: bool, v: u64, r: u8) -> Cursor
+    requires { ⌜ (Table (now table)) × (v ≤ 133) × (p .at + 48 < 2 ^ 64) ⌝ }
+    ensures { λ q. ⌜ Emits (now (out .entry)) p (now (out .exit)) q (loadLink base other v r) ⌝ }
+{
+    if other {
+        let w = layout::utils::location_at(table, 2 * v);
+        block::load_field(out, p, w, r, 48)
+    } else {
+        p
+    }
+}
+
+// Register 4 into spill 0, unless it is there already.
+fn set_aside(out: &mut [u8], p: Cursor, aside: bool) -> Cursor
+    requires { ⌜ p .at + 24 < 2 ^ 64 ⌝ }
+    ensures { λ q. ⌜ Emits (now (out .entry)) p (now (out .exit)) q (setAside base aside) ⌝ }
+{
+    if aside {
+        return p;
+    }
+    let offset = layout::config::stack_offset(SPILL_TEMP);
+    emit::cursor::emit(out, p, Row(MOVS, RETURN1, STACK, 0, offset, 0))
+}
+
+// And back, after the last block.
+fn restore_aside(out: &mut [u8], p: Cursor, other: bool) -> Cursor
+    requires { ⌜ p .at + 24 < 2 ^ 64 ⌝ }
+    ensures { λ q. ⌜ Emits (now (out .entry)) p (now (out .exit)) q (restore base other) ⌝ }
+{
+    if other {
+        return p;
+    }
+    let offset = layout::config::stack_offset(SPILL_TEMP);
+    emit::cursor::emit(out, p, Row(MOVL, RETURN1, STACK, 0, offset, 0))
+}
+
+fn capacity_of(other: bool) -> u64
+    ensures { λ r. ⌜ (r ≡ capacity base other) × (r ≤ 3) × (2 ≤ r) ⌝ }
+{
+    if other { 2 } else { 3 }
+}
+
+// k variables from v on out of the block in register r, and before them the link to the next block.
+fn load_body(
+    out: &mut [u8],
+    p: Cursor,
+    table: &[u64; 267],
+    kinds: &[u8],
+    first: u64,
+    shared: bool,
+    other: bool,
+    v: u64,
+    k: u64,
+    r: u8,
+) -> Cursor
+    requires { ⌜ (Table (now table)) × (first ≤ v) × (8 * (v + k - first) ≤ length (now kinds)) × (v + k ≤ 133) × (k ≤ capacity base other) × (p .at + 1200 < 2 ^ 64) × (p .counter + k < 2 ^ 32) ⌝ }
+    ensures { λ q. ⌜ Emits (now (out .entry)) p (now (out .exit)) q (loadBody base (extIn (now (kinds .entry)) first) shared other v k r) ⌝ }
+{
+    let free = capacity_of(other);
+    let q = release_unless(out, p, shared, r);
+    let s = load_link(out, q, table, other, v + k, r);
+    load_values(out, s, table, kinds, first, shared, v, k, free, r)
 }
