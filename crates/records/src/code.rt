@@ -288,7 +288,7 @@ fn operands_ok(uses: u8, f: Fields) -> bool
     word_ok(uses / 16 % 2 == 1, f.value)
 }
 
-fn fields_ok(f: Fields) -> bool
+pub fn fields_ok(f: Fields) -> bool
     ensures { λ r. ⌜ r ≡ fieldsOk f ⌝ }
 {
     let code = f.code;

@@ -1,0 +1,13 @@
+use borrow.Author.Tests.{eq-eqb, ne-eqb, le-leb, lt-leb}
+use Rattle.instructions.specs.Memory.{heapOk}
+use Rattle.instructions.proofs.memory.heap_ok.Statement.{statement}
+use Rattle.instructions.proofs.memory.heap_ok.Tie as tie
+
+pub heap-ok-spec : {M : Type 1} → statement M
+unfolding heapOk
+heap-ok-spec =
+    tie.close
+    (tie.spec
+    (λ c. rw (ne-eqb _ _ (c .if1 .left)))
+    (λ c. rw (eq-eqb _ _ (c .before .if1 .taken), lt-leb _ _ (c .if2 .taken)))
+    (λ c. rw (eq-eqb _ _ (c .before .if1 .taken), le-leb _ _ (c .if2 .left))))

@@ -1,0 +1,21 @@
+use borrow.Author.Needs.{needs}
+use Rattle.instructions.proofs.Seeing.{in-stack, in-heap, loads}
+use native.Mathlib.Omega.{arith}
+use Rattle.instructions.proofs.memory.load.Statement.{statement}
+use Rattle.instructions.proofs.memory.load.Tie as tie
+
+pub load-spec : {M : Type 1} → statement M
+load-spec =
+    tie.close
+    (tie.spec
+    (λ c κs. search needs)
+    (λ c. search needs)
+    (λ c. omega (arith, in-stack _ (c .before .k .given .1) (c .before .before .before .place-of .ensures .1)))
+    (λ c. search in-stack)
+    (λ c. search needs)
+    (λ c. omega (arith, in-heap (c .before .k2 .given .1) (c .before .before .before .place-of .ensures .1)))
+    (λ c. search in-heap)
+    (λ c. search needs)
+    (λ c. loads _ _ (c .before .before .before .before .place-of .ensures .0) (c .before .before .k .given .1))
+    (λ c. loads _ _ (c .before .before .before .before .place-of .ensures .0) (c .before .before .k2 .given .1))
+    (λ c. loads _ _ (c .before .before .place-of .ensures .0) (c .enum-told .given .1)))

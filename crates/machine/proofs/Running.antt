@@ -1,0 +1,155 @@
+-- The loop of a run: what is left from here is what was to do from the start, turn by turn and at each end.
+use Prim.Native.Nat.{ℕ, zero, suc, _+_, _-_, _*_, _≤_, _<_}
+use mathlib.Core.Path.{_≡_, refl, sym, ap, _∙_}
+use mathlib.Core.Bool.{true}
+use mathlib.Core.List.{List, [], _∷_, _++_}
+use mathlib.Core.Option.{none, some}
+use native.Mathlib.Nat.{sub-zero}
+use native.Mathlib.Numerals.{add-one}
+use native.Mathlib.Omega.{arith}
+use lib.ListN.{getD, drop, getElem?}
+use lib.Seq.{drop-drop}
+use Rattle.records.specs.declared.code.Code.{Code}
+use Rattle.records.specs.declared.code.Fields.{Fields}
+use Rattle.records.specs.Codes.{codeOf}
+use Rattle.records.specs.Instructions.{fieldsIn, fieldsOk}
+use Rattle.records.specs.ReadBack.{codeIn}
+use Rattle.records.proofs.CodesRead.{ok-code}
+use Rattle.instructions.specs.declared.instruction.Compared.{Compared}
+use Rattle.instructions.specs.declared.instruction.Compared.the-variants.{Absent}
+use Rattle.instructions.specs.declared.instruction.Pair.{Pair}
+use Rattle.instructions.specs.declared.instruction.Went.{Went}
+use Rattle.instructions.specs.declared.instruction.Went.the-variants.{Next, Called, Jump, End, Fault}
+use Rattle.instructions.specs.declared.instruction.Moved.{Moved}
+use Rattle.machine.specs.declared.run.Answer.{Answer}
+use Rattle.machine.specs.declared.run.Answer.the-variants as answer
+use Rattle.machine.specs.declared.run.Found.{Found}
+use Rattle.machine.specs.declared.run.Found.the-variants as found
+use Rattle.machine.specs.declared.run.Turn.{Turn}
+use Rattle.machine.specs.declared.run.Turn.the-variants as turn
+use Rattle.instructions.specs.View.{View, view}
+use Rattle.instructions.specs.Step.{Call, Config, config, outcomeOf, step}
+use Rattle.machine.specs.Run.{Done, done, onFound, find, follow, runs, codesOf, started}
+use Rattle.instructions.specs.Forms.{comparedOf, Sized, Goes}
+use Rattle.machine.specs.Tables.{operations, targets, sources, performed}
+use Rattle.machine.specs.Loop.{Listed, turnTo, turnOf, Ends}
+use Rattle.machine.proofs.Tables.{table-is-step}
+use Rattle.instructions.proofs.Flow.{jump-keeps}
+
+pub listed-ok : {s : List ℕ} {n k : ℕ} {f : Fields} → Listed s n → k < n → f ≡ fieldsIn (drop (24 * k) s) → fieldsOk f ≡ true
+listed-ok {k} z h e = rw e (z .ok k h)
+
+-- record k of n in the bytes s
+code-at : (n k : ℕ) (s : List ℕ) → k < n → getElem? (codesOf n s) k ≡ some (codeIn (drop (24 * k) s))
+code-at zero k s h = absurd (omega arith)
+code-at (suc n) zero s h = refl
+code-at (suc n) (suc k) s h =
+    let j : 24 + 24 * k ≡ 24 * suc k = omega arith in
+    code-at n k (drop 24 s) (omega arith) ∙ ap (λ t. some (codeIn t)) (drop-drop (24 * k) 24 s ∙ ap (λ i. drop i s) j)
+
+code-past : (n k : ℕ) (s : List ℕ) → n ≤ k → getElem? (codesOf n s) k ≡ none
+code-past zero k s h = refl
+code-past (suc n) zero s h = absurd (omega arith)
+code-past (suc n) (suc k) s h = code-past n k (drop 24 s) (omega arith)
+
+unlike : {A : Type 0} → _≡_ {A = ℕ} 0 1 → A
+unlike e = absurd (omega arith)
+
+-- what follows a record's answer w, with the state t, the pair q and the calls made before it
+module _ (p : List Code) (n i : ℕ) (c : Config) (go : ℕ → Config → Done) (t : View) (q : Compared) (calls : List Call) where
+  follow-to : (w : Went) {j : ℕ} → turnOf p i w ≡ turn.To j → (made : List Call) × (follow p n i c go (outcomeOf w t q calls) ≡ go j (config t q made))
+  follow-to Next e = (calls, ap (λ k. go k (config t q calls)) (cc))
+  follow-to (Called name number) e = (calls ++ (record { name = name; number = number } ∷ []), ap (λ k. go k (config t q (calls ++ (record { name = name; number = number } ∷ [])))) (cc))
+  follow-to (Jump label) {j} e = (calls, at (find label p) e)
+    where
+      at : (f : Found) → turnTo f ≡ turn.To j → onFound f (done (answer.Fault n (suc i)) c) (λ k. go k (config t q calls)) ≡ go j (config t q calls)
+      at (found.At k) e = ap (λ k. go k (config t q calls)) (cc)
+      at found.Absent e = unlike (cc)
+  follow-to End e = unlike (cc)
+  follow-to Fault e = unlike (cc)
+
+  follow-end : (w : Went) → turnOf p i w ≡ turn.End → follow p n i c go (outcomeOf w t q calls) ≡ done (answer.Ended (suc n)) (config t q calls)
+  follow-end Next e = unlike (cc)
+  follow-end (Called name number) e = unlike (cc)
+  follow-end (Jump label) e = at (find label p) e
+    where
+      at : (f : Found) → turnTo f ≡ turn.End → onFound f (done (answer.Fault n (suc i)) c) (λ k. go k (config t q calls)) ≡ done (answer.Ended (suc n)) (config t q calls)
+      at (found.At k) e = unlike (cc)
+      at found.Absent e = unlike (cc)
+  follow-end End e = refl
+  follow-end Fault e = unlike (cc)
+
+  follow-fault : (w : Went) → turnOf p i w ≡ turn.Fault → ((label : ℕ) → w ≡ Jump label → t ≡ c .state)
+      → (d : Config) × (follow p n i c go (outcomeOf w t q calls) ≡ done (answer.Fault n (suc i)) d) × (t ≡ d .state)
+  follow-fault Next e k = unlike (cc)
+  follow-fault (Called name number) e k = unlike (cc)
+  follow-fault (Jump label) e k = (c, at (find label p) e, k label refl)
+    where
+      at : (f : Found) → turnTo f ≡ turn.Fault → onFound f (done (answer.Fault n (suc i)) c) (λ k. go k (config t q calls)) ≡ done (answer.Fault n (suc i)) c
+      at (found.At k) e = unlike (cc)
+      at found.Absent e = refl
+  follow-fault End e k = unlike (cc)
+  follow-fault Fault e k = (config t q calls, refl, refl)
+
+-- registers, stack and heap where n records of s are at a place after so many steps, and the whole run is d
+pub record Going (words : ℕ → ℕ) (s : List ℕ) (n limit : ℕ) (d : Done) (R S H : List ℕ) (p : Pair) (place steps : ℕ) : Type 0 where
+  pub sized : Sized R S
+  pub within : steps ≤ limit
+  pub calls : List Call
+  pub left : d ≡ runs words (codesOf n s) (limit - steps) steps place (config (view R S H) (comparedOf p) calls)
+
+ends : {R S H : List ℕ} {a : Answer} {d : Done} (c : Config) → Sized R S → d ≡ done a c → view R S H ≡ c .state → Ends R S H a d
+ends c z e v = record { sized = z; answer = sym (ap (λ x. x .answer) e); last = v ∙ sym (ap (λ x. x .last .state) e) }
+
+module _ (words : ℕ → ℕ) (s : List ℕ) (n limit : ℕ) where
+  pub going-first : (R S H : List ℕ) {p : Pair} → Sized R S → p .made ≡ 0 → Going words s n limit (started words (codesOf n s) limit (view R S H)) R S H p 0 0
+  going-first R S H z e = record { sized = z; within = omega arith; calls = []; left = rw (sub-zero, e) }
+
+  module _ {d : Done} {R S H : List ℕ} {p : Pair} {place steps : ℕ} (g : Going words s n limit d R S H p place steps) where
+    pub going-limit : place < n → limit ≤ steps → Ends R S H (answer.Limit steps) d
+    unfolding runs
+    going-limit h l = let e : limit - steps ≡ 0 = omega arith in ends (config (view R S H) (comparedOf p) (g .calls)) (g .sized) (g .left ∙ rw (e, code-at n place s h)) refl
+
+    past : (k : ℕ) (c : Config) → n ≤ place → runs words (codesOf n s) k steps place c ≡ done (answer.Ended steps) c
+    unfolding runs
+    past zero c h = rw (code-past n place s h)
+    past (suc k) c h = rw (code-past n place s h)
+
+    pub going-past : n ≤ place → Ends R S H (answer.Ended steps) d
+    going-past h = ends _ (g .sized) (g .left ∙ past (limit - steps) _ h) refl
+
+    module _ {f : Fields} {R′ S′ H′ : List ℕ} {m : Moved} {t : Turn} (z : Listed s n) (h : place < n) (l : steps < limit) (e : f ≡ fieldsIn (drop (24 * place) s))
+        (o : Goes R S H R′ S′ H′ p m (performed words (getD operations (f .code - 1) 0) (getD targets (f .code - 1) 0) (getD sources (f .code - 1) 0) f))
+        (u : t ≡ turnOf (codesOf n s) place (m .went)) where
+      abbrev after : ℕ → Config → Done
+      after j c = runs words (codesOf n s) (limit - suc steps) (suc steps) j c
+
+      before : Config
+      before = config (view R S H) (comparedOf p) (g .calls)
+
+      stepped : step words (codeIn (drop (24 * place) s)) before ≡ outcomeOf (m .went) (view R′ S′ H′) (comparedOf (m .pair)) (g .calls)
+      unfolding before
+      stepped =
+          let k = ok-code f (listed-ok z h e) in
+          sym (o .goes (g .calls) ∙ table-is-step words f _ (k .0) (k .1) ∙ ap (λ y. step words (codeOf y) (config (view R S H) (comparedOf p) (g .calls))) e)
+
+      one : d ≡ follow (codesOf n s) steps place before after (outcomeOf (m .went) (view R′ S′ H′) (comparedOf (m .pair)) (g .calls))
+      unfolding runs before
+      one = let k : limit - steps ≡ suc (limit - suc steps) = omega arith in g .left ∙ rw (k, code-at n place s h, stepped)
+
+      pub going-on : {j : ℕ} → t ≡ turn.To j → Going words s n limit d R′ S′ H′ (m .pair) j (steps + 1)
+      going-on v =
+          let x = follow-to (codesOf n s) steps place before after (view R′ S′ H′) (comparedOf (m .pair)) (g .calls) (m .went) (sym u ∙ v) in
+          record { sized = o .sized; within = omega arith; calls = x .0; left = rw add-one (one ∙ x .1) }
+
+      pub going-ended : t ≡ turn.End → Ends R′ S′ H′ (answer.Ended (steps + 1)) d
+      going-ended v = rw add-one (ends _ (o .sized) (one ∙ follow-end (codesOf n s) steps place before after (view R′ S′ H′) (comparedOf (m .pair)) (g .calls) (m .went) (sym u ∙ v)) refl)
+
+      still : (label : ℕ) → m .went ≡ Jump label → view R′ S′ H′ ≡ before .state
+      unfolding before
+      still label w = jump-keeps before words (codeIn (drop (24 * place) s)) (stepped ∙ ap (λ y. outcomeOf y (view R′ S′ H′) (comparedOf (m .pair)) (g .calls)) w)
+
+      pub going-faulted : t ≡ turn.Fault → Ends R′ S′ H′ (answer.Fault steps (place + 1)) d
+      going-faulted v =
+          let x = follow-fault (codesOf n s) steps place before after (view R′ S′ H′) (comparedOf (m .pair)) (g .calls) (m .went) (sym u ∙ v) still in
+          rw add-one (ends (x .0) (o .sized) (one ∙ x .1) (x .2))

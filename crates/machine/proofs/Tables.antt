@@ -1,0 +1,106 @@
+-- The tables are the clauses: what the code performs by numbers is `step` at each of the 44 codes, by computation.
+use Prim.Native.Nat.{ℕ, zero, suc, _-_, _≤_, _<_}
+use mathlib.Core.Path.{_≡_, refl, sym, subst}
+use mathlib.Core.Bool.{Bool, true, false}
+use native.Mathlib.Nat.{not-suc-le-zero}
+use native.Mathlib.Omega.{arith}
+use lib.Dec.{eqb}
+use lib.ListN.{getD}
+use borrow.Author.Tests.{lt-ltb, le-ltb, eqb-true, eqb-false, ne-eqb}
+use Rattle.records.specs.declared.code.Code.{Code}
+use Rattle.records.specs.declared.code.Code.the-variants.{ADD, ADDRM, ADDMR, ADDI, ADDIM, SUB, SUBRM, SUBMR, SUBI, IMUL, IMULRM, IMULMR, IDIV, IDIVM, CQO, JMP, JMPL, JMPLN, LEAL, MOV, MOVS, MOVL, MOVI, MOVIM, CMP, CMPRM, CMPMR, CMPI, CMPIM, JEL, JNEL, JLL, JLEL, JGL, JGEL, PUSH, POP, CALL, RET, LAB, NOEXECSTACK, TEXT, GLOBAL, EXTERN}
+use Rattle.records.specs.declared.code.Fields.{Fields}
+use Rattle.records.specs.Codes.{fieldsOf, readers, codeOf}
+use Rattle.instructions.specs.Step.{Config, Outcome, fault, arithmetic, step}
+use Rattle.instructions.specs.Forms.{operandOf, resultOf, holdsOf}
+use Rattle.instructions.proofs.Forms.{NoneFrom, none-from}
+use Rattle.machine.specs.Tables.{operations, targets, sources, performed}
+
+-- the record f, where its code is k + 1
+abbrev byTables : (ℕ → ℕ) → ℕ → Fields → Config → Outcome
+byTables words k f c = performed words (getD operations k 0) (getD targets k 0) (getD sources k 0) f c
+
+abbrev byName : (ℕ → ℕ) → ℕ → Fields → Config → Outcome
+byName words k f c = step words (getD readers k (λ (g : Fields). EXTERN (g .label)) f) c
+
+abbrev Same : ℕ → Type 0
+Same k = (words : ℕ → ℕ) (f : Fields) (c : Config) → byTables words k f c ≡ byName words k f c
+
+-- a claim at each number below k
+abbrev pub Each : (ℕ → Type 0) → ℕ → Type 0
+Each P zero = Unit {0}
+Each P (suc k) = Each P k × P k
+
+pub each : (P : ℕ → Type 0) (k : ℕ) → Each P k → (i : ℕ) → i < k → P i
+each P zero e i h = absurd (not-suc-le-zero h)
+each P (suc k) e i h = by (eqb i k) refl (λ l. each P k (e .0) i l)
+  where
+    by : (b : Bool) → eqb i k ≡ b → (i < k → P i) → P i
+    by true q r = subst P (sym (eqb-true i k q)) (e .1)
+    by false q r = let n = eqb-false i k q in r (omega arith)
+
+same-all : Each Same 44
+unfolding performed step readers resultOf holdsOf
+same-all = ((((((((((((((((((((((((((((((((((((((((((((tt, (λ w f c. refl)), (λ w f c. refl)), (λ w f c. refl)), (λ w f c. refl)), (λ w f c. refl)), (λ w f c. refl)), (λ w f c. refl)), (λ w f c. refl)), (λ w f c. refl)), (λ w f c. refl)), (λ w f c. refl)), (λ w f c. refl)), (λ w f c. refl)), (λ w f c. refl)), (λ w f c. refl)), (λ w f c. refl)), (λ w f c. refl)), (λ w f c. refl)), (λ w f c. refl)), (λ w f c. refl)), (λ w f c. refl)), (λ w f c. refl)), (λ w f c. refl)), (λ w f c. refl)), (λ w f c. refl)), (λ w f c. refl)), (λ w f c. refl)), (λ w f c. refl)), (λ w f c. refl)), (λ w f c. refl)), (λ w f c. refl)), (λ w f c. refl)), (λ w f c. refl)), (λ w f c. refl)), (λ w f c. refl)), (λ w f c. refl)), (λ w f c. refl)), (λ w f c. refl)), (λ w f c. refl)), (λ w f c. refl)), (λ w f c. refl)), (λ w f c. refl)), (λ w f c. refl)), (λ w f c. refl))
+
+pub table-is-step : (words : ℕ → ℕ) (f : Fields) (c : Config) → 1 ≤ f .code → f .code ≤ 44
+    → performed words (getD operations (f .code - 1) 0) (getD targets (f .code - 1) 0) (getD sources (f .code - 1) 0) f c ≡ step words (codeOf f) c
+unfolding codeOf
+table-is-step words f c l h = each Same 44 same-all (f .code - 1) (omega arith) words f c
+
+module _ (words : ℕ → ℕ) (n t u : ℕ) (f : Fields) where
+  pub fault-form : 3 ≤ n → NoneFrom 3 n 11 → (c : Config) → performed words n t u f c ≡ fault c
+  unfolding performed
+  fault-form h r c = let l = none-from 3 11 h r in rw (le-ltb n 3 h, ne-eqb n 3 (omega arith), ne-eqb n 4 (omega arith), ne-eqb n 5 (omega arith), ne-eqb n 6 (omega arith), ne-eqb n 7 (omega arith), ne-eqb n 8 (omega arith), ne-eqb n 9 (omega arith), ne-eqb n 10 (omega arith), ne-eqb n 11 (omega arith), ne-eqb n 12 (omega arith), ne-eqb n 13 (omega arith))
+
+  pub arithmetic-form : n < 3 → (c : Config) → performed words n t u f c ≡ arithmetic (resultOf n) (operandOf t f) (operandOf u f) c
+  unfolding performed
+  arithmetic-form h c = rw (lt-ltb n 3 h)
+
+-- an instruction is that of its fields
+pub code-of-fields : (x : Code) → codeOf (fieldsOf x) ≡ x
+unfolding codeOf readers
+code-of-fields (ADD a b) = refl
+code-of-fields (ADDRM a b c) = refl
+code-of-fields (ADDMR a b c) = refl
+code-of-fields (ADDI a b) = refl
+code-of-fields (ADDIM a b c) = refl
+code-of-fields (SUB a b) = refl
+code-of-fields (SUBRM a b c) = refl
+code-of-fields (SUBMR a b c) = refl
+code-of-fields (SUBI a b) = refl
+code-of-fields (IMUL a b) = refl
+code-of-fields (IMULRM a b c) = refl
+code-of-fields (IMULMR a b c) = refl
+code-of-fields (IDIV a) = refl
+code-of-fields (IDIVM a b) = refl
+code-of-fields CQO = refl
+code-of-fields (JMP a) = refl
+code-of-fields (JMPL a) = refl
+code-of-fields (JMPLN a) = refl
+code-of-fields (LEAL a b) = refl
+code-of-fields (MOV a b) = refl
+code-of-fields (MOVS a b c) = refl
+code-of-fields (MOVL a b c) = refl
+code-of-fields (MOVI a b) = refl
+code-of-fields (MOVIM a b c) = refl
+code-of-fields (CMP a b) = refl
+code-of-fields (CMPRM a b c) = refl
+code-of-fields (CMPMR a b c) = refl
+code-of-fields (CMPI a b) = refl
+code-of-fields (CMPIM a b c) = refl
+code-of-fields (JEL a) = refl
+code-of-fields (JNEL a) = refl
+code-of-fields (JLL a) = refl
+code-of-fields (JLEL a) = refl
+code-of-fields (JGL a) = refl
+code-of-fields (JGEL a) = refl
+code-of-fields (PUSH a) = refl
+code-of-fields (POP a) = refl
+code-of-fields (CALL a) = refl
+code-of-fields RET = refl
+code-of-fields (LAB a) = refl
+code-of-fields NOEXECSTACK = refl
+code-of-fields TEXT = refl
+code-of-fields (GLOBAL a) = refl
+code-of-fields (EXTERN a) = refl

@@ -1,0 +1,60 @@
+-- One instruction tried alone: refused, or performed as the step.
+use Prim.Native.Nat.{ℕ, _-_, _<_}
+use mathlib.Core.Path.{_≡_, sym, ap, _∙_}
+use mathlib.Core.Bool.{Bool, true, false, _&&_}
+use mathlib.Core.List.{List}
+use lib.Dec.{leb, eqb}
+use lib.ListN.{length, getD}
+use native.Mathlib.Omega.{arith}
+use borrow.Author.Tests.{ltb-true, eqb-true}
+use Rattle.records.specs.declared.code.Code.{Code}
+use Rattle.records.specs.declared.code.Fields.{Fields}
+use Rattle.records.specs.Codes.{fieldsOf, codeOf}
+use Rattle.records.specs.Instructions.{registerOk, labelOk, wordOk, operandsOk, fieldsOk, used}
+use Rattle.records.proofs.Conditions.{and-left, and-right}
+use Rattle.records.proofs.CodesRead.{ok-code}
+use Rattle.instructions.specs.declared.instruction.Compared.{Compared}
+use Rattle.instructions.specs.declared.instruction.Pair.{Pair}
+use Rattle.instructions.specs.declared.instruction.Moved.{Moved}
+use Rattle.machine.specs.declared.step.Tried.the-variants.{Took, Malformed}
+use Rattle.instructions.specs.View.{View, view}
+use Rattle.instructions.specs.Memory.{heapOk}
+use Rattle.instructions.specs.Step.{Call, config, step}
+use Rattle.machine.specs.Trial.{took, trial, trialOf}
+use Rattle.instructions.specs.Forms.{comparedOf, Goes}
+use Rattle.machine.specs.Tables.{operations, targets, sources, performed}
+use Rattle.machine.proofs.Tables.{table-is-step, code-of-fields}
+
+register-named : (uses : Bool) (r : ℕ) → registerOk uses r ≡ true → r < 16
+register-named true r e = ltb-true r 16 e
+register-named false r e = let z : r ≡ 0 = eqb-true r 0 e in omega arith
+
+module _ (f : Fields) (e : fieldsOk f ≡ true) where
+  -- the registers of a well-formed record are 0 to 15
+  pub ok-registers : (f .a < 16) × (f .b < 16)
+  unfolding fieldsOk operandsOk
+  ok-registers =
+      let u = used (f .code) in
+      let o = and-right (leb 1 (f .code) && leb (f .code) 44) (operandsOk u f) e in
+      let d = and-left (registerOk (eqb (u .a) 1) (f .a) && registerOk (eqb (u .b) 1) (f .b) && labelOk (eqb (u .label) 1) (f .label) && wordOk (eqb (u .offset) 1) (f .offset)) _ o in
+      let l = and-left (registerOk (eqb (u .a) 1) (f .a) && registerOk (eqb (u .b) 1) (f .b) && labelOk (eqb (u .label) 1) (f .label)) _ d in
+      let r = and-left (registerOk (eqb (u .a) 1) (f .a) && registerOk (eqb (u .b) 1) (f .b)) _ l in
+      (register-named (eqb (u .a) 1) (f .a) (and-left (registerOk (eqb (u .a) 1) (f .a)) _ r), register-named (eqb (u .b) 1) (f .b) (and-right (registerOk (eqb (u .a) 1) (f .a)) _ r))
+
+module _ (words : ℕ → ℕ) (x : Code) (s : View) (q : Compared) (calls : List Call) {b : Bool} (h : b ≡ heapOk (s .size)) where
+  pub heap-refused : b ≡ false → trialOf (Malformed 0) s q calls ≡ trial words x (config s q calls)
+  unfolding trial
+  heap-refused n = rw (← h, n)
+
+  pub code-refused : {f : Fields} {d : Bool} → b ≡ true → f ≡ fieldsOf x → d ≡ fieldsOk f → d ≡ false → trialOf (Malformed 1) s q calls ≡ trial words x (config s q calls)
+  unfolding trial
+  code-refused t e o n = rw (← h, t, ← e, ← o, n)
+
+module _ (words : ℕ → ℕ) (x : Code) (R S H : List ℕ) {R′ S′ H′ : List ℕ} {q q′ : Compared} {p : Pair} {m : Moved} (calls : List Call) {b d : Bool} {f : Fields} where
+  pub performs : b ≡ heapOk (length H) → b ≡ true → f ≡ fieldsOf x → d ≡ fieldsOk f → d ≡ true → comparedOf p ≡ q → q′ ≡ comparedOf (m .pair)
+      → Goes R S H R′ S′ H′ p m (performed words (getD operations (f .code - 1) 0) (getD targets (f .code - 1) 0) (getD sources (f .code - 1) 0) f)
+      → trialOf (Took (m .went)) (view R′ S′ H′) q′ calls ≡ trial words x (config (view R S H) q calls)
+  unfolding trial
+  performs h t e o r k k′ g =
+      let c = ok-code f (sym o ∙ r) in
+      rw (← h, t, ← e, ← o, r, k′, ← k) (ap took (g .goes calls ∙ table-is-step words f _ (c .0) (c .1) ∙ ap (λ y. step words y (config (view R S H) (comparedOf p) calls)) (ap codeOf e ∙ code-of-fields x)))

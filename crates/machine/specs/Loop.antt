@@ -1,0 +1,58 @@
+-- How the code goes about a run: labels sought in the bytes, and the place after a record. The meaning of a run does not rest on this; the contract of the
+-- public function cites `ran` alone.
+use Prim.Native.Nat.{ℕ, suc, _+_, _-_, _*_, _≤_, _<_}
+use mathlib.Core.Path.{_≡_}
+use mathlib.Core.Bool.{Bool, true, _&&_}
+use mathlib.Core.List.{List, [], _∷_}
+use lib.Dec.{eqb}
+use lib.ListN.{length, drop}
+use Rattle.records.specs.declared.code.Code.{Code}
+use Rattle.records.specs.declared.code.Fields.{Fields}
+use Rattle.records.specs.Instructions.{fieldsIn, fieldsOk}
+use Rattle.instructions.specs.declared.instruction.Went.{Went}
+use Rattle.instructions.specs.declared.instruction.Went.the-variants.{Next, Called, Jump, End, Fault}
+use Rattle.machine.specs.declared.run.Answer.{Answer}
+use Rattle.machine.specs.declared.run.Found.{Found}
+use Rattle.machine.specs.declared.run.Found.the-variants as found
+use Rattle.machine.specs.declared.run.Turn.{Turn}
+use Rattle.machine.specs.declared.run.Turn.the-variants as turn
+use Rattle.instructions.specs.View.{view}
+use Rattle.machine.specs.Run.{Done, placesOf, find, codesOf}
+use Rattle.instructions.specs.Forms.{Sized}
+
+-- n whole, well-formed records in the bytes s
+pub record Listed (s : List ℕ) (n : ℕ) : Type 0 where
+  pub whole : 24 * n ≤ length s
+  pub ok : (k : ℕ) → k < n → fieldsOk (fieldsIn (drop (24 * k) s)) ≡ true
+
+-- the record with the fields f is LAB's, with a label
+abbrev pub labWith : ℕ → Fields → Bool
+labWith label f = eqb (f .code) 40 && eqb (f .label) label
+
+-- of n records in s, the places from k on of the LAB records with a label
+abbrev pub placesFrom : ℕ → List ℕ → ℕ → ℕ → List ℕ
+placesFrom label s n k = placesOf label (codesOf (n - k) (drop (24 * k) s)) k
+
+-- r is the first of them, or n where there is none
+pub record First (label : ℕ) (s : List ℕ) (n k r : ℕ) : Type 0 where
+  pub within : r ≤ n
+  pub here : r < n → placesFrom label s n k ≡ r ∷ placesFrom label s n (r + 1)
+  pub none : n ≤ r → placesFrom label s n k ≡ []
+
+abbrev pub turnTo : Found → Turn
+turnTo (found.At k) = turn.To k
+turnTo found.Absent = turn.Fault
+
+-- what follows record i, by its answer
+abbrev pub turnOf : List Code → ℕ → Went → Turn
+turnOf p i Next = turn.To (suc i)
+turnOf p i (Called name number) = turn.To (suc i)
+turnOf p i (Jump label) = turnTo (find label p)
+turnOf p i End = turn.End
+turnOf p i Fault = turn.Fault
+
+-- registers, stack and heap are as a run leaves them, with its answer
+pub record Ends (R S H : List ℕ) (a : Answer) (d : Done) : Type 0 where
+  pub sized : Sized R S
+  pub answer : a ≡ d .answer
+  pub last : view R S H ≡ d .last .state

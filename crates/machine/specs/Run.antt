@@ -1,0 +1,102 @@
+-- A list of records, run from the first to its end, a fault or the step limit. From document 01, 'Machine' and rows 2, 11 and 12 of 'Causes and numbers'.
+use Prim.Native.Nat.{ℕ, zero, suc}
+use mathlib.Core.Path.{_≡_}
+use mathlib.Core.Bool.{Bool, _&&_, cond}
+use mathlib.Core.List.{List, [], _∷_}
+use mathlib.Core.Option.{Option, none, some}
+use lib.Dec.{eqb}
+use lib.ListN.{getElem?}
+use Rattle.records.specs.declared.check.Checked.{Checked}
+use Rattle.records.specs.declared.check.Checked.the-variants as checked
+use Rattle.records.specs.declared.code.Code.{Code}
+use Rattle.records.specs.Codes.{fieldsOf}
+use Rattle.records.specs.Instructions.{checkedCodes}
+use Rattle.records.specs.ReadBack.{items, codeIn}
+use Rattle.instructions.specs.declared.instruction.Compared.the-variants.{Absent}
+use Rattle.machine.specs.declared.run.Answer.{Answer}
+use Rattle.machine.specs.declared.run.Answer.the-variants.{Ended, Malformed, Fault, Limit}
+use Rattle.machine.specs.declared.run.Found.{Found}
+use Rattle.machine.specs.declared.run.Found.the-variants as found
+use Rattle.instructions.specs.View.{View}
+use Rattle.instructions.specs.Memory.{heapOk}
+use Rattle.instructions.specs.Step.{Config, config, Outcome, next, jump, end, fault, step}
+
+-- whether an instruction's record is that of LAB, code 40, with a label
+abbrev pub isLab : ℕ → Code → Bool
+isLab label x = eqb (fieldsOf x .code) 40 && eqb (fieldsOf x .label) label
+
+-- the places, from i on, of the LAB records with a label
+unfoldable pub placesOf : ℕ → List Code → ℕ → List ℕ
+placesOf label [] i = []
+placesOf label (x ∷ xs) i = cond (isLab label x) (i ∷ placesOf label xs (suc i)) (placesOf label xs (suc i))
+
+abbrev pub theOne : List ℕ → Found
+theOne [] = found.Absent
+theOne (i ∷ []) = found.At i
+theOne (i ∷ j ∷ js) = found.Absent
+
+-- the place of the one LAB record with a label, from 0
+abbrev pub find : ℕ → List Code → Found
+find label p = theOne (placesOf label p 0)
+
+-- what a run answers, and the configuration that it leaves
+pub record Done : Type 0 where
+  pub answer : Answer
+  pub last : Config
+
+abbrev pub done : Answer → Config → Done
+done a c = record { answer = a; last = c }
+
+abbrev pub onRecord : Option Code → Done → (Code → Done) → Done
+onRecord none past here = past
+onRecord (some x) past here = here x
+
+abbrev pub onFound : Found → Done → (ℕ → Done) → Done
+onFound found.Absent lost at = lost
+onFound (found.At i) lost at = at i
+
+-- after n steps, from an outcome of record i of p, counted from 0; c is the configuration before that record
+abbrev pub follow : List Code → ℕ → ℕ → Config → (ℕ → Config → Done) → Outcome → Done
+follow p n i c go (next d) = go (suc i) d
+follow p n i c go (jump label d) = onFound (find label p) (done (Fault n (suc i)) c) (λ j. go j d)
+follow p n i c go (end d) = done (Ended (suc n)) d
+follow p n i c go (fault d) = done (Fault n (suc i)) d
+
+-- at most `left` more steps of the records p, from record i on, after n steps
+unfoldable pub runs : (ℕ → ℕ) → List Code → ℕ → ℕ → ℕ → Config → Done
+runs words p zero n i c = onRecord (getElem? p i) (done (Ended n) c) (λ x. done (Limit n) c)
+runs words p (suc left) n i c =
+    onRecord (getElem? p i) (done (Ended n) c)
+    (λ x. follow p n i c (λ j d. runs words p left (suc n) j d) (step words x c))
+
+-- the instructions of the first n records of the bytes s
+abbrev pub codesOf : ℕ → List ℕ → List Code
+codesOf n s = items 24 codeIn n s
+
+-- from the first record, with no compare made and no call
+abbrev pub started : (ℕ → ℕ) → List Code → ℕ → View → Done
+started words p limit s = runs words p limit 0 0 (config s Absent [])
+
+abbrev pub onChecked : Checked → (ℕ → Done) → (ℕ → Done) → Done
+onChecked (checked.Good n) good bad = good n
+onChecked (checked.Malformed place) good bad = bad place
+
+-- the whole run of the records in the bytes s
+unfoldable pub ran : (ℕ → ℕ) → List ℕ → ℕ → View → Done
+ran words s limit v =
+    cond (heapOk (v .size))
+    (onChecked (checkedCodes 65536 s) (λ n. started words (codesOf n s) limit v) (λ place. done (Malformed place) (config v Absent [])))
+    (done (Malformed 0) (config v Absent []))
+
+-- document 01's number and values for each answer, nothing where the run ended
+abbrev pub causeOf : Answer → List ℕ
+causeOf (Ended steps) = []
+causeOf (Malformed place) = 2 ∷ place ∷ []
+causeOf (Fault steps place) = 11 ∷ steps ∷ place ∷ []
+causeOf (Limit limit) = 12 ∷ limit ∷ []
+
+-- an answer a beside a state and a heap seen as v, as a run leaves them
+pub record Leaves (a : Answer) (v : View) (d : Done) : Type 0 where
+  pub answer : a ≡ d .answer
+  pub cause : causeOf a ≡ causeOf (d .answer)
+  pub last : v ≡ d .last .state

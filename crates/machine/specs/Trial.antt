@@ -1,0 +1,25 @@
+-- One instruction tried alone, on a heap of any size and with operands that no record may hold. From document 01, 'Causes and numbers', row 2.
+use Prim.Native.Nat.{ℕ}
+use mathlib.Core.Bool.{cond}
+use mathlib.Core.List.{List}
+use Rattle.records.specs.declared.code.Code.{Code}
+use Rattle.records.specs.Codes.{fieldsOf}
+use Rattle.records.specs.Instructions.{fieldsOk}
+use Rattle.instructions.specs.declared.instruction.Compared.{Compared}
+use Rattle.instructions.specs.View.{View}
+use Rattle.instructions.specs.Memory.{heapOk}
+use Rattle.instructions.specs.Step.{Call, Config, config, Outcome, step, outcomeOf}
+use Rattle.machine.specs.declared.step.Tried.{Tried}
+use Rattle.machine.specs.declared.step.Tried.the-variants.{Took, Malformed}
+
+-- document 01's 2, with place 0 for a heap that may not be lent and place 1 for an instruction that no record may hold
+pub data Trial : Type 0 where
+  took : Outcome → Trial
+  refused : ℕ → Config → Trial
+
+unfoldable pub trial : (ℕ → ℕ) → Code → Config → Trial
+trial words x c = cond (heapOk (c .state .size)) (cond (fieldsOk (fieldsOf x)) (took (step words x c)) (refused 1 c)) (refused 0 c)
+
+abbrev pub trialOf : Tried → View → Compared → List Call → Trial
+trialOf (Took w) s q calls = took (outcomeOf w s q calls)
+trialOf (Malformed place) s q calls = refused place (config s q calls)

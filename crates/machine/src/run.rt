@@ -1,0 +1,182 @@
+// A list of records, run to its end, a fault or a step limit.
+ghost use mathlib.Core.Path.{_≡_};
+ghost use Prim.Native.Nat.{_+_, _≤_, _<_};
+ghost use lib.ListN.{length, drop};
+ghost use Rattle.records.specs.Instructions.{fieldsIn};
+ghost use Rattle.instructions.specs.View.{view, wordsOf};
+ghost use Rattle.machine.specs.Run as is;
+ghost use Rattle.instructions.specs.Forms.{Sized};
+ghost use Rattle.machine.specs.State.{see};
+ghost use Rattle.machine.specs.Loop.{Listed, labWith, First, turnOf, Ends};
+use crate::state::State;
+use crate::step;
+use instructions::instruction::NONE;
+use instructions::instruction::Pair;
+use instructions::instruction::Went;
+use instructions::memory;
+use records::bytes;
+use records::check::Checked;
+
+// The steps of a run that ended; document 01's 2 with the place; 11 with the steps before the fault and the record's place; 12 with the limit.
+pub enum Answer {
+    Ended(u64),
+    Malformed(usize),
+    Fault(u64, usize),
+    Limit(u64),
+}
+
+pub struct Ran {
+    pub state: State,
+    pub answer: Answer,
+}
+
+// Where a jump goes.
+pub enum Found {
+    At(usize),
+    Absent,
+}
+
+// What follows a record.
+pub enum Turn {
+    To(usize),
+    End,
+    Fault,
+}
+
+// Whether the record at byte `at` is LAB with the label.
+fn lab_at(s: &[u8], at: usize, label: u32) -> bool
+    requires { ⌜ at + 24 ≤ length (now s) ⌝ }
+    ensures { λ r. ⌜ r ≡ labWith label (fieldsIn (drop at (now (s .entry)))) ⌝ }
+{
+    if s[at + 1] == 40 {} else {
+        return false;
+    }
+    bytes::number4(s, at + 4) == label
+}
+
+// The first LAB with the label from record k on, or n.
+fn first(s: &[u8], n: usize, k: usize, label: u32) -> usize
+    requires { ⌜ Listed (now s) n × (k ≤ n) ⌝ }
+    ensures { λ r. ⌜ First label (now (s .entry)) n k r ⌝ }
+{
+    let mut i = k;
+    let place = loop {
+        if n <= i {
+            break i;
+        }
+        if lab_at(s, 24 * i, label) {
+            break i;
+        }
+        i += 1;
+    };
+    place
+}
+
+// The one LAB with the label.
+fn find(s: &[u8], n: usize, label: u32) -> Found
+    requires { ⌜ Listed (now s) n ⌝ }
+    ensures { λ r. ⌜ r ≡ is.find label (is.codesOf n (now (s .entry))) ⌝ }
+{
+    let k = first(s, n, 0, label);
+    if n <= k {
+        return Found::Absent;
+    }
+    if first(s, n, k + 1, label) < n {
+        return Found::Absent;
+    }
+    Found::At(k)
+}
+
+fn follow(s: &[u8], n: usize, place: usize, went: Went) -> Turn
+    requires { ⌜ Listed (now s) n × (place < n) ⌝ }
+    ensures { λ r. ⌜ r ≡ turnOf (is.codesOf n (now (s .entry))) place went ⌝ }
+{
+    match went {
+        Went::Next => Turn::To(place + 1),
+        Went::Called(_, _) => Turn::To(place + 1),
+        Went::Jump(label) => match find(s, n, label) {
+            Found::At(k) => Turn::To(k),
+            Found::Absent => Turn::Fault,
+        },
+        Went::End => Turn::End,
+        Went::Fault => Turn::Fault,
+    }
+}
+
+// The n records of s, from the first. The tables are copied once, and the state is lent.
+fn steps(
+    s: &[u8],
+    n: usize,
+    registers: &mut [u64; 16],
+    stack: &mut [u64; 320],
+    heap: &mut [u64],
+    words: &[u64; 9],
+    limit: u64,
+) -> Answer
+    requires { ⌜ Listed (now s) n × Sized (now registers) (now stack) ⌝ }
+    ensures { λ r. ⌜ Ends (now (registers .exit)) (now (stack .exit)) (now (heap .exit)) r (is.started (wordsOf (now (words .entry))) (is.codesOf n (now (s .entry))) limit (view (now (registers .entry)) (now (stack .entry)) (now (heap .entry)))) ⌝ }
+{
+    let operations = step::OPERATIONS;
+    let targets = step::TARGETS;
+    let sources = step::SOURCES;
+    let mut pair = NONE;
+    let mut place = 0;
+    let mut done = 0;
+    while place < n {
+        if limit <= done {
+            return Answer::Limit(done);
+        }
+        let f = records::code::fields_at(s, 24 * place);
+        let k = (f.code as usize) - 1;
+        let m = step::perform(
+            operations[k],
+            targets[k],
+            sources[k],
+            f,
+            registers,
+            stack,
+            heap,
+            words,
+            pair,
+        );
+        let went = m.went;
+        let after = m.pair;
+        match follow(s, n, place, went) {
+            Turn::To(j) => {
+                place = j;
+                pair = after;
+                done += 1;
+            }
+            Turn::End => return Answer::Ended(done + 1),
+            Turn::Fault => return Answer::Fault(done, place + 1),
+        }
+    }
+    Answer::Ended(done)
+}
+
+// Document 01's run: `words` are what print calls leave, and the answer stands beside the state.
+pub fn run(records: &[u8], state: State, heap: &mut [u64], words: [u64; 9], limit: u64) -> Ran
+    ensures { λ r. ⌜ is.Leaves (r .answer) (see (r .state) (now (heap .exit))) (is.ran (wordsOf words) (now (records .entry)) limit (see state (now (heap .entry)))) ⌝ }
+{
+    if memory::heap_ok(heap.len()) {} else {
+        return Ran {
+            state,
+            answer: Answer::Malformed(0),
+        };
+    }
+    match records::code::check_codes(records, 65536) {
+        Checked::Malformed(place) => Ran {
+            state,
+            answer: Answer::Malformed(place),
+        },
+        Checked::Good(n) => {
+            let mut registers = state.registers;
+            let mut stack = state.stack;
+            let answer = steps(records, n, &mut registers, &mut stack, heap, &words, limit);
+            Ran {
+                state: State { registers, stack },
+                answer,
+            }
+        }
+    }
+}

@@ -1,0 +1,1 @@
+pub mod Arithmetic  -- the product by halves, differences, magnitudes
