@@ -1,0 +1,3 @@
+-- Lemmas of the operations' proofs.
+pub mod Ranges  -- checked operands are registers or spills of the frame
+pub mod Answering  -- from what an emitter of a list leaves to the operation's answer and output

@@ -1,0 +1,57 @@
+use borrow.Author.Needs.{needs}
+use Rattle.operations.specs.Operations.{operandsOk}
+use Rattle.operations.proofs.operation.operands_ok.Statement.{statement}
+use Rattle.operations.proofs.operation.operands_ok.Tie as tie
+
+pub operands-ok-spec : {M : Type 1} → statement M
+unfolding operandsOk
+operands-ok-spec =
+    tie.close
+    (tie.spec
+    (λ c. search needs)
+    (λ c κs. search needs)
+    (λ c. search needs)
+    (λ c κs. search needs)
+    (λ c. search needs)
+    (λ c κs. search needs)
+    (λ c. search needs)
+    (λ c κs. search needs)
+    (λ c. search needs)
+    (λ c κs. search needs)
+    (λ c κs. search needs)
+    (λ c κs. search needs)
+    (λ c. search needs)
+    (λ c κs. search needs)
+    (λ c κs. search needs)
+    (λ c κs. search needs)
+    (λ c. search needs)
+    (λ c κs. search needs)
+    (λ c. search needs)
+    (λ c κs. search needs)
+    (λ c κs. search needs)
+    (λ c κs. search needs)
+    (λ c. search needs)
+    (λ c κs. search needs)
+    (λ c. search needs)
+    (λ c κs. search needs)
+    (λ c κs. search needs)
+    (λ c κs. search needs)
+    (λ c. search needs)
+    (λ c κs. search needs)
+    (λ c. search needs)
+    (λ c κs. search needs)
+    (λ c. search needs)
+    (λ c κs. search needs)
+    (λ c. rw (c .before .before .operation .given .1) (c .label-held .ensures))
+    (λ c. rw (c .before .before .operation2 .given .1) (c .operand-ok .ensures))
+    (λ c. rw (c .before .before .operation3 .given .1) (c .label-held2 .ensures))
+    (λ c. rw (c .before .before .operation4 .given .1) (c .label-held3 .ensures))
+    (λ c. rw (c .before .before .before .before .operation5 .given .1, ← (c .before .before .two-ok .ensures), ← (c .before .label-held4 .ensures)) (c .both .ensures))
+    (λ c. rw (c .before .before .before .before .operation6 .given .1, ← (c .before .before .operand-ok2 .ensures), ← (c .before .label-held5 .ensures)) (c .both2 .ensures))
+    (λ c. rw (c .before .before .operation7 .given .1) (c .operand-ok3 .ensures))
+    (λ c. rw (c .before .before .before .before .operation8 .given .1, ← (c .before .before .operand-ok4 .ensures), ← (c .before .label-held6 .ensures)) (c .both3 .ensures))
+    (λ c. rw (c .before .before .operation9 .given .1) (c .operand-ok5 .ensures))
+    (λ c. rw (c .before .before .before .before .operation10 .given .1, ← (c .before .before .operand-ok6 .ensures), ← (c .before .two-ok2 .ensures)) (c .both4 .ensures))
+    (λ c. rw (c .before .before .operation11 .given .1) (c .two-ok3 .ensures))
+    (λ c. rw (c .before .before .operation12 .given .1) (c .two-ok4 .ensures))
+    (λ c. rw (c .before .before .operation13 .given .1) (c .operand-ok7 .ensures)))
