@@ -23,7 +23,8 @@ use Rattle.instructions.specs.Step.{Call, config, step}
 use Rattle.machine.specs.Trial.{took, trial, trialOf}
 use Rattle.instructions.specs.Forms.{comparedOf, Goes}
 use Rattle.machine.specs.Tables.{operations, targets, sources, performed}
-use Rattle.machine.proofs.Tables.{table-is-step, code-of-fields}
+use Rattle.records.proofs.CodesBack.{code-fields}
+use Rattle.machine.proofs.Tables.{table-is-step}
 
 register-named : (uses : Bool) (r : ℕ) → registerOk uses r ≡ true → r < 16
 register-named true r e = ltb-true r 16 e
@@ -57,4 +58,4 @@ module _ (words : ℕ → ℕ) (x : Code) (R S H : List ℕ) {R′ S′ H′ : L
   unfolding trial
   performs h t e o r k k′ g =
       let c = ok-code f (sym o ∙ r) in
-      rw (← h, t, ← e, ← o, r, k′, ← k) (ap took (g .goes calls ∙ table-is-step words f _ (c .0) (c .1) ∙ ap (λ y. step words y (config (view R S H) (comparedOf p) calls)) (ap codeOf e ∙ code-of-fields x)))
+      rw (← h, t, ← e, ← o, r, k′, ← k) (ap took (g .goes calls ∙ table-is-step words f _ (c .0) (c .1) ∙ ap (λ y. step words y (config (view R S H) (comparedOf p) calls)) (ap codeOf e ∙ code-fields x)))

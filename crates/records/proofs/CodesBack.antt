@@ -20,7 +20,8 @@ use Rattle.records.proofs.Digits.{number-le, le-number, first-four}
 use Rattle.records.proofs.Joined.{Laws}
 use Rattle.records.proofs.Kept.{kept, kept-whole, kept-last, read-at}
 
-code-fields : (c : Code) → codeOf (fieldsOf c) ≡ c
+-- an instruction is that of its fields
+pub code-fields : (c : Code) → codeOf (fieldsOf c) ≡ c
 unfolding codeOf readers
 code-fields (ADD a b) = refl
 code-fields (ADDRM a b o) = refl
