@@ -1,0 +1,2 @@
+-- What structured code does, and that its records do the same.
+pub mod Evaluation  -- what a tree does, with no label in it
