@@ -1,4 +1,2 @@
-// memory.rs of the x86-64 back end: blocks and objects.
-pub mod block; // one block
-pub mod store; // variables into objects
-pub mod load; // and out of them
+// memory.rs of the x86-64 back end: blocks. The definitions of objects stand here too.
+pub mod block;

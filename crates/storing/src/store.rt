@@ -1,0 +1,169 @@
+// Variables stored into an object of as many blocks as they need, from memory.rs.
+// `kinds` is binding records, of which the first is variable `first`'s; `table` gives each position its operand.
+ghost use mathlib.Core.Path.{_≡_};
+ghost use Prim.Native.Nat.{_+_, _*_, _-_, _<_, _≤_, _^_};
+ghost use lib.Dec.{eqb};
+ghost use lib.ListN.{length, getD};
+ghost use Rattle.emit.specs.Emitted.{Emits};
+ghost use Rattle.layout.specs.Config.{base};
+ghost use Rattle.layout.specs.Positions.{Table};
+ghost use Rattle.memory.specs.Objects.{extIn, storeZeros, storeFst, storeValue, storeValues, storeOther, storeOthers, storeSome};
+use memory::block;
+use emit::cursor::Cursor;
+use emit::cursor::Row;
+use layout::config::HEAP;
+use records::number::MOVIM;
+
+// Whether binding i is an integer's.
+pub fn is_ext(kinds: &[u8], i: u64) -> bool
+    requires { ⌜ 8 * i + 8 ≤ length (now kinds) ⌝ }
+    ensures { λ r. ⌜ r ≡ eqb (getD (now (kinds .entry)) (8 * i + 2) 0) 1 ⌝ }
+{
+    let at = (8 * i + 2) as usize;
+    kinds[at] == 1
+}
+
+// A zero in the Fst of each of the first n fields.
+fn store_zeros(out: &mut [u8], p: Cursor, n: u64) -> Cursor
+    requires { ⌜ (n ≤ 3) × (p .at + 72 < 2 ^ 64) ⌝ }
+    ensures { λ q. ⌜ Emits (now (out .entry)) p (now (out .exit)) q (storeZeros n) ⌝ }
+{
+    let mut q = p;
+    for i in 0..n {
+        let offset = layout::config::fst_offset(i);
+        q = emit::cursor::emit(out, q, Row(MOVIM, HEAP, 0, 0, offset, 0));
+    }
+    q
+}
+
+// A variable's pointer into field t, or zero where it is an integer.
+fn store_fst(out: &mut [u8], p: Cursor, table: &[u64; 267], ext: bool, v: u64, t: u64) -> Cursor
+    requires { ⌜ (Table (now table)) × (v < 133) × (t < 3) × (p .at + 48 < 2 ^ 64) ⌝ }
+    ensures { λ q. ⌜ Emits (now (out .entry)) p (now (out .exit)) q (storeFst base ext v t) ⌝ }
+{
+    let offset = layout::config::fst_offset(t);
+    if ext {
+        emit::cursor::emit(out, p, Row(MOVIM, HEAP, 0, 0, offset, 0))
+    } else {
+        let w = layout::utils::location_at(table, 2 * v);
+        block::store_field(out, p, w, HEAP, offset)
+    }
+}
+
+// Variable v into field t of HEAP's block.
+fn store_value(
+    out: &mut [u8],
+    p: Cursor,
+    table: &[u64; 267],
+    kinds: &[u8],
+    first: u64,
+    v: u64,
+    t: u64,
+) -> Cursor
+    requires { ⌜ (Table (now table)) × (first ≤ v) × (8 * (v - first) + 8 ≤ length (now kinds)) × (v < 133) × (t < 3) × (p .at + 96 < 2 ^ 64) ⌝ }
+    ensures { λ q. ⌜ Emits (now (out .entry)) p (now (out .exit)) q (storeValue base (extIn (now (kinds .entry)) first) v t) ⌝ }
+{
+    let offset = layout::config::snd_offset(t);
+    let w = layout::utils::location_at(table, 2 * v + 1);
+    let q = block::store_field(out, p, w, HEAP, offset);
+    let ext = is_ext(kinds, v - first);
+    store_fst(out, q, table, ext, v, t)
+}
+
+// The k variables from v on into the last of the first `free` fields, and zeros before them.
+fn store_values(
+    out: &mut [u8],
+    p: Cursor,
+    table: &[u64; 267],
+    kinds: &[u8],
+    first: u64,
+    v: u64,
+    k: u64,
+    free: u64,
+) -> Cursor
+    requires { ⌜ (Table (now table)) × (first ≤ v) × (8 * (v + k - first) ≤ length (now kinds)) × (v + k ≤ 133) × (k ≤ free) × (free ≤ 3) × (p .at + 96 * k + 72 < 2 ^ 64) ⌝ }
+    ensures { λ q. ⌜ Emits (now (out .entry)) p (now (out .exit)) q (storeValues base (extIn (now (kinds .entry)) first) v k free) ⌝ }
+{
+    let mut q = p;
+    let mut left = k;
+    let mut at = free;
+    while 0 < left {
+        q = store_value(out, q, table, kinds, first, v + (left - 1), at - 1);
+        left -= 1;
+        at -= 1;
+    }
+    store_zeros(out, q, at)
+}
+
+// a less b, and 0 where b is more.
+fn less(a: u64, b: u64) -> u64
+    ensures { λ r. ⌜ r ≡ a - b ⌝ }
+{
+    if a < b { 0 } else { a - b }
+}
+
+// The link to the block just stored, then k variables from v on, into a block that goes into variable v's Fst.
+fn store_other(
+    out: &mut [u8],
+    p: Cursor,
+    table: &[u64; 267],
+    kinds: &[u8],
+    first: u64,
+    v: u64,
+    k: u64,
+) -> Cursor
+    requires { ⌜ (Table (now table)) × (first ≤ v) × (8 * (v + k - first) ≤ length (now kinds)) × (v + k ≤ 133) × (k ≤ 2) × (p .at + 1680 < 2 ^ 64) × (p .counter + 13 < 2 ^ 32) ⌝ }
+    ensures { λ q. ⌜ Emits (now (out .entry)) p (now (out .exit)) q (storeOther base (extIn (now (kinds .entry)) first) v k) ⌝ }
+{
+    let link = layout::utils::location_at(table, 2 * (v + k));
+    let pointer = layout::utils::location_at(table, 2 * v);
+    let q = block::store_field(out, p, link, HEAP, 48);
+    let s = store_values(out, q, table, kinds, first, v, k, 2);
+    block::acquire_block(out, s, pointer)
+}
+
+// The n variables from v on, in m blocks before the last.
+fn store_others(
+    out: &mut [u8],
+    p: Cursor,
+    table: &[u64; 267],
+    kinds: &[u8],
+    first: u64,
+    m: u64,
+    v: u64,
+    n: u64,
+) -> Cursor
+    requires { ⌜ (Table (now table)) × (first ≤ v) × (8 * (v + n - first) ≤ length (now kinds)) × (v + n ≤ 133) × (p .at + 1560 * m + 120 < 2 ^ 64) × (p .counter + 13 * m < 2 ^ 32) ⌝ }
+    ensures { λ q. ⌜ Emits (now (out .entry)) p (now (out .exit)) q (storeOthers base (extIn (now (kinds .entry)) first) m v n) ⌝ }
+{
+    let mut q = p;
+    let mut blocks = m;
+    let mut left = n;
+    while 0 < blocks {
+        let rest = less(left, 2);
+        q = store_other(out, q, table, kinds, first, v + rest, left - rest);
+        left = rest;
+        blocks -= 1;
+    }
+    q
+}
+
+// The last block of n variables from v on, and those before it.
+pub fn store_some(
+    out: &mut [u8],
+    p: Cursor,
+    table: &[u64; 267],
+    kinds: &[u8],
+    first: u64,
+    v: u64,
+    n: u64,
+) -> Cursor
+    requires { ⌜ (Table (now table)) × (first ≤ v) × (8 * (v + n - first) ≤ length (now kinds)) × (v + n ≤ 133) × (p .at + 240000 < 2 ^ 64) × (p .counter + 2000 < 2 ^ 32) ⌝ }
+    ensures { λ q. ⌜ Emits (now (out .entry)) p (now (out .exit)) q (storeSome base (extIn (now (kinds .entry)) first) v n) ⌝ }
+{
+    let rest = less(n, 3);
+    let pointer = layout::utils::location_at(table, 2 * (v + rest));
+    let q = store_values(out, p, table, kinds, first, v + rest, n - rest, 3);
+    let s = block::acquire_block(out, q, pointer);
+    store_others(out, s, table, kinds, first, (rest + 1) / 2, v, rest)
+}
