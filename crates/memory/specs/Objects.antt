@@ -7,10 +7,11 @@ use mathlib.Core.Bool.{Bool, true, false, not, _&&_, cond}
 use mathlib.Core.List.{List}
 use lib.Dec.{ltb, eqb}
 use lib.ListN.{getD}
-use Rattle.records.specs.declared.code.Code.the-variants.{ADDIM, MOVS, MOVL, MOVI, MOVIM, CMPIM}
+use Rattle.records.specs.declared.code.Code.the-variants.{ADDIM, MOVS, MOVL, MOVIM, CMPIM}
 use Rattle.trees.specs.Tree.{Tree, nop, leaf, seq, if-zero}
 use Rattle.layout.specs.Config.{Config, STACK, TEMP, HEAP, RETURN1, SPILLTEMP, stackOffset, fstOffset, sndOffset, MINUSONE}
 use Rattle.layout.specs.Positions.{location}
+use Rattle.code.specs.Code.{loadImmediate}
 use Rattle.memory.specs.Blocks.{shareRegister, blockRegister, acquireBlock, storeField, loadField, releaseBlock}
 
 abbrev pub fst : ℕ → ℕ
@@ -95,7 +96,7 @@ module _ (g : Config) (ext : ℕ → Bool) where
   abbrev pub storeObject : ℕ → ℕ → Tree
   storeObject v n =
       cond (eqb n 0)
-      (cond (ltb (fst v) 16) (leaf (MOVI (fst v) 0) refl) (leaf (MOVIM STACK (stackOffset g (fst v)) 0) refl))
+      (loadImmediate g (fst v) 0)
       (storeSome v n)
 
   -- field t of the block in register r into variable v; a pointer that stays in the block too is shared

@@ -14,7 +14,7 @@ use Rattle.layout.specs.Config.{Config, base}
 use Rattle.layout.specs.Positions.{operandOk}
 use Rattle.operations.specs.declared.operation.Operation.{Operation}
 use Rattle.operations.specs.declared.operation.Operation.the-variants.{Label, Jump, JumpLabel, JumpLabelFixed, JumpLabelIf, JumpLabelIfZero, LoadImmediate, LoadLabel, AddAndJump, Arithmetic, Mov, Compare, CompareImmediate}
-use Rattle.operations.specs.Code.{compareWords, compareImmediate, loadImmediate, loadLabel, moved, arithmetic, jumpTo, addAndJump, jumpIfWords, jumpIfZero}
+use Rattle.code.specs.Code.{compareWords, compareImmediate, loadImmediate, loadLabel, moved, arithmetic, jumpTo, addAndJump, jumpIfWords, jumpIfZero}
 
 module _ (g : Config) where
   -- its records

@@ -1,5 +1,3 @@
-// code.rs of the x86-64 back end: moves, arithmetic, compares and jumps.
-pub mod parts; // what the operations are made of
-pub mod emitters; // each operation's records, from a cursor on
+// code.rs of the x86-64 back end: its operations on operands given directly.
 pub mod operation; // an operation with its operands: checked, sized and written
-pub mod code; // the operations by name
+pub mod by_name; // the operations of code.rs, each by its name
