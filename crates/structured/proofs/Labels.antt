@@ -9,7 +9,7 @@ use lib.Dec.{eqb}
 use lib.ListN.{length, drop}
 use borrow.Author.Tests.{eq-eqb, eqb-true, eqb-false}
 use Rattle.records.specs.declared.code.Code.{Code}
-use Rattle.records.specs.declared.code.Code.the-variants.{LAB, JEL, JMPL}
+use Rattle.records.specs.declared.code.Code.the-variants.{LAB, JMPL}
 use Rattle.trees.specs.Tree.{Tree, nop, leaf, seq, skip-if-zero, if-zero, labels, flatAt, straight}
 use Rattle.machine.specs.declared.run.Found.the-variants.{At}
 use Rattle.machine.specs.Run.{isLab, placesOf, theOne, find}
@@ -24,7 +24,7 @@ abbrev pub count : ℕ → List Code → ℕ
 count label [] = 0
 count label (x ∷ xs) = one (isLab label x) + count label xs
 
-nil-cons : {x : Code} {xs : List Code} → [] ≡ x ∷ xs → ⊥
+pub nil-cons : {x : Code} {xs : List Code} → [] ≡ x ∷ xs → ⊥
 nil-cons e = let z : _≡_ {A = ℕ} 0 1 = cc in omega arith
 
 module _ (label : ℕ) where

@@ -3,7 +3,7 @@ use Prim.Native.Nat.{ℕ, zero, suc, _+_, _≤_, _<_}
 use mathlib.Core.Path.{_≡_, refl, sym, ap, _∙_}
 use mathlib.Core.Bool.{Bool, true, false, cond}
 use mathlib.Core.List.{List, [], _∷_, _++_}
-use mathlib.Core.Option.{none, some}
+use mathlib.Core.Option.{some}
 use native.Mathlib.Omega.{arith}
 use native.Mathlib.Nat.{add-assoc, add-zero, zero-add}
 use native.Mathlib.Numerals.{one-add, add-one}
@@ -15,17 +15,15 @@ use Rattle.records.specs.declared.code.Code.the-variants.{LAB, JEL, JMPL}
 use Rattle.trees.specs.Tree.{straight}
 use Rattle.instructions.specs.declared.instruction.Compared.{Compared}
 use Rattle.instructions.specs.declared.instruction.Compared.the-variants.{Absent, Of}
-use Rattle.instructions.specs.Step.{Config, config, dropped, Outcome, next, jump, end, fault, step}
+use Rattle.instructions.specs.Step.{Config, dropped, Outcome, next, jump, end, fault, step}
 use Rattle.machine.specs.declared.run.Answer.the-variants.{Fault}
 use Rattle.machine.specs.declared.run.Found.the-variants.{At}
-use Rattle.machine.specs.Run.{Done, find, follow, runs}
+use Rattle.machine.specs.Run.{find, follow, runs}
 use Rattle.machine.specs.Run as machine
 use Rattle.structured.specs.Evaluation.{Evaluated, done, faulted, andThen, evaluated, onEqual}
-use Rattle.structured.specs.Claims.{Reaches, Faults, Does}
+use Rattle.structured.specs.Claims.{Reaches, Faults, RunsAs}
 use Rattle.structured.proofs.Straight.{Onward, straight-onward}
-
-nil-cons : {x : Code} {xs : List Code} → [] ≡ x ∷ xs → ⊥
-nil-cons e = let z : _≡_ {A = ℕ} 0 1 = cc in omega arith
+use Rattle.structured.proofs.Labels.{nil-cons}
 
 -- the record at a place, and the place after it
 pub drop-one : (p : List Code) (i : ℕ) {x : Code} {xs : List Code} → drop i p ≡ x ∷ xs → drop (suc i) p ≡ xs
@@ -46,7 +44,7 @@ drop-part p i n xs ys e h = sym (drop-drop n i p) ∙ ap (drop n) e ∙ drop-at 
 
 module _ (words : ℕ → ℕ) (p : List Code) where
   -- what runs one after the other
-  pub after : (m k i j l : ℕ) {c d : Config} (o : Evaluated) → Reaches words p m i j c d → Does words p k j l d o → i ≤ j → (most : ℕ) → m + k ≤ most → Does words p most i l c o
+  pub after : (m k i j l : ℕ) {c d : Config} (o : Evaluated) → Reaches words p m i j c d → RunsAs words p k j l d o → i ≤ j → (most : ℕ) → m + k ≤ most → RunsAs words p most i l c o
   after m k i j l (done e) r g h most b =
       record {
         steps = r .steps + g .steps;
@@ -63,8 +61,8 @@ module _ (words : ℕ → ℕ) (p : List Code) where
         run = λ left made. rw add-assoc (r .run (g .steps + suc left) made ∙ g .run left (made + r .steps) ∙ ap (λ n. machine.done (Fault n (g .place)) e) (add-assoc made (r .steps) (g .steps)));
       }
 
-  pub joined : (m k i j l : ℕ) (c : Config) (o : Evaluated) (f : Config → Evaluated) → Does words p m i j c o → ((d : Config) → Does words p k j l d (f d))
-      → i ≤ j → j ≤ l → (most : ℕ) → m + k ≤ most → Does words p most i l c (andThen o f)
+  pub joined : (m k i j l : ℕ) (c : Config) (o : Evaluated) (f : Config → Evaluated) → RunsAs words p m i j c o → ((d : Config) → RunsAs words p k j l d (f d))
+      → i ≤ j → j ≤ l → (most : ℕ) → m + k ≤ most → RunsAs words p most i l c (andThen o f)
   joined m k i j l c (done d) f r g h u most b = after m k i j l (f d) r (g d) h most b
   joined m k i j l c (faulted d) f r g h u most b = record { steps = r .steps; within = omega arith; place = r .place; above = r .above; below = omega arith; run = r .run }
 
@@ -83,10 +81,10 @@ module _ (words : ℕ → ℕ) (p : List Code) where
     pub stopped : (to : ℕ) {d : Config} → step words x c ≡ fault d → i < to → (most : ℕ) → 0 < most → Faults words p most i to c d
     stopped to s h most b = record { steps = 0; within = b; place = suc i; above = omega arith; below = omega arith; run = λ left made. rw (zero-add, add-zero) (one-step left made ∙ rw s) }
 
-    pub straight-does : straight x ≡ true → Does words p 1 i (suc i) c (evaluated (step words x c))
+    pub straight-does : straight x ≡ true → RunsAs words p 1 i (suc i) c (evaluated (step words x c))
     straight-does q = at (step words x c) refl (straight-onward words x c q)
       where
-        at : (o : Outcome) → step words x c ≡ o → Onward o → Does words p 1 i (suc i) c (evaluated o)
+        at : (o : Outcome) → step words x c ≡ o → Onward o → RunsAs words p 1 i (suc i) c (evaluated o)
         at (next d) s w = stepped s
         at (jump label d) s w = absurd w
         at (end d) s w = absurd w
@@ -103,15 +101,15 @@ module _ (words : ℕ → ℕ) (p : List Code) where
 
   -- the choice by the last compare: one part from the label on, the other from the next record on
   pub choice-does : (m k i j l : ℕ) {label : ℕ} {xs : List Code} → drop i p ≡ JEL label ∷ xs → find label p ≡ At j → (c : Config) (a b : Evaluated)
-      → Does words p m j l (dropped c) a → Does words p k (suc i) l (dropped c) b → i ≤ j → i < l
-      → (most : ℕ) → m < most → k < most → Does words p most i l c (onEqual c (c .pair) a b)
+      → RunsAs words p m j l (dropped c) a → RunsAs words p k (suc i) l (dropped c) b → i ≤ j → i < l
+      → (most : ℕ) → m < most → k < most → RunsAs words p most i l c (onEqual c (c .pair) a b)
   unfolding step
   choice-does m k i j l {label} e f c a b g h u v most s t = at (c .pair) refl
     where
-      chosen : (q : Bool) → step words (JEL label) c ≡ cond q (jump label (dropped c)) (next (dropped c)) → Does words p most i l c (cond q a b)
+      chosen : (q : Bool) → step words (JEL label) c ≡ cond q (jump label (dropped c)) (next (dropped c)) → RunsAs words p most i l c (cond q a b)
       chosen true w = after 1 m i j l a (jumped i e c w f) g u most (omega arith)
       chosen false w = after 1 k i (suc i) l b (stepped i e c w) h (omega arith) most (omega arith)
 
-      at : (q : Compared) → c .pair ≡ q → Does words p most i l c (onEqual c q a b)
+      at : (q : Compared) → c .pair ≡ q → RunsAs words p most i l c (onEqual c q a b)
       at (Of x y) w = chosen (eqb x y) (rw w)
       at Absent w = stopped i e c l {d = c} (rw w) v most (omega arith)

@@ -1,6 +1,6 @@
 -- The records of a tree do what the tree does: by induction over the tree, at any place of a list in which its labels stand once.
-use Prim.Native.Nat.{ℕ, zero, suc, _+_, _-_, _≤_, _<_}
-use mathlib.Core.Path.{_≡_, refl, sym, ap, subst, _∙_}
+use Prim.Native.Nat.{ℕ, zero, suc, _+_, _-_, _≤_}
+use mathlib.Core.Path.{_≡_, refl, subst, _∙_}
 use mathlib.Core.List.{List, [], _∷_, _++_, append-assoc, append-nil}
 use mathlib.Core.Option.{none}
 use native.Mathlib.Omega.{arith}
@@ -9,8 +9,8 @@ use native.Mathlib.Numerals.{add-one}
 use lib.ListN.{length, drop, getElem?}
 use lib.Seq.{drop-at}
 use Rattle.records.specs.declared.code.Code.{Code}
-use Rattle.records.specs.declared.code.Code.the-variants.{LAB, JEL, JMPL}
-use Rattle.trees.specs.Tree.{Tree, nop, leaf, seq, skip-if-zero, if-zero, labels, size, flatAt, flat, straight}
+use Rattle.records.specs.declared.code.Code.the-variants.{LAB, JMPL}
+use Rattle.trees.specs.Tree.{Tree, nop, leaf, seq, skip-if-zero, if-zero, labels, size, flatAt, flat}
 use Rattle.trees.specs.Flat.{length-flat}
 use Rattle.instructions.specs.declared.instruction.Compared.the-variants.{Absent}
 use Rattle.instructions.specs.View.{View}
@@ -19,25 +19,25 @@ use Rattle.machine.specs.declared.run.Answer.the-variants.{Ended}
 use Rattle.machine.specs.declared.run.Found.the-variants.{At}
 use Rattle.machine.specs.Run.{find, runs, started}
 use Rattle.machine.specs.Run as machine
-use Rattle.structured.specs.Evaluation.{Evaluated, done, faulted, evaluated, andThen, onEqual, evaluate}
-use Rattle.structured.specs.Claims.{Reaches, Does, TreeRunsWithin, Answers, TreeRunsWhole}
+use Rattle.structured.specs.Evaluation.{Evaluated, done, faulted, evaluated, andThen, evaluate}
+use Rattle.structured.specs.Claims.{Reaches, RunsAs, Without, TreeRunsWithin, Answers, TreeRunsWhole}
 use Rattle.structured.proofs.Labels.{Once, once, found}
 use Rattle.structured.proofs.Steps.{drop-one, drop-part, after, joined, straight-does, mark-does, jump-does, choice-does}
 
 module _ (words : ℕ → ℕ) (p : List Code) where
   -- no record
-  none-does : (i : ℕ) (z : Config) → Does words p 0 i (i + 0) z (done z)
+  none-does : (i : ℕ) (z : Config) → RunsAs words p 0 i (i + 0) z (done z)
   none-does i z = record { steps = 0; within = omega arith; run = λ left made. simp (zero-add, add-zero) }
 
   -- a part, and the mark after it
-  marked : (m i : ℕ) {label : ℕ} {xs : List Code} (z : Config) (o : Evaluated) → Does words p m i (i + m) z o → drop (i + m) p ≡ LAB label ∷ xs
-      → Does words p (m + 1) i (suc (i + m)) z (andThen o (λ f. done (dropped f)))
+  marked : (m i : ℕ) {label : ℕ} {xs : List Code} (z : Config) (o : Evaluated) → RunsAs words p m i (i + m) z o → drop (i + m) p ≡ LAB label ∷ xs
+      → RunsAs words p (m + 1) i (suc (i + m)) z (andThen o (λ f. done (dropped f)))
   marked m i z o g e =
       joined words p m 1 i (i + m) (suc (i + m)) z o (λ f. done (dropped f)) g (λ f. mark-does words p (i + m) e f) (omega arith) (omega arith) (m + 1) (omega arith)
 
   -- a part, and the jump past another to its mark
-  passed : (m i j : ℕ) {label : ℕ} {xs ys : List Code} (z : Config) (o : Evaluated) → Does words p m i (i + m) z o → drop (i + m) p ≡ JMPL label ∷ xs
-      → find label p ≡ At j → drop j p ≡ LAB label ∷ ys → i + m ≤ j → Does words p (m + 2) i (suc j) z (andThen o (λ f. done (dropped f)))
+  passed : (m i j : ℕ) {label : ℕ} {xs ys : List Code} (z : Config) (o : Evaluated) → RunsAs words p m i (i + m) z o → drop (i + m) p ≡ JMPL label ∷ xs
+      → find label p ≡ At j → drop j p ≡ LAB label ∷ ys → i + m ≤ j → RunsAs words p (m + 2) i (suc j) z (andThen o (λ f. done (dropped f)))
   passed m i j z o g e f d h =
       joined words p m 2 i (i + m) (suc j) z o (λ y. done (dropped y)) g
       (λ y. after words p 1 1 (i + m) j (suc j) (done (dropped y)) (jump-does words p (i + m) e f y) (mark-does words p j d (dropped y)) h 2 (omega arith))
@@ -45,7 +45,7 @@ module _ (words : ℕ → ℕ) (p : List Code) where
 
   -- at any place
   pub does : (t : Tree) (c n i : ℕ) (xs : List Code) (z : Config) → drop i p ≡ flatAt t c n ++ xs → Once (c + n) (c + n + labels t) p
-      → Does words p (size t) i (i + size t) z (evaluate words t z)
+      → RunsAs words p (size t) i (i + size t) z (evaluate words t z)
   does nop c n i xs z e h = none-does i z
   does (leaf x q) c n i xs z e h = rw add-one (straight-does words p i e z q)
   does (seq t u) c n i xs z e h =
@@ -107,7 +107,7 @@ ended words p zero made c = rw (at-end p)
 ended words p (suc left) made c = rw (at-end p)
 
 -- a part that is the whole
-answers : (words : ℕ → ℕ) (p : List Code) (more : ℕ) (z : Config) (o : Evaluated) → Does words p (length p) 0 (length p) z o → Answers (length p) (runs words p (length p + more) 0 0 z) o
+answers : (words : ℕ → ℕ) (p : List Code) (more : ℕ) (z : Config) (o : Evaluated) → RunsAs words p (length p) 0 (length p) z o → Answers (length p) (runs words p (length p + more) 0 0 z) o
 answers words p more z (done d) r =
     let k : length p + more ≡ r .steps + (length p - r .steps + more) = omega arith in
     (r .steps, r .within, rw k (rw zero-add at (r .run (length p - r .steps + more) 0) ∙ ended words p (length p - r .steps + more) (r .steps) d))
@@ -124,5 +124,18 @@ pub tree-runs-whole : TreeRunsWhole
 unfolding TreeRunsWhole TreeRunsWithin machine.placesOf
 tree-runs-whole words t c more v =
     let z : Config = config v Absent [] in
-    let d : Does words (flat t c) (size t) 0 (size t) z (evaluate words t z) = rw (append-nil, zero-add) at (tree-runs-within words t c 0 [] [] z (λ l a b. refl) (λ l a b. refl)) in
+    let d : RunsAs words (flat t c) (size t) 0 (size t) z (evaluate words t z) = rw (append-nil, zero-add) at (tree-runs-within words t c 0 [] [] z (λ l a b. refl) (λ l a b. refl)) in
     rw (← length-flat t c 0) (answers words (flat t c) more z (evaluate words t z) (rw (length-flat t c 0) d))
+
+-- the two for callers who know what the tree does
+pub tree-reaches : (words : ℕ → ℕ) (t : Tree) (c n : ℕ) (before after : List Code) (z d : Config) → Without (c + n) (c + n + labels t) before
+    → Without (c + n) (c + n + labels t) after → evaluate words t z ≡ done d
+    → Reaches words (before ++ (flatAt t c n ++ after)) (size t) (length before) (length before + size t) z d
+unfolding TreeRunsWithin
+tree-reaches words t c n before after z d f g e =
+    subst (RunsAs words (before ++ (flatAt t c n ++ after)) (size t) (length before) (length before + size t) z) e (tree-runs-within words t c n before after z f g)
+
+pub tree-ends : (words : ℕ → ℕ) (t : Tree) (c more : ℕ) (v : View) (d : Config) → evaluate words t (config v Absent []) ≡ done d
+    → (k : ℕ) × (k ≤ size t) × (started words (flat t c) (size t + more) v ≡ machine.done (Ended k) d)
+unfolding TreeRunsWhole
+tree-ends words t c more v d e = subst (Answers (size t) (started words (flat t c) (size t + more) v)) e (tree-runs-whole words t c more v)

@@ -21,7 +21,7 @@ pub record Reaches (words : ℕ → ℕ) (p : List Code) (most from to : ℕ) (c
   pub within : steps ≤ most
   pub run : (left made : ℕ) → runs words p (steps + left) made from c ≡ runs words p left (made + steps) to d
 
--- fewer than `most` steps lead to a fault with the configuration d, at one of the records from place `from` up to place `to`
+-- fewer than `most` steps lead to a fault that leaves the configuration d, at one of the records from place `from` to the one before place `to`
 pub record Faults (words : ℕ → ℕ) (p : List Code) (most from to : ℕ) (c d : Config) : Type 0 where
   pub steps : ℕ
   pub within : steps < most
@@ -30,22 +30,22 @@ pub record Faults (words : ℕ → ℕ) (p : List Code) (most from to : ℕ) (c 
   pub below : place ≤ to
   pub run : (left made : ℕ) → runs words p (steps + suc left) made from c ≡ machine.done (Fault (made + steps) place) d
 
--- as the tree does
-abbrev pub Does : (ℕ → ℕ) → List Code → ℕ → ℕ → ℕ → Config → Evaluated → Type 0
-Does words p most from to c (done d) = Reaches words p most from to c d
-Does words p most from to c (faulted d) = Faults words p most from to c d
+-- a run as the tree evaluates: to the end of its records, or to a fault among them
+abbrev pub RunsAs : (ℕ → ℕ) → List Code → ℕ → ℕ → ℕ → Config → Evaluated → Type 0
+RunsAs words p most from to c (done d) = Reaches words p most from to c d
+RunsAs words p most from to c (faulted d) = Faults words p most from to c d
 
 -- no LAB record of p has a label above low and up to high
 abbrev pub Without : ℕ → ℕ → List Code → Type 0
 Without low high p = (label : ℕ) → low < label → label ≤ high → placesOf label p 0 ≡ []
 
--- a tree's records as a part of a longer list: n labels above c were drawn before it, and its own stand in no other part
+-- a tree's records as a part of a longer list, where n labels above the counter c were drawn before, and no record around them marks one of the tree's own
 unfoldable pub TreeRunsWithin : Type 0
 TreeRunsWithin =
     (words : ℕ → ℕ) (t : Tree) (c n : ℕ) (before after : List Code) (z : Config) → Without (c + n) (c + n + labels t) before → Without (c + n) (c + n + labels t) after
-    → Does words (before ++ (flatAt t c n ++ after)) (size t) (length before) (length before + size t) z (evaluate words t z)
+    → RunsAs words (before ++ (flatAt t c n ++ after)) (size t) (length before) (length before + size t) z (evaluate words t z)
 
--- a whole run of at most `most` records: it ends where the tree is done, and faults where the tree does, with the same configuration
+-- a whole run of `most` records: it ends where the tree is done and faults where the tree does, and leaves the tree's configuration: state, pair and calls
 abbrev pub Answers : ℕ → Done → Evaluated → Type 0
 Answers most r (done d) = (k : ℕ) × (k ≤ most) × (r ≡ machine.done (Ended k) d)
 Answers most r (faulted d) = (k : ℕ) × (place : ℕ) × (k < most) × (0 < place) × (place ≤ most) × (r ≡ machine.done (Fault k place) d)

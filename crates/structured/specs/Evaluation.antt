@@ -1,7 +1,7 @@
 -- What a tree does, with no label in it: records one after the other, a part left out or chosen by the compare before it.
 -- A mark where parts meet drops the compare, as every label does.
 use Prim.Native.Nat.{ℕ}
-use mathlib.Core.Bool.{Bool, cond}
+use mathlib.Core.Bool.{cond}
 use lib.Dec.{eqb}
 use Rattle.trees.specs.Tree.{Tree, nop, leaf, seq, skip-if-zero, if-zero}
 use Rattle.instructions.specs.declared.instruction.Compared.{Compared}
