@@ -1,14 +1,19 @@
 -- What the operations of memory.rs answer. From document 01, 'Causes and numbers', in rising order.
-use Prim.Native.Nat.{ℕ, _*_}
+use Prim.Native.Nat.{ℕ, _*_, _-_}
 use mathlib.Core.Bool.{cond}
-use lib.Dec.{ltb}
+use mathlib.Core.List.{List}
+use lib.Dec.{ltb, eqb}
+use Rattle.records.specs.declared.check.Checked.{Checked}
+use Rattle.records.specs.declared.check.Checked.the-variants.{Good, Malformed}
+use Rattle.records.specs.Contexts.{checkedContext}
 use Rattle.emit.specs.declared.answer.Answer.{Answer}
-use Rattle.emit.specs.declared.answer.Answer.the-variants.{Operand, Count}
+use Rattle.emit.specs.declared.answer.Answer.the-variants.{Context, Operand, Missing, Count, Position}
 use Rattle.emit.specs.Answers.{granted}
 use Rattle.layout.specs.Config.{Config}
-use Rattle.layout.specs.Positions.{operandOk}
+use Rattle.layout.specs.Positions.{positions, operandOk}
 use Rattle.trees.specs.Tree.{Tree, labels, size}
 use Rattle.memory.specs.Blocks.{eraseBlock, shareBlock}
+use Rattle.memory.specs.Objects.{extIn, storeObject}
 
 -- a tree's records, where nothing but labels or room can refuse
 abbrev pub treeAnswer : ℕ → ℕ → Tree → Answer
@@ -20,3 +25,26 @@ eraseAnswer g counter room w = cond (operandOk g w) (treeAnswer counter room (er
 unfoldable pub shareAnswer : Config → ℕ → ℕ → ℕ → ℕ → Answer
 shareAnswer g counter room w n =
     cond (operandOk g w) (cond (ltb 2147483647 n) Count (treeAnswer counter room (shareBlock g w n))) Operand
+
+-- by the number of variables of a context, which is refused where it is malformed
+abbrev pub onContext : Checked → (ℕ → Answer) → Answer
+onContext (Good k) answer = answer k
+onContext (Malformed place) answer = Context
+
+abbrev pub variablesIn : Checked → ℕ
+variablesIn (Good k) = k
+variablesIn (Malformed place) = 0
+
+-- the last n variables of a context into an object
+abbrev pub storeTree : Config → List ℕ → ℕ → Tree
+storeTree g context n = storeObject g (extIn context 0) (variablesIn (checkedContext context) - n) n
+
+-- the highest position that a store of n of k variables asks for: the last one's Snd, or the Fst past them where none is stored
+abbrev pub storeHighest : ℕ → ℕ → ℕ
+storeHighest k n = cond (eqb n 0) (2 * k) (2 * k - 1)
+
+unfoldable pub storeAnswer : Config → ℕ → ℕ → List ℕ → ℕ → Answer
+storeAnswer g counter room context n =
+    onContext (checkedContext context)
+    (λ k. cond (ltb k n) Missing
+    (cond (ltb (storeHighest k n) (positions g)) (treeAnswer counter room (storeTree g context n)) Position))

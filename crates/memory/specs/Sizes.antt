@@ -3,11 +3,12 @@ use Prim.Native.Nat.{ℕ, zero, suc, _+_, _*_, _-_, _≤_}
 use mathlib.Core.Bool.{Bool, true, false, cond}
 use mathlib.Core.Path.{_≡_, refl}
 use native.Mathlib.Omega.{arith}
-use lib.Dec.{ltb}
+use lib.Dec.{ltb, eqb}
 use Rattle.records.specs.declared.code.Code.the-variants.{MOVS, MOVL, MOVIM}
 use Rattle.trees.specs.Tree.{Tree, nop, leaf, seq, labels, size}
 use Rattle.layout.specs.Config.{base, stackOffset}
-use Rattle.memory.specs.Objects.{fst, snd, storeZeros, storeValue, storeValues, storeOther, storeOthers, shareLoaded, loadFst, loadValue, loadValues, releaseUnless, loadLink, capacity, setAside, restore, loadBody, loadSpilled, loadBlock}
+use Rattle.code.specs.Code.{loadImmediate}
+use Rattle.memory.specs.Objects.{fst, snd, storeZeros, storeValue, storeValues, storeOther, storeOthers, storeSome, storeObject, chunks, shareLoaded, loadFst, loadValue, loadValues, releaseUnless, loadLink, capacity, setAside, restore, loadBody, loadSpilled, loadBlock}
 use Rattle.memory.specs.Blocks.{eraseBlock, shareRegister, blockRegister, shareBlock, takeBlock, acquireBlock, storeField, loadField, releaseBlock}
 
 -- of a choice between two trees
@@ -66,10 +67,27 @@ module _ (ext : ℕ → Bool) where
       let z = store-others-size m v (n - 2) in
       (omega arith, omega arith)
 
+  pub store-some-size : (v n : ℕ) → n ≤ 133 → (labels (storeSome base ext v n) ≤ 858) × (size (storeSome base ext v n) ≤ 4300)
+  store-some-size v n h =
+      let a = store-values-size (v + (n - 3)) (n - (n - 3)) 3 (omega arith) in
+      let q = acquire-size (fst (v + (n - 3))) in
+      let z = store-others-size (chunks 2 (n - 3)) v (n - 3) in
+      let m : chunks 2 (n - 3) ≤ 65 = omega arith in
+      (omega arith, omega arith)
+
 -- a bound for a choice between two trees
 pub within : (b : Bool) (t u : Tree) (n m : ℕ) → labels t ≤ n → labels u ≤ n → size t ≤ m → size u ≤ m → (labels (cond b t u) ≤ n) × (size (cond b t u) ≤ m)
 within true t u n m p q r s = (p, r)
 within false t u n m p q r s = (q, s)
+
+pub immediate-size : (w value : ℕ) → (labels (loadImmediate base w value) ≤ 0) × (size (loadImmediate base w value) ≤ 1)
+immediate-size w value = within (ltb w 16) _ _ 0 1 (omega arith) (omega arith) (omega arith) (omega arith)
+
+pub store-object-size : (ext : ℕ → Bool) (v n : ℕ) → n ≤ 133 → (labels (storeObject base ext v n) ≤ 858) × (size (storeObject base ext v n) ≤ 4300)
+store-object-size ext v n h =
+    let a = immediate-size (fst v) 0 in
+    let z = store-some-size ext v n h in
+    within (eqb n 0) (loadImmediate base (fst v) 0) (storeSome base ext v n) 858 4300 (omega arith) (z .0) (omega arith) (z .1)
 
 pub share-loaded-size : (shared : Bool) (w : ℕ) → (labels (shareLoaded shared w) ≤ 1) × (size (shareLoaded shared w) ≤ 4)
 share-loaded-size shared w = within shared (shareRegister (blockRegister w) 1) nop 1 4 (omega arith) (omega arith) (omega arith) (omega arith)

@@ -2,16 +2,23 @@
 // `kinds` is binding records, of which the first is variable `first`'s; `table` gives each position its operand.
 ghost use mathlib.Core.Path.{_≡_};
 ghost use Prim.Native.Nat.{_+_, _*_, _-_, _<_, _≤_, _^_};
-ghost use lib.Dec.{eqb};
+ghost use lib.Dec.{ltb, eqb};
 ghost use lib.ListN.{length, getD};
+ghost use Rattle.records.specs.declared.check.Checked.the-variants.{Good};
+ghost use Rattle.records.specs.Contexts.{checkedContext};
+ghost use Rattle.trees.specs.Tree.{flat};
 ghost use Rattle.emit.specs.Emitted.{Emits};
+ghost use Rattle.emit.specs.Answers.{Answers};
 ghost use Rattle.layout.specs.Config.{base};
 ghost use Rattle.layout.specs.Positions.{Table};
-ghost use Rattle.memory.specs.Objects.{extIn, storeZeros, storeFst, storeValue, storeValues, storeOther, storeOthers, storeSome};
+ghost use Rattle.memory.specs.Objects.{extIn, storeZeros, storeFst, storeValue, storeValues, storeOther, storeOthers, storeSome, storeObject};
+ghost use Rattle.memory.specs.Answered.{storeTree, storeHighest, storeAnswer};
 use memory::block;
+use emit::answer::Answer;
 use emit::cursor::Cursor;
 use emit::cursor::Row;
 use layout::config::HEAP;
+use records::check::Checked;
 use records::number::MOVIM;
 
 // Whether binding i is an integer's.
@@ -166,4 +173,60 @@ pub fn store_some(
     let q = store_values(out, p, table, kinds, first, v + rest, n - rest, 3);
     let s = block::acquire_block(out, q, pointer);
     store_others(out, s, table, kinds, first, (rest + 1) / 2, v, rest)
+}
+
+// n variables from v on into an object whose pointer goes into variable v's Fst; zero for none.
+pub fn store_object(out: &mut [u8], p: Cursor, table: &[u64; 267], kinds: &[u8], v: u64, n: u64) -> Cursor
+    requires { ⌜ (Table (now table)) × (8 * (v + n) ≤ length (now kinds)) × (v + n ≤ 133) × (p .at + 240000 < 2 ^ 64) × (p .counter + 2000 < 2 ^ 32) ⌝ }
+    ensures { λ q. ⌜ Emits (now (out .entry)) p (now (out .exit)) q (storeObject base (extIn (now (kinds .entry)) 0) v n) ⌝ }
+{
+    if n == 0 {
+        let w = layout::utils::location_at(table, 2 * v);
+        code::emitters::emit_load_immediate(out, p, w, 0)
+    } else {
+        store_some(out, p, table, kinds, 0, v, n)
+    }
+}
+
+// Whether there are positions for a store of n of k variables.
+fn store_fits(k: u64, n: u64) -> bool
+    requires { ⌜ k ≤ 4096 ⌝ }
+    ensures { λ r. ⌜ r ≡ ltb (storeHighest k n) 267 ⌝ }
+{
+    if n == 0 {
+        return 2 * k < 267;
+    }
+    k < 134
+}
+
+// A store of the last n of the k variables of a context.
+fn store_last(out: &mut [u8], counter: u64, context: &[u8], k: u64, n: u64) -> Answer
+    requires { ⌜ checkedContext (now context) ≡ Good k ⌝ }
+    ensures { λ r. ⌜ Answers (now (out .entry)) (now (out .exit)) r (storeAnswer base counter (length (now (out .entry))) (now (context .entry)) n) (flat (storeTree base (now (context .entry)) n) counter) ⌝ }
+{
+    if k < n {
+        return Answer::Missing;
+    }
+    if store_fits(k, n) {} else {
+        return Answer::Position;
+    }
+    let table = layout::utils::positions();
+    let mut none = [0u8; 1];
+    let need = store_object(&mut none, Cursor { at: 0, counter: 0 }, &table, context, k - n, n);
+    let answer = emit::answer::grant(counter, out.len(), need);
+    if emit::answer::is_written(answer) {} else {
+        return answer;
+    }
+    store_object(out, Cursor { at: 0, counter }, &table, context, k - n, n);
+    answer
+}
+
+// The last n variables of a context into an object, whose pointer goes into the first one's Fst.
+pub fn store(out: &mut [u8], counter: u64, context: &[u8], n: u64) -> Answer
+    ensures { λ r. ⌜ Answers (now (out .entry)) (now (out .exit)) r (storeAnswer base counter (length (now (out .entry))) (now (context .entry)) n) (flat (storeTree base (now (context .entry)) n) counter) ⌝ }
+{
+    match records::binding::check_context(context) {
+        Checked::Good(k) => store_last(out, counter, context, k as u64, n),
+        Checked::Malformed(_) => Answer::Context,
+    }
 }

@@ -1,0 +1,15 @@
+use borrow.Author.Needs.{needs}
+use mathlib.Core.Path.{refl}
+use native.Mathlib.Omega.{arith}
+use borrow.Author.Tests.{eq-eqb, ne-eqb}
+use Rattle.storing.proofs.Answering.{last-fits}
+use Rattle.storing.proofs.store.store_fits.Statement.{statement}
+use Rattle.storing.proofs.store.store_fits.Tie as tie
+
+pub store-fits-spec : {M : Type 1} → statement M
+store-fits-spec =
+    tie.close
+    (tie.spec
+    (λ c. search needs)
+    (λ c. rw (eq-eqb _ 0 (c .if1 .taken)))
+    (λ c. rw (ne-eqb _ 0 (c .if1 .left)) (last-fits (c .before .args .k))))
