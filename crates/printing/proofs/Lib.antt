@@ -1,0 +1,3 @@
+-- Lemmas of the proofs on print_i64.
+pub mod Sets  -- a set of registers, its members and its ones
+pub mod Saving  -- registers saved and restored one by one
