@@ -1,13 +1,13 @@
 // The registers of a set saved before a call and restored after it, from code.rs. The first `used` go to free registers from `first` on,
 // the others are pushed; an even number of pushes takes 8 more bytes of the stack.
-ghost use mathlib.Core.Path.{_≡_};
-ghost use mathlib.Core.List.{[]};
-ghost use Prim.Native.Nat.{_+_, _-_, _*_, _≤_, _<_, _^_};
+ghost use mathlib.Core.Path.{_≡_, refl};
+ghost use Prim.Native.Nat.{_+_, _-_, _≤_, _<_, _^_};
 ghost use lib.Count.{ones};
 ghost use lib.ListN.{length, drop};
 ghost use Rattle.emit.specs.Emitted.{fieldsList, Emitted, Emits};
+ghost use Rattle.records.specs.declared.code.Code.the-variants.{ADDI};
 ghost use Rattle.printing.specs.Registers.{members};
-ghost use Rattle.printing.specs.Print.{pops, saveRegisters, restoreRegisters};
+ghost use Rattle.printing.specs.Print.{pops, ifEven, saveRegisters, restoreRegisters};
 ghost use Rattle.printing.specs.Saved.{moveOne, moveAll, popOne};
 use emit::cursor::Cursor;
 use emit::cursor::Row;
@@ -89,4 +89,50 @@ fn pop_all(out: &mut [u8], p: Cursor, set: u16, count: u64, used: u64) -> Cursor
         q = pop_one(out, q, set, used, left, r);
     }
     q
+}
+
+// The pushes are as many as the ones of the set that go to no free register.
+pub fn save_caller_save_registers(
+    out: &mut [u8],
+    p: Cursor,
+    set: u16,
+    first: u64,
+    used: u64,
+) -> Cursor
+    requires { ⌜ (p .at + 408 < 2 ^ 64) × (used ≤ 16 - first) × (used ≤ ones set) ⌝ }
+    ensures { λ q. ⌜ Emits (now (out .entry)) p (now (out .exit)) q (saveRegisters first used (members 16 set)) ⌝ }
+{
+    let count = u16::count_ones(set) as u64;
+    let q = move_all(out, p, false, set, first, used);
+    if (count - used) % 2 == 0 {
+        return emit::cursor::emit(out, q, Row(SUBI, STACK, 0, 0, 0, 8));
+    }
+    q
+}
+
+// The 8 bytes back, where they were taken.
+fn free_alignment(out: &mut [u8], p: Cursor, pushed: u64) -> Cursor
+    requires { ⌜ p .at + 24 < 2 ^ 64 ⌝ }
+    ensures { λ q. ⌜ Emits (now (out .entry)) p (now (out .exit)) q (ifEven pushed (ADDI 0 8) refl) ⌝ }
+{
+    if pushed % 2 == 0 {
+        return emit::cursor::emit(out, p, Row(ADDI, STACK, 0, 0, 0, 8));
+    }
+    p
+}
+
+pub fn restore_caller_save_registers(
+    out: &mut [u8],
+    p: Cursor,
+    set: u16,
+    first: u64,
+    used: u64,
+) -> Cursor
+    requires { ⌜ (p .at + 792 < 2 ^ 64) × (used ≤ 16 - first) × (used ≤ ones set) ⌝ }
+    ensures { λ q. ⌜ Emits (now (out .entry)) p (now (out .exit)) q (restoreRegisters first used (members 16 set)) ⌝ }
+{
+    let count = u16::count_ones(set) as u64;
+    let q = move_all(out, p, true, set, first, used);
+    let s = free_alignment(out, q, count - used);
+    pop_all(out, s, set, count, used)
 }
