@@ -30,7 +30,7 @@ pub fn registers_to_save(context: &[u8], n: usize) -> u16
 
 // The first register that no variable has, from 12 on.
 pub fn first_backup_register(n: usize) -> u64
-    requires { ⌜ n < 2147483648 ⌝ }
+    requires { ⌜ n ≤ 4096 ⌝ }
     ensures { λ r. ⌜ r ≡ firstBackup n ⌝ }
 {
     if n < 4 {
@@ -41,7 +41,7 @@ pub fn first_backup_register(n: usize) -> u64
 
 // How many of so many registers go to free ones.
 pub fn backup_registers_used(n: usize, count: u64) -> u64
-    requires { ⌜ n < 2147483648 ⌝ }
+    requires { ⌜ n ≤ 4096 ⌝ }
     ensures { λ r. ⌜ r ≡ backupsUsed n count ⌝ }
 {
     let first = first_backup_register(n);

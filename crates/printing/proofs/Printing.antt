@@ -1,0 +1,23 @@
+-- The records with the registers of the set are print_i64's; and its answer.
+use Prim.Native.Nat.{ℕ, _<_}
+use mathlib.Core.Path.{_≡_, refl, sym, ap, _∙_}
+use mathlib.Core.Bool.{Bool}
+use mathlib.Core.List.{List}
+use lib.Count.{ones}
+use lib.ListN.{length}
+use Rattle.emit.specs.declared.cursor.Cursor.{Cursor}
+use Rattle.emit.specs.Emitted.{Emits}
+use Rattle.layout.specs.Config.{Config}
+use Rattle.printing.specs.Registers.{registersToSave, setOf, members, firstBackup, backupsUsed}
+use Rattle.printing.specs.Print.{printSaving, printI64}
+use Rattle.printing.proofs.Sets.{ones-members, members-saved}
+
+-- the set is that of the registers to save, and its ones say how many go to free registers
+pub printed : {o o′ : List ℕ} {p q : Cursor} (g : Config) (newline : Bool) (w : ℕ) (ext : ℕ → Bool) (n : ℕ) {set first used : ℕ} → set < 65536
+    → set ≡ setOf (registersToSave ext n) → first ≡ firstBackup n → used ≡ backupsUsed n (ones set)
+    → Emits o p o′ q (printSaving g newline w first used (members 16 set))
+    → Emits o p o′ q (printI64 g newline w ext n)
+printed g newline w ext n {set} h es ef eu d =
+    let m : members 16 set ≡ registersToSave ext n = ap (members 16) es ∙ members-saved ext n in
+    let k = eu ∙ ap (backupsUsed n) (ones-members set h ∙ ap length m) in
+    rw (m, ef, k) at d
