@@ -94,7 +94,14 @@ fn print_checked(out: &mut [u8], newline: bool, w: u64, context: &[u8], n: usize
         return Answer::Operand;
     }
     let mut none = [0u8; 1];
-    let need = emit_print_i64(&mut none, Cursor { at: 0, counter: 0 }, newline, w, context, n);
+    let need = emit_print_i64(
+        &mut none,
+        Cursor { at: 0, counter: 0 },
+        newline,
+        w,
+        context,
+        n,
+    );
     let answer = emit::answer::grant(0, out.len(), need);
     if emit::answer::is_written(answer) {} else {
         return answer;
