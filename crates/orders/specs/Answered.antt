@@ -1,0 +1,110 @@
+-- What an order is answered with, on every input. From document 01, 'Causes and numbers', in rising order.
+use Prim.Native.Nat.{ℕ, _+_, _*_, _/_}
+use mathlib.Core.Bool.{Bool, true, false, cond}
+use mathlib.Core.List.{List, [], _∷_}
+use lib.Dec.{ltb, leb, eqb}
+use lib.ListN.{length}
+use lib.Seq.{sets}
+use Rattle.records.specs.declared.check.Checked.{Checked}
+use Rattle.records.specs.declared.check.Checked.the-variants as checked
+use Rattle.records.specs.declared.code.Code.{Code}
+use Rattle.records.specs.declared.order.Order.{Order}
+use Rattle.records.specs.Contexts.{checkedContext}
+use Rattle.records.specs.Orders.{orderOf, orderIn, orderStarts}
+use Rattle.records.specs.ReadBack.{joined, codeBytes}
+use Rattle.trees.specs.Tree.{Tree, labels, size, flat}
+use Rattle.layout.specs.Config.{Config}
+use Rattle.layout.specs.Positions.{positions}
+use Rattle.memory.specs.Answered.{variablesIn}
+use Rattle.orders.specs.declared.answer.Answer.{Answer}
+use Rattle.orders.specs.declared.answer.Answer.the-variants.{Accepted, Context, Malformed, Missing, Kind, Count, Position, Labels, Room}
+use Rattle.orders.specs.Writes.{wanted, countOk, treeOf, contextAfter, present, kindsOk, asked}
+
+-- document 01's number and values for each answer, nothing where the order is accepted
+abbrev pub causeOf : Answer → List ℕ
+causeOf (Accepted records counter bindings) = []
+causeOf Context = 1 ∷ []
+causeOf (Malformed place) = 2 ∷ place ∷ []
+causeOf Missing = 4 ∷ []
+causeOf Kind = 5 ∷ []
+causeOf Count = 7 ∷ []
+causeOf Position = 8 ∷ []
+causeOf Labels = 9 ∷ []
+causeOf (Room bytes) = 10 ∷ bytes ∷ []
+
+abbrev pub accepted : Answer → Bool
+accepted (Accepted records counter bindings) = true
+accepted Context = false
+accepted (Malformed place) = false
+accepted Missing = false
+accepted Kind = false
+accepted Count = false
+accepted Position = false
+accepted Labels = false
+accepted (Room bytes) = false
+
+-- what goes in with an order: its bytes, those of the bindings that follow it, the label counter, and how many bytes the two outputs have
+pub record Asked : Type 0 where
+  pub order : List ℕ
+  pub bindings : List ℕ
+  pub counter : ℕ
+  pub recordsRoom : ℕ
+  pub contextRoom : ℕ
+
+-- the order in record 1
+abbrev pub orderIs : Asked → Order
+orderIs q = orderOf (orderIn (q .order))
+
+-- how many variables a context has
+abbrev pub placesIn : List ℕ → ℕ
+placesIn context = variablesIn (checkedContext context)
+
+-- the records of an order as a tree, and the context after it
+abbrev pub orderTree : Config → List ℕ → Asked → Tree
+orderTree g context q = treeOf g context (placesIn context) (q .bindings) (orderIs q)
+
+abbrev pub orderContext : List ℕ → Asked → List ℕ
+orderContext context q = contextAfter context (placesIn context) (q .bindings) (orderIs q)
+
+-- 9 and 10: records of t, and the context after them
+abbrev pub granted : Asked → Tree → List ℕ → Answer
+granted q t after =
+    cond (ltb 2147483647 (q .counter + labels t)) Labels
+    (cond (ltb (q .recordsRoom) (24 * size t)) (Room (24 * size t))
+    (cond (ltb (q .contextRoom) (length after)) (Room (length after)) (Accepted (size t) (q .counter + labels t) (length after / 8))))
+
+-- 4 to 10, for a well-formed order on k variables
+abbrev pub decided : Config → List ℕ → ℕ → Asked → Answer
+decided g context k q =
+    cond (present context k (q .bindings) (orderIs q))
+    (cond (kindsOk context k (q .bindings) (orderIs q))
+    (cond (countOk (orderIs q))
+    (cond (leb (asked context k (q .bindings) (orderIs q)) (positions g))
+    (granted q (treeOf g context k (q .bindings) (orderIs q)) (contextAfter context k (q .bindings) (orderIs q)))
+    Position) Count) Kind) Missing
+
+abbrev pub onContext : Checked → (ℕ → Answer) → Answer
+onContext (checked.Good k) answer = answer k
+onContext (checked.Malformed place) answer = Context
+
+-- 1 for the context and the bindings, 2 for the order: record 1, the number of its bindings, a record too many
+unfoldable pub answerTo : Config → List ℕ → Asked → Answer
+answerTo g context q =
+    onContext (checkedContext context)
+    (λ k. onContext (checkedContext (q .bindings))
+    (λ m. cond (orderStarts (q .order))
+    (cond (eqb m (wanted (orderIs q)))
+    (cond (eqb (length (q .order)) 24) (decided g context k q) (Malformed 2))
+    (Malformed 1))
+    (Malformed 1)))
+
+-- the records' bytes
+abbrev pub recordsOf : Config → List ℕ → Asked → List ℕ
+recordsOf g context q = joined codeBytes (flat (orderTree g context q) (q .counter))
+
+-- the two outputs: what is written from their start where the order is accepted, else as they were
+abbrev pub recordsOutput : Config → List ℕ → Asked → List ℕ → List ℕ
+recordsOutput g context q o = cond (accepted (answerTo g context q)) (sets o 0 (recordsOf g context q)) o
+
+abbrev pub contextOutput : Config → List ℕ → Asked → List ℕ → List ℕ
+contextOutput g context q o = cond (accepted (answerTo g context q)) (sets o 0 (orderContext context q)) o

@@ -1,0 +1,48 @@
+-- The plain machine that never frees, fed the orders that were accepted. From document 01, 'Plain machine of demand 3'.
+use Prim.Native.Nat.{ℕ, suc, _-_}
+use mathlib.Core.Bool.{Bool, true, false, not, _&&_, cond}
+use lib.Dec.{eqb}
+use Prim.Native.Nat.{_^_}
+use Rattle.records.specs.declared.order.Operation.{Operation}
+use Rattle.records.specs.declared.order.Operation.the-variants.{Add, Sub, Mul, Div, Rem}
+use Rattle.records.specs.declared.order.Order.{Order}
+use Rattle.records.specs.declared.order.Order.the-variants.{Put, Compute, Copy, Drop, Store, Load, Print}
+use Rattle.word.specs.Words.{sum, difference, product, quotient, remainder}
+use Rattle.heap.specs.Values.{Value, integer, object, Values, nil, cons, countOf, joined, firstOf, restOf, valueAt, copies}
+
+-- a value's integer, and its list
+abbrev pub integerOf : Value → ℕ
+integerOf (integer w) = w
+integerOf (object tag vs) = 0
+
+abbrev pub listOf : Value → Values
+listOf (integer w) = nil
+listOf (object tag vs) = vs
+
+-- wrapped at 2^64; quotients and remainders are signed and truncate toward zero
+abbrev pub result : Operation → ℕ → ℕ → ℕ
+result Add x y = sum x y
+result Sub x y = difference x y
+result Mul x y = product x y
+result Div x y = quotient x y
+result Rem x y = remainder x y
+
+-- no division by zero, nor of −2^63 by −1
+abbrev pub divisible : ℕ → ℕ → Bool
+divisible x y = not (eqb y 0) && not (eqb x (2 ^ 63) && eqb y (2 ^ 64 - 1))
+
+abbrev pub resultDefined : Operation → ℕ → ℕ → Bool
+resultDefined Add x y = true
+resultDefined Sub x y = true
+resultDefined Mul x y = true
+resultDefined Div x y = divisible x y
+resultDefined Rem x y = divisible x y
+
+unfoldable pub plainly : Order → Values → Values
+plainly (Put value) vs = joined vs (cons (integer value) nil)
+plainly (Compute operation a b) vs = joined vs (cons (integer (result operation (integerOf (valueAt a vs)) (integerOf (valueAt b vs)))) nil)
+plainly (Copy a n) vs = joined vs (copies n (valueAt a vs))
+plainly Drop vs = firstOf (countOf vs - 1) vs
+plainly (Store n tag) vs = joined (firstOf (countOf vs - n) vs) (cons (object tag (restOf (countOf vs - n) vs)) nil)
+plainly (Load n) vs = joined (firstOf (countOf vs - 1) vs) (listOf (valueAt (countOf vs - 1) vs))
+plainly (Print newline a) vs = vs

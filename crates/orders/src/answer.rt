@@ -1,0 +1,22 @@
+// What an order is answered with.
+
+// Accepted, with the number of records, the counter after them and the number of bindings in the context after them; or refused, by document 01's causes.
+pub enum Answer {
+    Accepted(usize, u64, usize),
+    // 1: the context or the bindings
+    Context,
+    // 2: the order, or the number of its bindings, with the record's place
+    Malformed(usize),
+    // 4: a place that is not in the context, or more to store than there is
+    Missing,
+    // 5: a variable of the wrong kind
+    Kind,
+    // 7: a copy's count
+    Count,
+    // 8: a position past the last
+    Position,
+    // 9: labels
+    Labels,
+    // 10: an output is too short, with the bytes needed
+    Room(usize),
+}
