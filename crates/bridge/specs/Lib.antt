@@ -1,3 +1,4 @@
 -- What the trees of memory.rs do to the abstract heap.
 pub mod Shown  -- the heap that a configuration's words show
 pub mod Erasing  -- a pointer erased, and the children of HEAP's block
+pub mod Acquiring  -- a block taken
