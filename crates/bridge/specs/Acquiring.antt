@@ -1,5 +1,4 @@
 -- Taking a block does the abstract heap's acquire: the block is in the target, HEAP goes on, and no field changes.
--- not TEMP, HEAP or FREE
 use mathlib.Core.Bool.{Bool, true, false, cond}
 use mathlib.Core.List.{List, [], _∷_, _++_}
 use mathlib.Core.Logic.{_≢_}
@@ -33,6 +32,7 @@ use Rattle.positions.specs.Runs.{Does, one, then, go, weaken, if-yes, if-no}
 use Rattle.bridge.specs.Erasing.{children-does}
 use Rattle.bridge.specs.Shown.{L, SameFields, head-same, head-off, head-fields, head-cells}
 
+-- not TEMP, HEAP or FREE
 abbrev pub Low : ℕ → Type 0
 Low l = (l ≢ 1) × (l ≢ 2) × (l ≢ 3)
 

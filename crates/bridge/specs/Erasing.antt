@@ -1,5 +1,4 @@
 -- Erasing a pointer does the abstract heap's erase, and so for the children of HEAP's block.
--- a block of the heap, whose count is far from 2^64
 use mathlib.Core.List.{List, _∷_, _++_}
 use mathlib.Core.Logic.{_≢_, _⊎_, inl, inr}
 use mathlib.Core.Path.{_≡_, refl, sym, _∙_, ap}
@@ -30,6 +29,7 @@ use Rattle.positions.specs.RecordLemmas.{register-MOV, register-compared, block
 use Rattle.positions.specs.Runs.{Does, one, then, go, weaken, skip-yes, skip-no, if-yes, if-no}
 use Rattle.bridge.specs.Shown.{L, SameFields, head-same, head-off, head-fields, cells-pointers, minus-one, nothing-after, grouped, alike}
 
+-- a block of the heap, whose count is far from 2^64
 pub record Block (N : ℕ) (m : ℕ → ℕ) (p : ℕ) : Type 0 where
   pub i : ℕ
   pub is : p ≡ blockAddress i

@@ -1,4 +1,6 @@
 -- What the trees of memory.rs do to the abstract heap.
 pub mod Shown  -- the heap that a configuration's words show
+pub mod Variables  -- the variables of a context as cells
 pub mod Erasing  -- a pointer erased, and the children of HEAP's block
 pub mod Acquiring  -- a block taken
+pub mod Storing  -- values into the fields of HEAP's block
