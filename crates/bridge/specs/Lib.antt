@@ -4,3 +4,4 @@ pub mod Variables  -- the variables of a context as cells
 pub mod Erasing  -- a pointer erased, and the children of HEAP's block
 pub mod Acquiring  -- a block taken
 pub mod Storing  -- values into the fields of HEAP's block
+pub mod StoringBlock  -- a block written whole and taken
