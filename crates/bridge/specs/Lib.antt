@@ -5,3 +5,5 @@ pub mod Erasing  -- a pointer erased, and the children of HEAP's block
 pub mod Acquiring  -- a block taken
 pub mod Storing  -- values into the fields of HEAP's block
 pub mod StoringBlock  -- a block written whole and taken
+pub mod Sizes  -- how many values each block of an object holds
+pub mod StoringObject  -- a store of one value or more
