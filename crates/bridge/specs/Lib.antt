@@ -7,3 +7,7 @@ pub mod Storing  -- values into the fields of HEAP's block
 pub mod StoringBlock  -- a block written whole and taken
 pub mod Sizes  -- how many values each block of an object holds
 pub mod StoringObject  -- a store of one value or more
+pub mod StoreOrder  -- a store of any number of values performs the order
+pub mod Sharing  -- a pointer shared
+pub mod ReachedBlocks  -- what pointers lead to may be followed
+pub mod DropOrder  -- a drop performs the order, and a share what copies ask

@@ -1,4 +1,5 @@
 -- The abstract heap that a configuration's words show, for blocks of 3 fields, and what the change of one word leaves of it.
+use mathlib.Core.List.{List}
 use mathlib.Core.Logic.{_≢_}
 use mathlib.Core.Path.{_≡_, refl, _∙_}
 use Prim.Native.Nat.{ℕ, suc, _+_, _*_, _≤_, _<_}
@@ -9,7 +10,7 @@ use Rattle.trees.specs.Tree.{Tree, nop, seq}
 use Rattle.instructions.specs.Step.{Config}
 use Rattle.instructions.specs.View.{upd}
 use Rattle.structured.specs.Evaluation.{Evaluated, done, faulted, andThen, evaluate}
-use Rattle.heap.specs.Blocks.{Layout, pointers, Memory}
+use Rattle.heap.specs.Blocks.{Layout, Cell, pointers, Memory}
 use Rattle.heap.specs.CountingLemmas.{pointers-length}
 use Rattle.heap.specs.WordLemmas.{layout, header-at, cells-length, header-off, fields-all}
 use Rattle.heap.specs.Words.{headers, cellsFrom, blockFields, memoryOf}
@@ -47,6 +48,11 @@ cells-pointers m j t n = pointers-length (cellsFrom 3 m j t n) ∙ cells-length 
 pub minus-one : (x : ℕ) → x ≢ 0 → x < 18446744073709551616 → suc (sum x 18446744073709551615) ≡ x
 unfolding sum
 minus-one x n h = omega arith
+
+-- the same fields and heads of lists
+pub memory-is : (f f′ : ℕ → List Cell) (h : ℕ → ℕ) (a a′ b b′ : ℕ) → f′ ≡ f → a′ ≡ a → b′ ≡ b
+    → _≡_ {A = Memory} (record { fields = f; header = h; linear-head = a; lazy-head = b }) (record { fields = f′; header = h; linear-head = a′; lazy-head = b′ })
+memory-is f f′ h a a′ b b′ x y z = rw (x, y, z)
 
 -- parts of a sequence taken together the other way
 module _ (words : ℕ → ℕ) where

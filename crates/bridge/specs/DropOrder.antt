@@ -1,0 +1,116 @@
+-- Erasing the last variable's pointer performs the drop order; sharing a variable's pointer makes room for its copies.
+use mathlib.Core.Bool.{Bool, true, false, cond}
+use mathlib.Core.List.{List, [], _∷_, _++_}
+use mathlib.Core.Logic.{_≢_, inl, inr}
+use mathlib.Core.Path.{_≡_, refl, sym, _∙_, ap}
+use Prim.Native.Nat.{ℕ, suc, _+_, _-_, _*_, _≤_, _<_}
+use native.Mathlib.Decide.{ℕ-discrete}
+use native.Mathlib.Nat.{zero-add}
+use native.Mathlib.Omega.{arith}
+use lib.Dec.{ltb}
+use lib.ListN.{length, replicate, length-append}
+use borrow.Author.Tests.{ltb-true, ltb-false}
+use Rattle.records.specs.declared.code.Code.the-variants.{MOVL}
+use Rattle.trees.specs.Tree.{leaf, seq}
+use Rattle.layout.specs.Config.{base, stackOffset}
+use Rattle.layout.specs.Positions.{location}
+use Rattle.instructions.specs.Step.{Config}
+use Rattle.memory.specs.Blocks.{eraseRegister, eraseBlock, shareBlock}
+use Rattle.heap.specs.Blocks.{Cell, pointers}
+use Rattle.heap.specs.Counting.{occ}
+use Rattle.heap.specs.CountingLemmas.{same-self, split, occ-pointers, pointers-length}
+use Rattle.heap.specs.Invariant.{Represents}
+use Rattle.heap.specs.Operations.{Erase, null, withHeaders, withLazy, Share}
+use Rattle.heap.specs.Orders.{drop, Performs, drops}
+use Rattle.heap.specs.Reachability.{start}
+use Rattle.heap.specs.Values.{Values}
+use Rattle.heap.specs.WordLemmas.{fields-all}
+use Rattle.heap.specs.Words.{headers, blockFields}
+use Rattle.positions.specs.Held.{held, withRegister, Keeps, Placed}
+use Rattle.positions.specs.HeldLemmas.{held-register, keeps-refl, keeps-trans, keeps-sub, keeps-put, keeps-register, placed-keeps, location-fits}
+use Rattle.positions.specs.RecordLemmas.{spill-MOVL}
+use Rattle.positions.specs.Runs.{Does, go, so}
+use Rattle.bridge.specs.Erasing.{Pointer, erase-does}
+use Rattle.bridge.specs.ReachedBlocks.{reachable-block}
+use Rattle.bridge.specs.Sharing.{Shareable, share-at}
+use Rattle.bridge.specs.Shown.{L, heapOf, memory-is}
+use Rattle.bridge.specs.Sizes.{objectSizes}
+use Rattle.bridge.specs.Variables.{variable, variables, variables-append, variables-length, variables-pointers, variables-kept}
+
+-- an integer is dropped without code
+pub drop-integer : (ext : ℕ → Bool) (s : Config) (e : ℕ) → ext e ≡ true → Performs objectSizes L (heapOf s) drop (variables ext s 0 e ++ (variable ext s e ∷ [])) (heapOf s) (variables ext s 0 e)
+drop-integer ext s e k = drops (variables ext s 0 e) (variable ext s e) (headers 3 (s .state .mem)) (s .state .reg 3) (null (rw k) refl)
+
+-- few roots, whatever the context
+few-roots : (ext : ℕ → Bool) (s : Config) (e : ℕ) → e < 133 → length (pointers (variables ext s 0 e ++ (variable ext s e ∷ []))) ≤ 1048576
+few-roots ext s e h = omega (arith, pointers-length (variables ext s 0 e ++ (variable ext s e ∷ [])), length-append (variables ext s 0 e) (variable ext s e ∷ []), variables-length ext s 0 e)
+
+module _ (words : ℕ → ℕ) where
+  pub drop-order : {N m : ℕ} {values : Values} (ext : ℕ → Bool) (s : Config) (e : ℕ) → Placed N s → m ≤ N → e < 133 → ext e ≡ false
+      → Represents objectSizes L (heapOf s) m (variables ext s 0 e ++ (variable ext s e ∷ [])) values
+      → Does words (eraseBlock base (location (2 * e))) s
+        (λ u. Performs objectSizes L (heapOf s) drop (variables ext s 0 e ++ (variable ext s e ∷ [])) (heapOf u) (variables ext u 0 e) × Keeps (λ x. (x ≢ 1) × (x ≢ 3)) s u)
+  drop-order {N} {m} {values} ext s e en mN e1 linked rep = by (ltb (location (2 * e)) 16) refl
+    where
+      fst-held : variable ext s e .fst ≡ held s (location (2 * e))
+      fst-held = rw linked
+
+      pointer : Dec (variable ext s e .fst ≡ 0) → Pointer N (s .state .mem) (variable ext s e .fst)
+      pointer (yes z) = inl z
+      pointer (no nz) =
+          inr (reachable-block s (rep .consistent) mN (en .fits) (few-roots ext s e e1) (variable ext s e .fst)
+            (start nz (omega (arith, occ-pointers (variable ext s e .fst) (variables ext s 0 e) (variable ext s e ∷ []), same-self (variable ext s e .fst)))))
+
+      fits : (4 ≤ location (2 * e)) × (location (2 * e) < 272) × (location (2 * e) ≢ 16)
+      fits = location-fits (2 * e) (omega arith)
+
+      -- where register b has the pointer and r is s but for TEMP
+      end : (r : Config) (b : ℕ) → b ≢ 3 → r .state .mem ≡ s .state .mem → r .state .reg 2 ≡ s .state .reg 2 → r .state .reg 3 ≡ s .state .reg 3 → Keeps (λ x. x ≢ 1) s r → r .state .reg b ≡ held s (location (2 * e))
+          → Does words (eraseRegister b) r (λ u. Performs objectSizes L (heapOf s) drop (variables ext s 0 e ++ (variable ext s e ∷ [])) (heapOf u) (variables ext u 0 e) × Keeps (λ x. (x ≢ 1) × (x ≢ 3)) s u)
+      end r b b3 em e2 e3 kr rb =
+          let er : Placed N r = placed-keeps (omega arith) kr en in
+          let pr : Pointer N (r .state .mem) (r .state .reg b) = rw (em, rb, ← fst-held) (pointer (ℕ-discrete (variable ext s e .fst) 0)) in
+          so (erase-does words r b er b3 pr) (λ u x.
+            let fu : blockFields 3 (u .state .mem) ≡ blockFields 3 (s .state .mem) = fields-all 3 (r .state .mem) (u .state .mem) (x .0 .fields) ∙ ap (blockFields 3) em in
+            let two : u .state .reg 2 ≡ s .state .reg 2 = keeps-register (x .1) 2 (omega arith) (omega arith) ∙ e2 in
+            let did : Erase (variable ext s e .fst) (headers 3 (s .state .mem)) (s .state .reg 3) (headers 3 (u .state .mem)) (u .state .reg 3) = rw (rb, ← fst-held, em, e3) at (x .0 .did) in
+            let ks : Keeps (λ y. (y ≢ 1) × (y ≢ 3)) s u = keeps-trans (keeps-sub (λ y d. d .0) kr) (keeps-sub (λ y d. d .1) (x .1)) in
+            let vs : variables ext u 0 e ≡ variables ext s 0 e = variables-kept ext s u 0 e (omega arith) (λ p a b. omega (arith, location-fits p (omega arith) .0)) ks in
+            let p : Performs objectSizes L (heapOf s) drop (variables ext s 0 e ++ (variable ext s e ∷ [])) (withLazy (heapOf s) (headers 3 (u .state .mem)) (u .state .reg 3)) (variables ext s 0 e)
+              = drops (variables ext s 0 e) (variable ext s e) (headers 3 (u .state .mem)) (u .state .reg 3) did in
+            (rw (vs, fu, two) p, ks))
+
+      by : (c : Bool) → ltb (location (2 * e)) 16 ≡ c → Does words (cond c (eraseRegister (location (2 * e))) (seq (leaf (MOVL 1 0 (stackOffset base (location (2 * e)))) refl) (eraseRegister 1))) s
+          (λ u. Performs objectSizes L (heapOf s) drop (variables ext s 0 e ++ (variable ext s e ∷ [])) (heapOf u) (variables ext u 0 e) × Keeps (λ x. (x ≢ 1) × (x ≢ 3)) s u)
+      by true q = end s (location (2 * e)) (omega (arith, fits .0)) refl refl refl keeps-refl (sym (held-register (s .state .reg) (s .state .stk) (location (2 * e)) (ltb-true (location (2 * e)) 16 q)))
+      by false q =
+          go (spill-MOVL words s en (location (2 * e)) (ltb-false (location (2 * e)) 16 q) (fits .1) 1)
+          (end (withRegister s 1 (held s (location (2 * e)))) 1 (omega arith) refl refl refl (keeps-put 1 (held s (location (2 * e))) (λ x y. y) keeps-refl) refl)
+
+  -- variable a's pointer shared n times: the heap with other counts, as n copies of it ask
+  pub share-performs : {N m : ℕ} {values : Values} (ext : ℕ → Bool) (s : Config) (e a n : ℕ) → Placed N s → m ≤ N → a < e → e ≤ 133 → n ≤ 1048576 → ext a ≡ false
+      → Represents objectSizes L (heapOf s) m (variables ext s 0 e) values
+      → Does words (shareBlock base (location (2 * a)) n) s
+        (λ u. Share (replicate n (variable ext s a .fst)) (headers 3 (s .state .mem)) (headers 3 (u .state .mem)) × (heapOf u ≡ withHeaders (heapOf s) (headers 3 (u .state .mem))) × Keeps (λ x. x ≢ 1) s u)
+  share-performs {N} ext s e a n en mN ae eN nN linked rep =
+      let f = location-fits (2 * a) (omega arith) in
+      let p : variable ext s a .fst ≡ held s (location (2 * a)) = rw linked in
+      so (share-at words s (location (2 * a)) n en (f .0) (f .1) (λ nz. room nz)) (λ u x.
+        let two : u .state .reg 2 ≡ s .state .reg 2 = keeps-register (x .1) 2 (omega arith) (omega arith) in
+        let three : u .state .reg 3 ≡ s .state .reg 3 = keeps-register (x .1) 3 (omega arith) (omega arith) in
+        (rw p (x .0 .counts),
+         memory-is (blockFields 3 (u .state .mem)) (blockFields 3 (s .state .mem)) (headers 3 (u .state .mem)) (u .state .reg 2) (s .state .reg 2) (u .state .reg 3) (s .state .reg 3) (sym (fields-all 3 (s .state .mem) (u .state .mem) (x .0 .fields))) (sym two) (sym three),
+         x .1))
+    where
+      among : occ (variable ext s a .fst) (pointers (variables ext s 0 e)) ≢ 0
+      among =
+          let q : ℕ = variable ext s a .fst in
+          let n : e ≡ a + suc (e - suc a) = omega arith in
+          let split : variables ext s 0 e ≡ variables ext s 0 a ++ (variable ext s a ∷ variables ext s (suc a) (e - suc a)) = ap (variables ext s 0) n ∙ variables-append ext s 0 a (suc (e - suc a)) ∙ ap (λ (x : ℕ). variables ext s 0 a ++ variables ext s x (suc (e - suc a))) (zero-add a) in
+          omega (arith, ap (λ (x : List Cell). occ q (pointers x)) split, occ-pointers q (variables ext s 0 a) (variable ext s a ∷ variables ext s (suc a) (e - suc a)), same-self q)
+
+      room : Shareable N (s .state .mem) n (held s (location (2 * a)))
+      room nz =
+          let p : variable ext s a .fst ≡ held s (location (2 * a)) = rw linked in
+          let b = reachable-block s (rep .consistent) mN (en .fits) (omega (arith, variables-pointers ext s 0 e)) (variable ext s a .fst) (start (λ z. nz (sym p ∙ z)) among) in
+          (b .i, b .lt, sym p ∙ b .is, omega (arith, b .small))
