@@ -1,0 +1,189 @@
+-- Demand 3: the heap stays sound for every list of orders. One claim on the whole list; this file and the definitions it cites are all that it says.
+-- `answerTo`, `recordsOf` and `orderContext` are what the contract of the order function cites, and `ran` is what the contract of the machine's run cites.
+-- From document 01, 'Order record', 'Plain machine of demand 3' and the lines on the heap in 'Instruction record'.
+use Prim.Native.Nat.{ℕ, zero, suc, _+_, _*_, _-_, _≤_, _<_}
+use mathlib.Core.Path.{_≡_}
+use mathlib.Core.Bool.{Bool, true, false, not, _&&_, cond}
+use mathlib.Core.List.{List, [], _∷_}
+use lib.ListN.{length, replicate}
+use Rattle.records.specs.declared.check.Checked.the-variants.{Good}
+use Rattle.records.specs.declared.order.Order.{Order}
+use Rattle.records.specs.declared.order.Order.the-variants.{Put, Compute, Copy, Drop, Store, Load, Print}
+use Rattle.records.specs.Contexts.{checkedContext}
+use Rattle.records.specs.ReadBack.{Bytes}
+use Rattle.trees.specs.Tree.{size}
+use Rattle.layout.specs.Config.{base, HEAP, FREE}
+use Rattle.layout.specs.Positions.{location}
+use Rattle.printing.specs.Print.{printName}
+use Rattle.printing.specs.Registers.{extAt}
+use Rattle.instructions.specs.View.{View}
+use Rattle.instructions.specs.Step.{Call}
+use Rattle.machine.specs.declared.run.Answer.the-variants.{Ended}
+use Rattle.machine.specs.State.{see, freshState}
+use Rattle.machine.specs.Run.{Done, ran}
+use Rattle.heap.specs.Blocks.{Cell, Layout, Memory}
+use Rattle.heap.specs.Values.{Value, integer, object, Values, nil, cons, countOf, valueAt}
+use Rattle.heap.specs.Words.{memoryOf}
+use Rattle.heap.specs.WordLemmas.{layout}
+use Rattle.heap.specs.Orders.{State}
+use Rattle.heap.specs.Claims.{HeapAfter}
+use Rattle.positions.specs.Held.{heldIn}
+use Rattle.bridge.specs.Sizes.{objectSizes}
+use Rattle.bridge.specs.Variables.{variablesIn}
+use Rattle.orders.specs.Answered.{Asked, accepted, orderIs, placesIn, orderTree, orderContext, answerTo, recordsOf}
+use Rattle.orders.specs.Plain.{integerOf, resultDefined, plainly}
+
+-- one item of a list: any bytes as order and bindings, any counter and output lengths, any nine words
+pub record Item : Type 0 where
+  pub asked : Asked
+  pub order-bytes : Bytes (asked .order)
+  pub bindings-bytes : Bytes (asked .bindings)
+  pub words : ℕ → ℕ
+
+-- the context that was answered last, and the registers, stack and heap that the last run left
+pub record Channel : Type 0 where
+  pub context : List ℕ
+  pub view : View
+
+-- the fresh routine, on a zeroed heap of so many blocks
+abbrev pub fresh : ℕ → Channel
+fresh blocks = record { context = []; view = see freshState (replicate (8 * blocks) 0) }
+
+abbrev pub isAccepted : Channel → Item → Bool
+isAccepted ch it = accepted (answerTo base (ch .context) (it .asked))
+
+-- how many records an order has, and their run with that number as the step limit
+abbrev pub recordCount : Channel → Item → ℕ
+recordCount ch it = size (orderTree base (ch .context) (it .asked))
+
+abbrev pub runOf : Channel → Item → Done
+runOf ch it = ran (it .words) (recordsOf base (ch .context) (it .asked)) (recordCount ch it) (ch .view)
+
+-- an accepted order's context and what its run leaves; a refused order leaves all as it was
+abbrev pub next : Channel → Item → Channel
+next ch it = cond (isAccepted ch it) (record { context = orderContext (ch .context) (it .asked); view = runOf ch it .last .state }) ch
+
+-- a variable for each value, of its kind: `ext v` says that variable v is an integer
+abbrev pub KindsFrom : (ℕ → Bool) → ℕ → Values → Type 0
+KindsFrom ext v nil = Unit {0}
+KindsFrom ext v (cons (integer w) vs) = (ext v ≡ true) × KindsFrom ext (suc v) vs
+KindsFrom ext v (cons (object tag ws) vs) = (ext v ≡ false) × KindsFrom ext (suc v) vs
+
+-- n bindings name the kinds that an object was stored with
+abbrev pub AsStored : List ℕ → ℕ → Value → Type 0
+AsStored bindings n (integer w) = ⊥
+AsStored bindings n (object tag ws) = (countOf ws ≡ n) × KindsFrom (extAt bindings) 0 ws
+
+-- what the user owes an accepted order: a load's own kinds, and no division fault
+abbrev pub Owed : List ℕ → Order → Values → Type 0
+Owed bindings (Put value) vs = Unit {0}
+Owed bindings (Compute operation a b) vs = resultDefined operation (integerOf (valueAt a vs)) (integerOf (valueAt b vs)) ≡ true
+Owed bindings (Copy a n) vs = Unit {0}
+Owed bindings Drop vs = Unit {0}
+Owed bindings (Store n tag) vs = Unit {0}
+Owed bindings (Load n) vs = AsStored bindings n (valueAt (countOf vs - 1) vs)
+Owed bindings (Print newline a) vs = Unit {0}
+
+-- the blocks that an order acquires
+abbrev pub acquires : Order → ℕ
+acquires (Put value) = 0
+acquires (Compute operation a b) = 0
+acquires (Copy a n) = 0
+acquires Drop = 0
+acquires (Store n tag) = length (objectSizes n)
+acquires (Load n) = 0
+acquires (Print newline a) = 0
+
+-- the print calls that an order makes: the name its flag gives, with the variable's integer in register 7
+abbrev pub callsOf : Order → Values → List Call
+callsOf (Put value) vs = []
+callsOf (Compute operation a b) vs = []
+callsOf (Copy a n) vs = []
+callsOf Drop vs = []
+callsOf (Store n tag) vs = []
+callsOf (Load n) vs = []
+callsOf (Print newline a) vs = record { name = printName newline; number = integerOf (valueAt a vs) } ∷ []
+
+-- whether an order can change variables or heap
+abbrev pub changes : Order → Bool
+changes (Put value) = true
+changes (Compute operation a b) = true
+changes (Copy a n) = true
+changes Drop = true
+changes (Store n tag) = true
+changes (Load n) = true
+changes (Print newline a) = false
+
+-- lists of items have the newest first
+module _ (blocks : ℕ) where
+  -- the channel after a list
+  abbrev pub reached : List Item → Channel
+  reached [] = fresh blocks
+  reached (it ∷ its) = next (reached its) it
+
+  -- the plain machine's values after a list: it is fed the accepted orders
+  abbrev pub values : List Item → Values
+  values [] = nil
+  values (it ∷ its) = cond (isAccepted (reached its) it) (plainly (orderIs (it .asked)) (values its)) (values its)
+
+  -- the blocks that the accepted orders acquire
+  abbrev pub acquired : List Item → ℕ
+  acquired [] = 0
+  acquired (it ∷ its) = cond (isAccepted (reached its) it) (acquires (orderIs (it .asked))) 0 + acquired its
+
+  -- what the user owes each accepted order
+  abbrev pub AllOwed : List Item → Type 0
+  AllOwed [] = Unit {0}
+  AllOwed (it ∷ its) = (isAccepted (reached its) it ≡ true → Owed (it .asked .bindings) (orderIs (it .asked)) (values its)) × AllOwed its
+
+  -- the heap that the words show, HEAP and FREE, the variables as pairs of words, and the plain machine's values
+  abbrev pub stateAfter : List Item → State
+  stateAfter its =
+      let v = reached its .view in
+      let context = reached its .context in
+      record {
+        memory = memoryOf 3 (v .mem) (v .reg HEAP) (v .reg FREE);
+        variables = variablesIn (extAt context) (v .reg) (v .stk) 0 (placesIn context);
+        values = values its;
+      }
+
+  -- the states before, newest first; refused orders and prints leave the state as it was, so it stands once
+  abbrev pub statesBefore : List Item → List State
+  statesBefore [] = []
+  statesBefore (it ∷ its) = cond (isAccepted (reached its) it && changes (orderIs (it .asked))) (stateAfter its ∷ statesBefore its) (statesBefore its)
+
+  -- what holds of the channel after a list
+  pub record SoundChannel (its : List Item) : Type 0 where
+    -- the context has the values' kinds, in sequence
+    pub places : checkedContext (reached its .context) ≡ Good (countOf (values its))
+    pub kinds : KindsFrom (extAt (reached its .context)) 0 (values its)
+    -- every variable holds its value; each block below the frontier is in exactly one of linear list, lazy list and held; held is what pointers reach;
+    -- a held block's count is its pointers less one; the frontier ends FREE's chain and is the first block never held or on HEAP's list
+    pub heap : HeapAfter objectSizes (layout 3) (statesBefore its) (stateAfter its)
+    -- and there is such a block
+    pub frontier-there : heap .frontier < blocks
+
+  -- what holds of the last item's run, if it was accepted
+  pub record Ran (it : Item) (its : List Item) : Type 0 where
+    pub steps : ℕ
+    pub within : steps ≤ recordCount (reached its) it
+    pub ended : runOf (reached its) it .answer ≡ Ended steps
+    pub calls : runOf (reached its) it .last .calls ≡ callsOf (orderIs (it .asked)) (values its)
+
+  abbrev pub LastRan : List Item → Type 0
+  LastRan [] = Unit {0}
+  LastRan (it ∷ its) = isAccepted (reached its) it ≡ true → Ran it its
+
+  -- and that a refused one changed nothing
+  abbrev pub LastRefused : List Item → Type 0
+  LastRefused [] = Unit {0}
+  LastRefused (it ∷ its) = isAccepted (reached its) it ≡ false → reached (it ∷ its) ≡ reached its
+
+  pub record After (its : List Item) : Type 0 where
+    pub sound : SoundChannel its
+    pub ran-on : LastRan its
+    pub refused-kept : LastRefused its
+
+-- after every list of items, on at least two blocks more than the accepted orders acquire
+unfoldable pub HeapStaysSound : Type 0
+HeapStaysSound = (blocks : ℕ) (its : List Item) → 2 + acquired blocks its ≤ blocks → blocks ≤ 1048576 → AllOwed blocks its → After blocks its

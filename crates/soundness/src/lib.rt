@@ -1,0 +1,1 @@
+// Demand 3: the heap stays sound for every list of orders.
