@@ -20,5 +20,6 @@ pub mod LoadLemmas  -- copy, and both loads
 pub mod SoundLemmas  -- consistent is sound; one frontier; counts bounded; the full heap
 pub mod RoomLemmas  -- the number of reachable blocks, and the room that a store needs
 pub mod OrderLemmas  -- each order takes the plain machine's step
+pub mod GrowthLemmas  -- the frontier stays below a bound that leaves room for the blocks acquired
 pub mod RunLemmas  -- the claims, by induction over a run
 pub mod Example  -- a run of three orders

@@ -2,21 +2,23 @@
 -- The fresh heap holds no values.
 use mathlib.Core.Path.{_≡_, refl, ap, _∙_}
 use mathlib.Core.List.{List, [], _∷_, _++_}
-use Prim.Native.Nat.{ℕ, zero, suc, _+_, _-_}
+use Prim.Native.Nat.{ℕ, zero, suc, _+_, _-_, _<_}
 use native.Mathlib.Nat.{sub-zero}
 use native.Mathlib.Omega.{arith}
 use lib.ListN.{length, replicate, length-append}
 use Rattle.heap.specs.Counting.{occ}
 use Rattle.heap.specs.Blocks.{Layout, Cell, cell, pointers, Memory}
 use Rattle.heap.specs.Values.{integer, object, Values, nil, cons, countOf, joined, firstOf, restOf, valueAt, copies, concat, lengths, Object, Holds, HoldAll}
+use Rattle.heap.specs.Reachability.{ReachableCount}
 use Rattle.heap.specs.Operations.{Erase, StoreObject, ReadObject, ReleaseObject, Share, ShareLoad, withHeaders, withLazy}
-use Rattle.heap.specs.Orders.{Order, plain, Legal, Performs, puts, makes-copies, drops, stores-none, stores-some, loads-none, loads-last, loads-shared, Fresh}
-use Rattle.heap.specs.Invariant.{Consistent, Represents, Advanced}
+use Rattle.heap.specs.Orders.{Order, put, copy, drop, store, load, plain, Legal, Performs, puts, makes-copies, drops, stores-none, stores-some, loads-none, loads-last, loads-shared, Fresh}
+use Rattle.heap.specs.Invariant.{Consistent, spare, Stored, Represents, Advanced}
 use Rattle.heap.specs.CountingLemmas.{same-self, same-other, occ-append, occ-pointers}
 use Rattle.heap.specs.OperationLemmas.{named-held}
 use Rattle.heap.specs.ValueLemmas.{object-nonzero, read-is-held, hold-joined, hold-copies, hold-first, hold-rest, hold-at, hold-count, value-unlinked, first-all, rest-all, joined-nil, no-values}
 use Rattle.heap.specs.ConsistencyLemmas.{preserved-values, consistent-same-roots, drop-consistent}
 use Rattle.heap.specs.StoreLemmas.{store-object}
+use Rattle.heap.specs.RoomLemmas.{store-room}
 use Rattle.heap.specs.LoadLemmas.{copy-consistent, shared-load-consistent, release-object}
 
 unfoldable pub represents-fresh : {sizes : ℕ → List ℕ} {L : Layout} {M : Memory} → Fresh L M → Represents sizes L M 1 [] nil
@@ -96,13 +98,21 @@ module _ {sizes : ℕ → List ℕ} {L : Layout} {M : Memory} {m : ℕ} {values 
     holds = hold-joined sizes (M .fields) (s .linked) (firstOf (length xs) values) ws xs (concat chunks) (hold-first sizes (M .fields) (s .linked) xs (c ∷ []) values (s .holds)) a;
   }
 
+-- the roots are those stored and the rest
+stored-roots : (xs ys : List Cell) (b : ℕ) → occ b (pointers (xs ++ ys)) ≡ occ b (pointers ys) + occ b (pointers xs)
+stored-roots xs ys b = omega (arith, occ-pointers b xs ys)
+
+what-is-stored : {sizes : ℕ → List ℕ} {L : Layout} {M M′ : Memory} {m : ℕ} {values : Values} (xs c : List Cell) (chunks : List (List Cell)) (p : ℕ) → StoreObject L M c chunks M′ p
+    → (s : Represents sizes L M m (xs ++ concat (c ∷ chunks)) values) → Stored L M (s .linked) m (spare (s .consistent)) (pointers (xs ++ concat (c ∷ chunks))) M′ p 0 (pointers xs) (c ∷ chunks)
+what-is-stored xs c chunks p st s = store-object (pointers xs) 0 (omega arith) c chunks st (stored-roots xs (concat (c ∷ chunks))) (s .consistent)
+
 module _ {sizes : ℕ → List ℕ} {L : Layout} {M M′ : Memory} {m : ℕ} {values : Values} where
   pub represents-store : (xs c : List Cell) (chunks : List (List Cell)) (p tag : ℕ) → lengths (c ∷ chunks) ≡ sizes (length (concat (c ∷ chunks))) → StoreObject L M c chunks M′ p
       → Represents sizes L M m (xs ++ concat (c ∷ chunks)) values → Advanced sizes L m M′ (xs ++ (cell p tag ∷ [])) (joined (firstOf (length xs) values) (cons (object tag (restOf (length xs) values)) nil))
   unfolding consistent-same-roots
   represents-store xs c chunks p tag shape st s =
       let ys = concat (c ∷ chunks) in
-      let r = store-object (pointers xs) 0 (omega arith) c chunks st (λ b. omega (arith, occ-pointers b xs ys)) (s .consistent) in
+      let r = what-is-stored xs c chunks p st s in
       let linked = r .outcome .linked′ in
       let k = r .outcome .preserved in
       let stored = hold-rest sizes (M .fields) (s .linked) xs ys values (s .holds) in
@@ -149,6 +159,16 @@ module _ {sizes : ℕ → List ℕ} {L : Layout} {M M′ : Memory} {m : ℕ} {va
             (preserved-values (q .preserved) sizes ws ys (λ b nb m. omega (arith, e b)) a);
       }
 
+module _ {sizes : ℕ → List ℕ} {L : Layout} {M : Memory} {m : ℕ} {values : Values} (M′ : Memory) where
+  -- the frontier after a store is below a bound that leaves room for the blocks
+  pub store-below : (xs c : List Cell) (chunks : List (List Cell)) (p tag : ℕ) (shape : lengths (c ∷ chunks) ≡ sizes (length (concat (c ∷ chunks)))) (st : StoreObject L M c chunks M′ p)
+      (s : Represents sizes L M m (xs ++ concat (c ∷ chunks)) values) {k : ℕ} → ReachableCount (M .fields) (pointers (xs ++ concat (c ∷ chunks))) k → (bound : ℕ) → m < bound → suc (k + length (c ∷ chunks)) < bound
+      → represents-store {M′ = M′} xs c chunks p tag shape st s .frontier < bound
+  unfolding represents-store
+  store-below xs c chunks p tag shape st s r bound low room =
+      let ys = concat (c ∷ chunks) in
+      store-room (pointers xs) c chunks st (stored-roots xs ys) (s .consistent) (what-is-stored xs c chunks p st s) r bound low room
+
 -- ---- any order
 
 -- what a load reads is what the variable's object holds
@@ -156,6 +176,14 @@ read-whole : (sizes : ℕ → List ℕ) (fields : ℕ → List Cell) (linked : �
     → lengths (d ∷ chunks) ≡ sizes n → ReadObject fields p d chunks → held ≡ d ∷ chunks
 read-whole sizes fields linked p n d chunks [] o e e′ r = cc
 read-whole sizes fields linked p n d chunks (d′ ∷ held) o e e′ r = read-is-held fields linked p d′ d held chunks o r (cc)
+
+-- how many values an order stores
+abbrev pub storedBy : Order → ℕ
+storedBy (put w) = 0
+storedBy (copy a n) = 0
+storedBy drop = 0
+storedBy (store n tag) = n
+storedBy (load n) = 0
 
 still : {sizes : ℕ → List ℕ} {L : Layout} {M : Memory} {m : ℕ} {variables : List Cell} {values : Values} → Represents sizes L M m variables values → Advanced sizes L m M variables values
 still {m} s = record { frontier = m; represents = s; not-back = omega arith; only-when-full = λ x. absurd (omega arith) }
@@ -182,25 +210,38 @@ module _ {sizes : ℕ → List ℕ} {L : Layout} {M : Memory} {m : ℕ} {values 
       })
   represents-load-none xs c ws (d ∷ chunks) s none z o e = let x : _≡_ {A = ℕ} 0 1 = cc (ap sizes z) in absurd (omega arith)
 
+  -- an order that acquires no block leaves the frontier
+  pub represents-same : {o : Order} {variables variables′ : List Cell} {M′ : Memory} → [] ≡ sizes 0 → Performs sizes L M o variables M′ variables′ → Legal o values → storedBy o ≡ 0
+      → Represents sizes L M m variables values → Represents sizes L M′ m variables′ (plain o values)
+  unfolding plain Legal
+  represents-same none (puts w xs) l k s = represents-put xs w s
+  represents-same none (makes-copies xs ys c n header′ e) l k s = represents-copy xs ys c n header′ e s
+  represents-same none (drops xs c header′ lazy-head′ e) l k s = rw (all-but-last xs c s) (represents-drop xs c header′ lazy-head′ e s)
+  represents-same none (stores-none xs tag) l k s = rw (sub-zero, first-all, rest-all) (represents-store-none xs tag none s)
+  represents-same none (stores-some xs c chunks M′ p tag e st) l k s = let x : _≡_ {A = ℕ} 0 1 = cc in absurd (omega arith)
+  represents-same none (loads-none xs c) l k s =
+      let h = last-object xs c (l .0) (l .1) s (l .2) in
+      rw (l .2, all-but-last xs c s) (represents-load-none xs c (l .1) (h .2) s none (l .3) (h .3) (h .5))
+  represents-same none (loads-last xs c n d chunks M′ e rd z rl) l k s =
+      let h = last-object xs c (l .0) (l .1) s (l .2) in
+      let f : h .2 ≡ d ∷ chunks = read-whole sizes (M .fields) (s .linked) (c .fst) (countOf (l .1)) d chunks (h .2) (h .3) (h .5) (rw (l .3) e) rd in
+      rw (l .2, all-but-last xs c s) (represents-release xs c (l .1) d chunks s (rw f at (h .3)) (rw f at (h .4)) z rl)
+  represents-same none (loads-shared xs c n d chunks header′ e rd q) l k s =
+      let h = last-object xs c (l .0) (l .1) s (l .2) in
+      let f : h .2 ≡ d ∷ chunks = read-whole sizes (M .fields) (s .linked) (c .fst) (countOf (l .1)) d chunks (h .2) (h .3) (h .5) (rw (l .3) e) rd in
+      rw (l .2, all-but-last xs c s) (represents-shared-load xs c (l .1) (d ∷ chunks) header′ s (rw f at (h .3)) (rw f at (h .4)) q)
+
   pub represents-order : {o : Order} {variables variables′ : List Cell} {M′ : Memory} → [] ≡ sizes 0 → Performs sizes L M o variables M′ variables′ → Legal o values
       → Represents sizes L M m variables values → Advanced sizes L m M′ variables′ (plain o values)
   unfolding plain Legal
-  represents-order none (puts w xs) l s = still (represents-put xs w s)
-  represents-order none (makes-copies xs ys c n header′ e) l s = still (represents-copy xs ys c n header′ e s)
-  represents-order none (drops xs c header′ lazy-head′ e) l s = still (rw (all-but-last xs c s) (represents-drop xs c header′ lazy-head′ e s))
-  represents-order none (stores-none xs tag) l s = still (rw (sub-zero, first-all, rest-all) (represents-store-none xs tag none s))
+  represents-order none (puts w xs) l s = still (represents-same none (puts w xs) l refl s)
+  represents-order none (makes-copies xs ys c n header′ e) l s = still (represents-same none (makes-copies xs ys c n header′ e) l refl s)
+  represents-order none (drops xs c header′ lazy-head′ e) l s = still (represents-same none (drops xs c header′ lazy-head′ e) l refl s)
+  represents-order none (stores-none xs tag) l s = still (represents-same none (stores-none xs tag) l refl s)
   represents-order none (stores-some xs c chunks M′ p tag e st) l s =
       let ys = c ++ concat chunks in
       let q : countOf values - length ys ≡ length xs = omega (arith, hold-count sizes (M .fields) (s .linked) values (xs ++ ys) (s .holds), length-append xs ys) in
       rw q (represents-store xs c chunks p tag e st s)
-  represents-order none (loads-none xs c) l s =
-      let h = last-object xs c (l .0) (l .1) s (l .2) in
-      still (rw (l .2, all-but-last xs c s) (represents-load-none xs c (l .1) (h .2) s none (l .3) (h .3) (h .5)))
-  represents-order none (loads-last xs c n d chunks M′ e rd z rl) l s =
-      let h = last-object xs c (l .0) (l .1) s (l .2) in
-      let f : h .2 ≡ d ∷ chunks = read-whole sizes (M .fields) (s .linked) (c .fst) (countOf (l .1)) d chunks (h .2) (h .3) (h .5) (rw (l .3) e) rd in
-      still (rw (l .2, all-but-last xs c s) (represents-release xs c (l .1) d chunks s (rw f at (h .3)) (rw f at (h .4)) z rl))
-  represents-order none (loads-shared xs c n d chunks header′ e rd q) l s =
-      let h = last-object xs c (l .0) (l .1) s (l .2) in
-      let f : h .2 ≡ d ∷ chunks = read-whole sizes (M .fields) (s .linked) (c .fst) (countOf (l .1)) d chunks (h .2) (h .3) (h .5) (rw (l .3) e) rd in
-      still (rw (l .2, all-but-last xs c s) (represents-shared-load xs c (l .1) (d ∷ chunks) header′ s (rw f at (h .3)) (rw f at (h .4)) q))
+  represents-order none (loads-none xs c) l s = still (represents-same none (loads-none xs c) l refl s)
+  represents-order none (loads-last xs c n d chunks M′ e rd z rl) l s = still (represents-same none (loads-last xs c n d chunks M′ e rd z rl) l refl s)
+  represents-order none (loads-shared xs c n d chunks header′ e rd q) l s = still (represents-same none (loads-shared xs c n d chunks header′ e rd q) l refl s)
