@@ -1,0 +1,102 @@
+-- A whole routine around a body of records. From into_routine.rs, function by function, and document 01, 'Causes and numbers': 2 for a record of the body
+-- or one past 65,506, 6 for more than 5 arguments, 10 for the room. The body stands in the output as it was given.
+use Prim.Native.Nat.{ℕ, zero, suc, _+_, _*_}
+use mathlib.Core.Path.{_≡_}
+use mathlib.Core.Bool.{cond}
+use mathlib.Core.List.{List, [], _∷_, _++_}
+use lib.Dec.{ltb}
+use lib.ListN.{length, getD}
+use lib.Seq.{sets}
+use Rattle.records.specs.declared.check.Checked.{Checked}
+use Rattle.records.specs.declared.check.Checked.the-variants.{Good, Malformed}
+use Rattle.records.specs.declared.code.Code.{Code}
+use Rattle.records.specs.declared.code.Code.the-variants.{ADDI, SUBI, MOV, PUSH, POP, RET, LAB, NOEXECSTACK, TEXT, GLOBAL, EXTERN}
+use Rattle.records.specs.Instructions.{checkedCodes}
+use Rattle.records.specs.ReadBack.{joined, codeBytes}
+use Rattle.emit.specs.declared.answer.Answer.{Answer}
+use Rattle.emit.specs.declared.answer.Answer.the-variants.{Body, Arguments}
+use Rattle.emit.specs.Answers.{granted, accepted}
+use Rattle.layout.specs.Config.{Config, base, STACK, HEAP, FREE, blockBytes}
+
+-- the names asm_main, cleanup, PRINT_I64 and PRINTLN_I64
+abbrev ASMMAIN : ℕ
+ASMMAIN = 2147483648
+
+abbrev CLEANUP : ℕ
+CLEANUP = 2147483649
+
+abbrev PRINTI64 : ℕ
+PRINTI64 = 2147483650
+
+abbrev PRINTLNI64 : ℕ
+PRINTLNI64 = 2147483651
+
+-- the register that a function's argument is passed in: rdi, rsi, rdx, rcx, r8, r9
+abbrev pub argument : ℕ → ℕ
+argument n = getD (7 ∷ 6 ∷ 5 ∷ 1 ∷ 8 ∷ 9 ∷ []) n 0
+
+abbrev pub preamble : List Code
+preamble = NOEXECSTACK ∷ TEXT ∷ EXTERN PRINTI64 ∷ EXTERN PRINTLNI64 ∷ GLOBAL ASMMAIN ∷ LAB ASMMAIN ∷ []
+
+-- the arguments after the heap's address, the last first, each to the Snd of its variable
+abbrev pub moveArguments : ℕ → List Code
+moveArguments zero = []
+moveArguments (suc n) = MOV (5 + 2 * n) (argument (suc n)) ∷ moveArguments n
+
+module _ (g : Config) where
+  -- how many bytes the spills take
+  abbrev pub spillSpace : ℕ
+  spillSpace = 8 * g .spills
+
+  -- registers that the caller keeps are pushed, and HEAP and FREE are the first two blocks
+  abbrev pub setup : List Code
+  setup =
+      PUSH 2
+      ∷ PUSH 3
+      ∷ PUSH 12
+      ∷ PUSH 13
+      ∷ PUSH 14
+      ∷ PUSH 15
+      ∷ SUBI STACK spillSpace
+      ∷ MOV HEAP (argument 0)
+      ∷ MOV FREE HEAP
+      ∷ ADDI FREE (blockBytes g)
+      ∷ []
+
+  abbrev pub cleanup : List Code
+  cleanup =
+      LAB CLEANUP
+      ∷ ADDI STACK spillSpace
+      ∷ POP 15
+      ∷ POP 14
+      ∷ POP 13
+      ∷ POP 12
+      ∷ POP 3
+      ∷ POP 2
+      ∷ RET
+      ∷ []
+
+  -- the records before the body, for n arguments
+  abbrev pub head : ℕ → List Code
+  head n = (preamble ++ setup) ++ moveArguments n
+
+  -- the routine's bytes
+  unfoldable pub routineBytes : ℕ → List ℕ → List ℕ
+  routineBytes n body = joined codeBytes (head n) ++ (body ++ joined codeBytes cleanup)
+
+  -- its answer for an output of so many bytes, where the body's check came out so
+  abbrev pub answered : ℕ → ℕ → List ℕ → Checked → Answer
+  answered room n body (Good k) = cond (ltb 5 n) Arguments (granted 0 room (length (routineBytes n body)) 0)
+  answered room n body (Malformed place) = Body place
+
+  abbrev pub routineAnswer : ℕ → ℕ → List ℕ → Answer
+  routineAnswer room n body = answered room n body (checkedCodes 65506 body)
+
+  -- the output after it: the routine from its start where it is written, else as it was
+  abbrev pub routineOutput : List ℕ → ℕ → List ℕ → List ℕ
+  routineOutput o n body = cond (accepted (routineAnswer (length o) n body)) (sets o 0 (routineBytes n body)) o
+
+-- what into_x86_64_routine ensures of the output before and after, and of its answer
+pub record Assembles (o o′ : List ℕ) (r : Answer) (n : ℕ) (body : List ℕ) : Type 0 where
+  pub answer : r ≡ routineAnswer base (length o) n body
+  pub bytes : o′ ≡ routineOutput base o n body
