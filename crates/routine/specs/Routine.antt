@@ -38,10 +38,10 @@ argument n = getD (7 ∷ 6 ∷ 5 ∷ 1 ∷ 8 ∷ 9 ∷ []) n 0
 abbrev pub preamble : List Code
 preamble = NOEXECSTACK ∷ TEXT ∷ EXTERN PRINTI64 ∷ EXTERN PRINTLNI64 ∷ GLOBAL ASMMAIN ∷ LAB ASMMAIN ∷ []
 
--- the arguments after the heap's address, the last first, each to the Snd of its variable
+-- the arguments after the heap's address, the last first: argument n to register 2n + 3, the Snd of its variable
 abbrev pub moveArguments : ℕ → List Code
 moveArguments zero = []
-moveArguments (suc n) = MOV (5 + 2 * n) (argument (suc n)) ∷ moveArguments n
+moveArguments (suc n) = MOV (2 * suc n + 3) (argument (suc n)) ∷ moveArguments n
 
 module _ (g : Config) where
   -- how many bytes the spills take

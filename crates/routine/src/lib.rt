@@ -4,6 +4,8 @@ ghost use Rattle.layout.specs.Config.{base};
 ghost use Rattle.machine.specs.State.{setup};
 ghost use Rattle.routine.specs.Routine.{head};
 
+pub mod into_routine; // the records around the body, and the whole
+
 // The records before the body of a routine with no argument are those that the orders' first state follows.
 pub fn head_sets_up()
     ensures { λ r. ⌜ head base 0 ≡ setup ⌝ }

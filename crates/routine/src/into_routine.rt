@@ -1,0 +1,166 @@
+// A whole routine: control directives and entry point, setup, the body as it is given, cleanup.
+ghost use mathlib.Core.Path.{_≡_};
+ghost use Prim.Native.Nat.{_+_, _*_, _≤_, _<_, _^_};
+ghost use lib.ListN.{length};
+ghost use lib.Seq.{sets};
+ghost use Rattle.records.specs.declared.check.Checked.the-variants.{Good};
+ghost use Rattle.records.specs.Instructions.{checkedCodes};
+ghost use Rattle.emit.specs.Emitted.{fieldsList, Emitted};
+ghost use Rattle.layout.specs.Config.{base};
+ghost use Rattle.routine.specs.Routine.{argument, preamble, setup, moveArguments, head, cleanup, Assembles};
+use emit::answer::Answer;
+use emit::cursor::Cursor;
+use emit::cursor::Row;
+use layout::config::FREE;
+use layout::config::HEAP;
+use layout::config::STACK;
+use records::check::Checked;
+use records::number::ADDI;
+use records::number::EXTERN;
+use records::number::GLOBAL;
+use records::number::LAB;
+use records::number::MOV;
+use records::number::NOEXECSTACK;
+use records::number::POP;
+use records::number::PUSH;
+use records::number::RET;
+use records::number::SUBI;
+use records::number::TEXT;
+
+const ASM_MAIN: u32 = 2147483648;
+
+const CLEANUP: u32 = 2147483649;
+
+const PRINT_I64: u32 = 2147483650;
+
+const PRINTLN_I64: u32 = 2147483651;
+
+const SPILL_SPACE: u64 = 2048;
+
+const BLOCK: u64 = 64;
+
+// The register that each argument is passed in, by the calling convention.
+const ARGUMENTS: [u8; 6] = [7, 6, 5, 1, 8, 9];
+
+fn arg(number: usize) -> u8
+    requires { ⌜ number < 6 ⌝ }
+    ensures { λ r. ⌜ r ≡ argument number ⌝ }
+{
+    ARGUMENTS[number]
+}
+
+fn emit_preamble(out: &mut [u8], p: Cursor) -> Cursor
+    requires { ⌜ p .at + 144 < 2 ^ 64 ⌝ }
+    ensures { λ q. ⌜ Emitted (now (out .entry)) p (now (out .exit)) q (fieldsList preamble) 0 ⌝ }
+{
+    let q = emit::cursor::emit4(
+        out,
+        p,
+        Row(NOEXECSTACK, 0, 0, 0, 0, 0),
+        Row(TEXT, 0, 0, 0, 0, 0),
+        Row(EXTERN, 0, 0, PRINT_I64, 0, 0),
+        Row(EXTERN, 0, 0, PRINTLN_I64, 0, 0),
+    );
+    emit::cursor::emit2(
+        out,
+        q,
+        Row(GLOBAL, 0, 0, ASM_MAIN, 0, 0),
+        Row(LAB, 0, 0, ASM_MAIN, 0, 0),
+    )
+}
+
+fn emit_setup(out: &mut [u8], p: Cursor) -> Cursor
+    requires { ⌜ p .at + 240 < 2 ^ 64 ⌝ }
+    ensures { λ q. ⌜ Emitted (now (out .entry)) p (now (out .exit)) q (fieldsList (setup base)) 0 ⌝ }
+{
+    let q = emit::cursor::emit4(
+        out,
+        p,
+        Row(PUSH, 2, 0, 0, 0, 0),
+        Row(PUSH, 3, 0, 0, 0, 0),
+        Row(PUSH, 12, 0, 0, 0, 0),
+        Row(PUSH, 13, 0, 0, 0, 0),
+    );
+    let s = emit::cursor::emit3(
+        out,
+        q,
+        Row(PUSH, 14, 0, 0, 0, 0),
+        Row(PUSH, 15, 0, 0, 0, 0),
+        Row(SUBI, STACK, 0, 0, 0, SPILL_SPACE),
+    );
+    emit::cursor::emit3(
+        out,
+        s,
+        Row(MOV, HEAP, 7, 0, 0, 0),
+        Row(MOV, FREE, HEAP, 0, 0, 0),
+        Row(ADDI, FREE, 0, 0, 0, BLOCK),
+    )
+}
+
+// The last argument first.
+fn move_arguments(out: &mut [u8], p: Cursor, n: usize) -> Cursor
+    requires { ⌜ (p .at + 120 < 2 ^ 64) × (n < 6) ⌝ }
+    ensures { λ q. ⌜ Emitted (now (out .entry)) p (now (out .exit)) q (fieldsList (moveArguments n)) 0 ⌝ }
+{
+    let mut q = p;
+    let mut left = n;
+    while 0 < left {
+        let from = arg(left);
+        let to = (2 * left + 3) as u8;
+        q = emit::cursor::emit(out, q, Row(MOV, to, from, 0, 0, 0));
+        left -= 1;
+    }
+    q
+}
+
+fn emit_head(out: &mut [u8], p: Cursor, n: usize) -> Cursor
+    requires { ⌜ (p .at + 504 < 2 ^ 64) × (n < 6) ⌝ }
+    ensures { λ q. ⌜ Emitted (now (out .entry)) p (now (out .exit)) q (fieldsList (head base n)) 0 ⌝ }
+{
+    let q = emit_preamble(out, p);
+    let s = emit_setup(out, q);
+    move_arguments(out, s, n)
+}
+
+fn emit_cleanup(out: &mut [u8], p: Cursor) -> Cursor
+    requires { ⌜ p .at + 216 < 2 ^ 64 ⌝ }
+    ensures { λ q. ⌜ Emitted (now (out .entry)) p (now (out .exit)) q (fieldsList (cleanup base)) 0 ⌝ }
+{
+    let q = emit::cursor::emit4(
+        out,
+        p,
+        Row(LAB, 0, 0, CLEANUP, 0, 0),
+        Row(ADDI, STACK, 0, 0, 0, SPILL_SPACE),
+        Row(POP, 15, 0, 0, 0, 0),
+        Row(POP, 14, 0, 0, 0, 0),
+    );
+    let s = emit::cursor::emit4(
+        out,
+        q,
+        Row(POP, 13, 0, 0, 0, 0),
+        Row(POP, 12, 0, 0, 0, 0),
+        Row(POP, 3, 0, 0, 0, 0),
+        Row(POP, 2, 0, 0, 0, 0),
+    );
+    emit::cursor::emit(out, s, Row(RET, 0, 0, 0, 0, 0))
+}
+
+// The body's bytes as they are, from byte `at` on.
+fn copy_body(out: &mut [u8], at: usize, body: &[u8])
+    requires { ⌜ at + length (now body) ≤ length (now out) ⌝ }
+    ensures { λ r. ⌜ now (out .exit) ≡ sets (now (out .entry)) at (now (body .entry)) ⌝ }
+{
+    let mut i = 0;
+    while i < body.len() {
+        out[at + i] = body[i];
+        i += 1;
+    }
+}
+
+// How many bytes the routine has.
+fn routine_size(n: usize, body: usize) -> usize
+    requires { ⌜ (n < 6) × (body < 2 ^ 32) ⌝ }
+    ensures { λ r. ⌜ r ≡ 24 * (25 + n) + body ⌝ }
+{
+    24 * (25 + n) + body
+}
