@@ -84,19 +84,20 @@ module _ (g : Config) where
   unfoldable pub routineBytes : ℕ → List ℕ → List ℕ
   routineBytes n body = joined codeBytes (head n) ++ (body ++ joined codeBytes cleanup)
 
-  -- its answer for an output of so many bytes, where the body's check came out so
-  abbrev pub answered : ℕ → ℕ → List ℕ → Checked → Answer
-  answered room n body (Good k) = cond (ltb 5 n) Arguments (granted 0 room (length (routineBytes n body)) 0)
-  answered room n body (Malformed place) = Body place
+  -- the answer for a body that is accepted, and an output of so many bytes
+  abbrev pub accepting : ℕ → ℕ → List ℕ → Answer
+  accepting room n body = cond (ltb 5 n) Arguments (granted 0 room (length (routineBytes n body)) 0)
 
-  abbrev pub routineAnswer : ℕ → ℕ → List ℕ → Answer
-  routineAnswer room n body = answered room n body (checkedCodes 65506 body)
+  -- the body's check comes first
+  abbrev pub onBody : Checked → Answer → Answer
+  onBody (Good k) r = r
+  onBody (Malformed place) r = Body place
 
-  -- the output after it: the routine from its start where it is written, else as it was
-  abbrev pub routineOutput : List ℕ → ℕ → List ℕ → List ℕ
-  routineOutput o n body = cond (accepted (routineAnswer (length o) n body)) (sets o 0 (routineBytes n body)) o
+  unfoldable pub routineAnswer : ℕ → ℕ → List ℕ → Answer
+  routineAnswer room n body = onBody (checkedCodes 65506 body) (accepting room n body)
 
--- what into_x86_64_routine ensures of the output before and after, and of its answer
-pub record Assembles (o o′ : List ℕ) (r : Answer) (n : ℕ) (body : List ℕ) : Type 0 where
-  pub answer : r ≡ routineAnswer base (length o) n body
-  pub bytes : o′ ≡ routineOutput base o n body
+-- what into_x86_64_routine ensures of the output before and after: its answer is the one expected, and the output holds the routine from its start
+-- if it is written, else it is as it was
+pub record Assembles (o o′ : List ℕ) (r expected : Answer) (n : ℕ) (body : List ℕ) : Type 0 where
+  pub answer : r ≡ expected
+  pub bytes : o′ ≡ cond (accepted expected) (sets o 0 (routineBytes base n body)) o

@@ -13,15 +13,15 @@ use Rattle.layout.specs.Config.{base}
 use Rattle.routine.specs.Routine.{moveArguments, routineBytes, routineAnswer}
 
 none : routineAnswer base 65536 0 [] ≡ Written 25 0
-unfolding checked firstBad granted routineBytes fieldsBytes le
+unfolding routineAnswer checked firstBad granted routineBytes fieldsBytes le
 none = refl
 
 five : routineAnswer base 65536 5 [] ≡ Written 30 0
-unfolding checked firstBad granted routineBytes fieldsBytes le
+unfolding routineAnswer checked firstBad granted routineBytes fieldsBytes le
 five = refl
 
 six : routineAnswer base 65536 6 [] ≡ Arguments
-unfolding checked firstBad
+unfolding routineAnswer checked firstBad
 six = refl
 
 five-moves : moveArguments 5 ≡ MOV 13 9 ∷ MOV 11 8 ∷ MOV 9 1 ∷ MOV 7 5 ∷ MOV 5 6 ∷ []

@@ -3,11 +3,9 @@ ghost use mathlib.Core.Path.{_≡_};
 ghost use Prim.Native.Nat.{_+_, _*_, _≤_, _<_, _^_};
 ghost use lib.ListN.{length};
 ghost use lib.Seq.{sets};
-ghost use Rattle.records.specs.declared.check.Checked.the-variants.{Good};
-ghost use Rattle.records.specs.Instructions.{checkedCodes};
 ghost use Rattle.emit.specs.Emitted.{fieldsList, Emitted};
 ghost use Rattle.layout.specs.Config.{base};
-ghost use Rattle.routine.specs.Routine.{argument, preamble, setup, moveArguments, head, cleanup, Assembles};
+ghost use Rattle.routine.specs.Routine.{argument, preamble, setup, moveArguments, head, cleanup, routineBytes, accepting, routineAnswer, Assembles};
 use emit::answer::Answer;
 use emit::cursor::Cursor;
 use emit::cursor::Row;
@@ -157,10 +155,52 @@ fn copy_body(out: &mut [u8], at: usize, body: &[u8])
     }
 }
 
-// How many bytes the routine has.
-fn routine_size(n: usize, body: usize) -> usize
-    requires { ⌜ (n < 6) × (body < 2 ^ 32) ⌝ }
-    ensures { λ r. ⌜ r ≡ 24 * (25 + n) + body ⌝ }
+// The routine from the output's start on.
+fn assemble(out: &mut [u8], body: &[u8], n: usize)
+    requires { ⌜ (n < 6) × (length (now body) < 2 ^ 32) × (24 * (25 + n) + length (now body) ≤ length (now out)) ⌝ }
+    ensures { λ r. ⌜ now (out .exit) ≡ sets (now (out .entry)) 0 (routineBytes base n (now (body .entry))) ⌝ }
 {
-    24 * (25 + n) + body
+    let q = emit_head(out, Cursor { at: 0, counter: 0 }, n);
+    copy_body(out, q.at, body);
+    let end = q.at + body.len();
+    emit_cleanup(
+        out,
+        Cursor {
+            at: end,
+            counter: 0,
+        },
+    );
+}
+
+fn assemble_checked(out: &mut [u8], body: &[u8], n: usize) -> Answer
+    requires { ⌜ length (now body) < 2 ^ 32 ⌝ }
+    ensures { λ r. ⌜ Assembles (now (out .entry)) (now (out .exit)) r (accepting base (length (now (out .entry))) n (now (body .entry))) n (now (body .entry)) ⌝ }
+{
+    if 5 < n {
+        return Answer::Arguments;
+    }
+    let size = 24 * (25 + n) + body.len();
+    let answer = emit::answer::grant(
+        0,
+        out.len(),
+        Cursor {
+            at: size,
+            counter: 0,
+        },
+    );
+    if emit::answer::is_written(answer) {} else {
+        return answer;
+    }
+    assemble(out, body, n);
+    answer
+}
+
+// A whole routine around a body of at most 65,506 records, for 0 to 5 arguments.
+pub fn into_x86_64_routine(out: &mut [u8], body: &[u8], arguments: usize) -> Answer
+    ensures { λ r. ⌜ Assembles (now (out .entry)) (now (out .exit)) r (routineAnswer base (length (now (out .entry))) arguments (now (body .entry))) arguments (now (body .entry)) ⌝ }
+{
+    match records::code::check_codes(body, 65506) {
+        Checked::Good(_) => assemble_checked(out, body, arguments),
+        Checked::Malformed(place) => Answer::Body(place),
+    }
 }

@@ -1,0 +1,78 @@
+-- Head, body and cleanup written one after the other are the routine; and the answer.
+use Prim.Native.Nat.{ℕ, zero, suc, _+_, _*_, _≤_, _<_}
+use mathlib.Core.Path.{_≡_, refl, sym, ap, _∙_}
+use mathlib.Core.Bool.{Bool, true, false}
+use mathlib.Core.List.{List, _++_}
+use native.Mathlib.Omega.{arith}
+use lib.ListN.{length, length-append}
+use lib.Seq.{sets, length-sets}
+use borrow.Author.Tests.{le-ltb}
+use Rattle.records.specs.ReadBack.{joined, codeBytes}
+use Rattle.records.proofs.CodesBack.{code-laws}
+use Rattle.records.proofs.Joined.{joined-length}
+use Rattle.records.proofs.Storing.{sets-then}
+use Rattle.emit.specs.declared.answer.Answer.{Answer}
+use Rattle.emit.specs.declared.cursor.Cursor.{Cursor}
+use Rattle.emit.specs.Answers.{granted, accepted}
+use Rattle.emit.specs.Emitted.{fieldsList, Emitted}
+use Rattle.emit.specs.Laws.{length-fields}
+use Rattle.emit.specs.Wrote.{written-whole, granted-if}
+use Rattle.layout.specs.Config.{base}
+use Rattle.routine.specs.Routine.{preamble, setup, moveArguments, head, cleanup, routineBytes, accepting, Assembles}
+
+arguments-length : (n : ℕ) → length (moveArguments n) ≡ n
+arguments-length zero = refl
+arguments-length (suc n) = ap suc (arguments-length n)
+
+head-length : (n : ℕ) → length (head base n) ≡ 16 + n
+head-length n = omega (arith, arguments-length n)
+
+head-bytes : (n : ℕ) → length (joined codeBytes (head base n)) ≡ 24 * (16 + n)
+head-bytes n = joined-length code-laws (head base n) ∙ ap (λ (k : ℕ). 24 * k) (head-length n)
+
+cleanup-bytes : length (joined codeBytes (cleanup base)) ≡ 24 * 9
+cleanup-bytes = joined-length code-laws (cleanup base)
+
+bytes-length : (n : ℕ) (body : List ℕ) → length (routineBytes base n body) ≡ 24 * (25 + n) + length body
+unfolding routineBytes
+bytes-length n body =
+    omega (arith, length-append (joined codeBytes (head base n)) (body ++ joined codeBytes (cleanup base)), length-append body (joined codeBytes (cleanup base)), head-bytes n, cleanup-bytes)
+
+-- where the body starts
+pub body-place : {o o₁ : List ℕ} {p q : Cursor} (n : ℕ) → Emitted o p o₁ q (fieldsList (head base n)) 0 → p .at ≡ 0 → q .at ≡ 24 * (16 + n)
+body-place n d z = omega (arith, d .place, length-fields (head base n), head-length n)
+
+pub assembled : {o o₁ o₂ o₃ : List ℕ} {p q e z : Cursor} (n : ℕ) (body : List ℕ)
+    → 24 * (25 + n) + length body ≤ length o
+    → Emitted o p o₁ q (fieldsList (head base n)) 0 → p .at ≡ 0
+    → o₂ ≡ sets o₁ (q .at) body
+    → Emitted o₂ e o₃ z (fieldsList (cleanup base)) 0 → e .at ≡ q .at + length body
+    → o₃ ≡ sets o 0 (routineBytes base n body)
+unfolding routineBytes
+assembled {o} {o₁} {o₂} {o₃} {p} {q} {e} n body h d s b c t =
+    let A : List ℕ = joined codeBytes (head base n) in
+    let C : List ℕ = joined codeBytes (cleanup base) in
+    let k = body-place n d s in
+    let j = head-bytes n in
+    let first : o₁ ≡ sets o 0 A = d .bytes ∙ rw s (written-whole (head base n) o 0 (omega (arith, head-length n))) in
+    let second : o₂ ≡ sets (sets o 0 A) (q .at) body = rw (← first) b in
+    let long : length o₂ ≡ length o = rw second (length-sets (sets o 0 A) (q .at) body ∙ length-sets o 0 A) in
+    c .bytes
+    ∙ written-whole (cleanup base) o₂ (e .at) (omega arith)
+    ∙ rw second
+    (sets-then body C (sets o 0 A) (q .at) (e .at) (sym t)
+    ∙ sets-then A (body ++ C) o 0 (q .at) (omega arith))
+
+module _ {o : List ℕ} {r expected : Answer} {b : Bool} (n : ℕ) (body : List ℕ) (e : r ≡ expected) (f : b ≡ accepted r) where
+  pub not-assembled : b ≡ false → Assembles o o r expected n body
+  not-assembled g = record { answer = e; bytes = rw (← e, ← f, g) }
+
+  pub all-assembled : {o′ : List ℕ} → b ≡ true → o′ ≡ sets o 0 (routineBytes base n body) → Assembles o o′ r expected n body
+  all-assembled g w = record { answer = e; bytes = rw (← e, ← f, g) w }
+
+module _ (o : List ℕ) (n : ℕ) (body : List ℕ) {r : Answer} (e : r ≡ granted 0 (length o) (24 * (25 + n) + length body) 0) where
+  pub expected-answer : n ≤ 5 → r ≡ accepting base (length o) n body
+  expected-answer h = rw (le-ltb 5 n h, bytes-length n body) e
+
+  pub room-enough : {b : Bool} → b ≡ accepted r → b ≡ true → 24 * (25 + n) + length body ≤ length o
+  room-enough f g = granted-if 0 (length o) (24 * (25 + n) + length body) 0 (ap accepted (sym e) ∙ sym f ∙ g) .1
