@@ -8,7 +8,7 @@ use lib.Dec.{ltb, eqb}
 use lib.ListN.{length, length-append, take, drop}
 use Rattle.records.specs.declared.code.Code.{Code}
 use Rattle.records.specs.declared.code.Code.the-variants.{ADDI, SUBI, MOVL}
-use Rattle.trees.specs.Tree.{Tree, straight, nop, leaf, labels, size}
+use Rattle.trees.specs.Tree.{straight, nop, leaf, labels, size}
 use Rattle.layout.specs.Config.{Config, STACK, TEMP, stackOffset}
 use Rattle.printing.specs.Registers.{registersOf, registersTo, registersToSave, firstBackup, backupsUsed}
 use Rattle.printing.specs.Print.{moves, movesBack, pushes, pops, ifEven, saveRegisters, restoreRegisters, sourceToTemp, printSaving, printI64}

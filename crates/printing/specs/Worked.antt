@@ -1,9 +1,7 @@
 -- Document 01's worked numbers on print, and records that the Rust gives.
-use Prim.Native.Nat.{ℕ}
 use mathlib.Core.Path.{_≡_, refl}
-use mathlib.Core.Bool.{Bool, true, false}
-use mathlib.Core.List.{List, [], _∷_}
-use Rattle.records.specs.declared.code.Code.{Code}
+use mathlib.Core.Bool.{true, false}
+use mathlib.Core.List.{[], _∷_}
 use Rattle.records.specs.declared.code.Code.the-variants.{ADDI, SUBI, MOV, MOVL, PUSH, POP, CALL}
 use Rattle.trees.specs.Tree.{size, flat}
 use Rattle.layout.specs.Config.{base, stackOffset}

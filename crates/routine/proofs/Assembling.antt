@@ -1,5 +1,5 @@
 -- Head, body and cleanup written one after the other are the routine; and the answer.
-use Prim.Native.Nat.{ℕ, zero, suc, _+_, _*_, _≤_, _<_}
+use Prim.Native.Nat.{ℕ, zero, suc, _+_, _*_, _≤_}
 use mathlib.Core.Path.{_≡_, refl, sym, ap, _∙_}
 use mathlib.Core.Bool.{Bool, true, false}
 use mathlib.Core.List.{List, _++_}
@@ -18,7 +18,7 @@ use Rattle.emit.specs.Emitted.{fieldsList, Emitted}
 use Rattle.emit.specs.Laws.{length-fields}
 use Rattle.emit.specs.Wrote.{written-whole, granted-if}
 use Rattle.layout.specs.Config.{base}
-use Rattle.routine.specs.Routine.{preamble, setup, moveArguments, head, cleanup, routineBytes, accepting, Assembles}
+use Rattle.routine.specs.Routine.{moveArguments, head, cleanup, routineBytes, accepting, Assembles}
 
 arguments-length : (n : ℕ) → length (moveArguments n) ≡ n
 arguments-length zero = refl

@@ -1,6 +1,6 @@
 -- The parts of a routine: one argument of those left, one byte of the body copied, and how long an accepted body is.
 use Prim.Native.Nat.{ℕ, zero, suc, _+_, _*_, _-_, _≤_, _<_}
-use mathlib.Core.Path.{_≡_, refl, _∙_}
+use mathlib.Core.Path.{_≡_, refl}
 use mathlib.Core.Bool.{Bool, _&&_}
 use mathlib.Core.List.{List, _∷_}
 use native.Mathlib.Nat.{add-zero, add-suc}

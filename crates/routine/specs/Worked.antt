@@ -1,8 +1,6 @@
 -- Document 01's worked numbers on routines: 'Routine of no body: 25 records with 0 arguments, 30 with 5; 6 refused'.
-use Prim.Native.Nat.{ℕ, _*_}
 use mathlib.Core.Path.{_≡_, refl}
 use mathlib.Core.List.{[], _∷_}
-use lib.ListN.{length}
 use Rattle.records.specs.declared.code.Code.the-variants.{MOV}
 use Rattle.records.specs.Bytes.{le}
 use Rattle.records.specs.Checked.{checked, firstBad}

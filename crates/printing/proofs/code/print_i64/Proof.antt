@@ -1,6 +1,5 @@
 use borrow.Author.Needs.{needs}
 use mathlib.Core.Path.{refl, sym, _∙_}
-use native.Mathlib.Omega.{arith}
 use Rattle.emit.specs.Wrote.{refused}
 use Rattle.records.proofs.BindingsRead.{context-within}
 use Rattle.printing.proofs.code.print_i64.Statement.{statement}

@@ -1,8 +1,5 @@
 use borrow.Author.Needs.{needs}
-use native.Mathlib.Omega.{arith}
-use Rattle.emit.specs.Laws.{_⨾_, fields-append}
-use Rattle.layout.specs.Config.{base}
-use Rattle.routine.specs.Routine.{preamble, setup, moveArguments}
+use Rattle.emit.specs.Laws.{_⨾_}
 use Rattle.routine.proofs.into_routine.emit_head.Statement.{statement}
 use Rattle.routine.proofs.into_routine.emit_head.Tie as tie
 
