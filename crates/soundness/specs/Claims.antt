@@ -1,9 +1,9 @@
 -- Demand 3: the heap stays sound for every list of orders. One claim on the whole list; this file and the definitions it cites are all that it says.
 -- `answerTo`, `recordsOf` and `orderContext` are what the contract of the order function cites, and `ran` is what the contract of the machine's run cites.
 -- From document 01, 'Order record', 'Plain machine of demand 3' and the lines on the heap in 'Instruction record'.
-use Prim.Native.Nat.{ℕ, zero, suc, _+_, _*_, _-_, _≤_, _<_}
+use Prim.Native.Nat.{ℕ, _+_, _*_, _-_, _≤_, _<_}
 use mathlib.Core.Path.{_≡_}
-use mathlib.Core.Bool.{Bool, true, false, not, _&&_, cond}
+use mathlib.Core.Bool.{Bool, true, false, _&&_, cond}
 use mathlib.Core.List.{List, [], _∷_}
 use lib.ListN.{length, replicate}
 use Rattle.records.specs.declared.check.Checked.the-variants.{Good}
@@ -13,7 +13,6 @@ use Rattle.records.specs.Contexts.{checkedContext}
 use Rattle.records.specs.ReadBack.{Bytes}
 use Rattle.trees.specs.Tree.{size}
 use Rattle.layout.specs.Config.{base, HEAP, FREE}
-use Rattle.layout.specs.Positions.{location}
 use Rattle.printing.specs.Print.{printName}
 use Rattle.printing.specs.Registers.{extAt}
 use Rattle.instructions.specs.View.{View}
@@ -21,17 +20,15 @@ use Rattle.instructions.specs.Step.{Call}
 use Rattle.machine.specs.declared.run.Answer.the-variants.{Ended}
 use Rattle.machine.specs.State.{see, freshState}
 use Rattle.machine.specs.Run.{Done, ran}
-use Rattle.heap.specs.Blocks.{Cell, Layout, Memory}
-use Rattle.heap.specs.Values.{Value, integer, object, Values, nil, cons, countOf, valueAt}
+use Rattle.heap.specs.Values.{Values, nil, countOf, valueAt}
 use Rattle.heap.specs.Words.{memoryOf}
 use Rattle.heap.specs.WordLemmas.{layout}
 use Rattle.heap.specs.Orders.{State}
 use Rattle.heap.specs.Claims.{HeapAfter}
-use Rattle.positions.specs.Held.{heldIn}
 use Rattle.bridge.specs.Sizes.{objectSizes}
 use Rattle.bridge.specs.Variables.{variablesIn}
 use Rattle.orders.specs.Answered.{Asked, accepted, orderIs, placesIn, orderTree, orderContext, answerTo, recordsOf}
-use Rattle.orders.specs.Plain.{integerOf, resultDefined, plainly}
+use Rattle.orders.specs.Plain.{integerOf, resultDefined, plainly, KindsFrom, AsStored}
 
 -- one item of a list: any bytes as order and bindings, any counter and output lengths, any nine words
 pub record Item : Type 0 where
@@ -62,17 +59,6 @@ runOf ch it = ran (it .words) (recordsOf base (ch .context) (it .asked)) (record
 -- an accepted order's context and what its run leaves; a refused order leaves all as it was
 abbrev pub next : Channel → Item → Channel
 next ch it = cond (isAccepted ch it) (record { context = orderContext (ch .context) (it .asked); view = runOf ch it .last .state }) ch
-
--- a variable for each value, of its kind: `ext v` says that variable v is an integer
-abbrev pub KindsFrom : (ℕ → Bool) → ℕ → Values → Type 0
-KindsFrom ext v nil = Unit {0}
-KindsFrom ext v (cons (integer w) vs) = (ext v ≡ true) × KindsFrom ext (suc v) vs
-KindsFrom ext v (cons (object tag ws) vs) = (ext v ≡ false) × KindsFrom ext (suc v) vs
-
--- n bindings name the kinds that an object was stored with
-abbrev pub AsStored : List ℕ → ℕ → Value → Type 0
-AsStored bindings n (integer w) = ⊥
-AsStored bindings n (object tag ws) = (countOf ws ≡ n) × KindsFrom (extAt bindings) 0 ws
 
 -- what the user owes an accepted order: a load's own kinds, and no division fault
 abbrev pub Owed : List ℕ → Order → Values → Type 0
