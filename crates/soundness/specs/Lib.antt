@@ -1,2 +1,3 @@
--- Demand 3.
+-- Demand 3. `Claims` and what it cites is all that the promise says; lemmas follow.
 pub mod Claims  -- the claim, and all that it says
+pub mod Accepting  -- what an accepted order says of its operands
