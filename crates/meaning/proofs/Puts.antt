@@ -1,0 +1,75 @@
+-- One operand changed: what it holds, what stays, and two such changes one after the other.
+use Prim.Native.Nat.{ℕ, _≤_, _<_}
+use mathlib.Core.Path.{_≡_, refl, sym, ap, _∙_}
+use mathlib.Core.Logic.{_≢_}
+use mathlib.Core.Bool.{Bool, true, false, cond, _&&_, _||_}
+use native.Mathlib.Omega.{arith}
+use lib.Dec.{ltb, leb}
+use borrow.Author.Tests.{ltb-true, ltb-false, leb-true}
+use Rattle.layout.specs.Config.{base, TEMP}
+use Rattle.layout.specs.Positions.{operandOk}
+use Rattle.instructions.specs.declared.instruction.Compared.{Compared}
+use Rattle.instructions.specs.View.{View, putReg, putStk}
+use Rattle.instructions.specs.Step.{Config, config}
+use Rattle.positions.specs.Held.{stackWord, held, withOperand, Keeps, Placed}
+use Rattle.positions.specs.HeldLemmas.{upd-other, operand-same, operand-other, operand-heap, keeps-trans, keeps-sub, placed-keeps}
+use Rattle.meaning.specs.Claims.{Unchanged, Sets}
+
+-- what a caller may give as an operand
+pub record Given (w : ℕ) : Type 0 where
+  pub above : 4 ≤ w
+  pub below : w < 272
+
+pub given : (w : ℕ) → operandOk base w ≡ true → Given w
+unfolding operandOk
+given w e = by (leb 4 w) refl (ltb w 272) refl (ltb w 16 || ltb 16 w) e
+  where
+    by : (a : Bool) → leb 4 w ≡ a → (b : Bool) → ltb w 272 ≡ b → (d : Bool) → (a && b && d) ≡ true → Given w
+    by true p true q d e = record { above = leb-true 4 w p; below = ltb-true w 272 q }
+    by true p false q d e = let z : _≡_ {A = ℕ} 0 1 = cc in absurd (omega arith)
+    by false p b q d e = let z : _≡_ {A = ℕ} 0 1 = cc in absurd (omega arith)
+
+module _ {P : ℕ → Type 0} {c d : Config} where
+  pub unchanged-trans : {e : Config} → Unchanged P c d → Unchanged P d e → Unchanged P c e
+  unchanged-trans a b = record { kept = keeps-trans (a .kept) (b .kept); stack = λ i f. b .stack i f ∙ a .stack i f; heap = b .heap ∙ a .heap }
+
+  pub unchanged-sub : {Q : ℕ → Type 0} → ((l : ℕ) → Q l → P l) → Unchanged P c d → Unchanged Q c d
+  unchanged-sub f a = record { kept = keeps-sub f (a .kept); stack = a .stack; heap = a .heap }
+
+-- operand t holds w, and every other holds what it held, TEMP too
+abbrev pub Puts : ℕ → ℕ → Config → Config → Type 0
+Puts t w c d = (held d t ≡ w) × Unchanged (λ l. l ≢ t) c d
+
+pub put : (c : Config) (t w : ℕ) (q : Compared) → t < 272 → Puts t w c (config (withOperand (c .state) t w) q (c .calls))
+put c t w q h = (
+  operand-same (c .state) t w h,
+  record {
+    kept = record { size-kept = operand-heap (c .state) t w .1; calls-kept = refl; kept = λ l k n. operand-other (c .state) t w h l k n };
+    stack = λ i f. by i f (ltb t 16) refl;
+    heap = operand-heap (c .state) t w .0;
+  },
+)
+  where
+    by : (i : ℕ) → ((l : ℕ) → 16 ≤ l → l < 272 → i ≢ stackWord l) → (b : Bool) → ltb t 16 ≡ b
+        → cond b (putReg (c .state) t w) (putStk (c .state) (stackWord t) w) .stk i ≡ c .state .stk i
+    by i f true e = refl
+    by i f false e = upd-other (c .state .stk) (stackWord t) w i (f t (ltb-false t 16 e) h)
+
+module _ {c d : Config} {t v : ℕ} where
+  pub puts-sets : Puts t v c d → Sets t v c d
+  puts-sets p = (p .0, unchanged-sub (λ l n. n .0) (p .1))
+
+  pub placed-after : {N : ℕ} → Puts t v c d → 0 ≢ t → Placed N c → Placed N d
+  placed-after p n h = placed-keeps n (p .1 .kept) h
+
+  -- another operand
+  pub puts-other : Puts t v c d → (l : ℕ) → l < 272 → l ≢ t → held d l ≡ held c l
+  puts-other p l h n = p .1 .kept .kept l h n
+
+  -- the same operand again
+  pub puts-again : {e : Config} {w : ℕ} → Puts t v c d → Puts t w d e → Puts t w c e
+  puts-again p q = (q .0, unchanged-trans (p .1) (q .1))
+
+-- TEMP, and then an operand
+pub by-temp : {c d e : Config} {t v w : ℕ} → Puts TEMP v c d → Puts t w d e → Sets t w c e
+by-temp p q = (q .0, unchanged-trans (unchanged-sub (λ l n. n .1) (p .1)) (unchanged-sub (λ l n. n .0) (q .1)))

@@ -1,0 +1,41 @@
+-- What the crate promises: the records of code.rs's operations do on document 01's machine what they name, for every operand that a caller may give
+-- (registers 4..15 and spills 1..255, the target equal to a source included) and STACK where the routine's setup leaves it.
+-- An operand is a word, register r is r and spill p is 16 + p; `held c l` is the word at operand l. Words are any numbers: sums, differences and
+-- products are taken modulo 2^64 whatever the operands hold.
+use Prim.Native.Nat.{ℕ, _≤_, _<_}
+use mathlib.Core.Path.{_≡_}
+use mathlib.Core.Logic.{_≢_}
+use mathlib.Core.Bool.{true}
+use Rattle.records.specs.declared.order.Operation.the-variants.{Add, Sub, Mul}
+use Rattle.layout.specs.Config.{base, TEMP}
+use Rattle.layout.specs.Positions.{operandOk}
+use Rattle.code.specs.Code.{loadImmediate, moved, arithmetic}
+use Rattle.word.specs.Words.{sum, difference, product}
+use Rattle.instructions.specs.Step.{Config}
+use Rattle.positions.specs.Held.{stackWord, held, Keeps, Placed}
+use Rattle.positions.specs.Runs.{Does}
+
+-- from c to d nothing changed but operands outside P and the compare
+pub record Unchanged (P : ℕ → Type 0) (c d : Config) : Type 0 where
+  -- the operands of P, registers 0..15 and spills 0..255; the number of heap words; the calls
+  pub kept : Keeps P c d
+  -- the stack's words that are no spill
+  pub stack : (i : ℕ) → ((l : ℕ) → 16 ≤ l → l < 272 → i ≢ stackWord l) → d .state .stk i ≡ c .state .stk i
+  pub heap : d .state .mem ≡ c .state .mem
+
+-- operand t holds w, and every other but TEMP holds what it held: STACK, HEAP, FREE and spill 0 too
+abbrev pub Sets : ℕ → ℕ → Config → Config → Type 0
+Sets t w c d = (held d t ≡ w) × Unchanged (λ l. (l ≢ t) × (l ≢ TEMP)) c d
+
+-- the operations that never fault, with the words that the sources held before
+pub record Computes (words : ℕ → ℕ) (c : Config) (t x y value : ℕ) : Type 0 where
+  pub load-immediate : Does words (loadImmediate base t value) c (Sets t value c)
+  pub mov : Does words (moved base t x) c (Sets t (held c x) c)
+  pub add : Does words (arithmetic base Add t x y) c (Sets t (sum (held c x) (held c y)) c)
+  pub sub : Does words (arithmetic base Sub t x y) c (Sets t (difference (held c x) (held c y)) c)
+  pub mul : Does words (arithmetic base Mul t x y) c (Sets t (product (held c x) (held c y)) c)
+
+unfoldable pub ComputesWhatItNames : Type 0
+ComputesWhatItNames =
+    (words : ℕ → ℕ) (blocks : ℕ) (c : Config) → Placed blocks c
+    → (t x y value : ℕ) → operandOk base t ≡ true → operandOk base x ≡ true → operandOk base y ≡ true → Computes words c t x y value

@@ -1,0 +1,2 @@
+-- What the records of code.rs's operations do on document 01's machine.
+pub mod Claims  -- what is promised: each operation does what it names
