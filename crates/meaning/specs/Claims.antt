@@ -2,16 +2,19 @@
 -- (registers 4..15 and spills 1..255, the target equal to a source included) and STACK where the routine's setup leaves it.
 -- An operand is a word, register r is r and spill p is 16 + p; `held c l` is the word at operand l. Words are any numbers: sums, differences and
 -- products are taken modulo 2^64 whatever the operands hold.
-use Prim.Native.Nat.{ℕ, _≤_, _<_}
+use Prim.Native.Nat.{ℕ, _-_, _^_, _≤_, _<_}
 use mathlib.Core.Path.{_≡_}
 use mathlib.Core.Logic.{_≢_}
-use mathlib.Core.Bool.{true}
-use Rattle.records.specs.declared.order.Operation.the-variants.{Add, Sub, Mul}
-use Rattle.layout.specs.Config.{base, TEMP}
+use mathlib.Core.Bool.{Bool, true, false, _&&_, _||_}
+use lib.Dec.{eqb}
+use Rattle.records.specs.declared.order.Operation.the-variants.{Add, Sub, Mul, Div, Rem}
+use Rattle.trees.specs.Tree.{Tree}
+use Rattle.layout.specs.Config.{base, TEMP, RETURN1, RETURN2}
 use Rattle.layout.specs.Positions.{operandOk}
 use Rattle.code.specs.Code.{loadImmediate, moved, arithmetic}
-use Rattle.word.specs.Words.{sum, difference, product}
+use Rattle.word.specs.Words.{sum, difference, product, quotient, remainder}
 use Rattle.instructions.specs.Step.{Config}
+use Rattle.structured.specs.Evaluation.{faulted, evaluate}
 use Rattle.positions.specs.Held.{stackWord, held, Keeps, Placed}
 use Rattle.positions.specs.Runs.{Does}
 
@@ -39,3 +42,33 @@ unfoldable pub ComputesWhatItNames : Type 0
 ComputesWhatItNames =
     (words : ℕ → ℕ) (blocks : ℕ) (c : Config) → Placed blocks c
     → (t x y value : ℕ) → operandOk base t ≡ true → operandOk base x ≡ true → operandOk base y ≡ true → Computes words c t x y value
+
+-- whether the division of word a by word d faults: by zero, or −2^63 by −1
+abbrev pub divisionFaults : ℕ → ℕ → Bool
+divisionFaults a d = eqb d 0 || (eqb a (2 ^ 63) && eqb d (2 ^ 64 - 1))
+
+-- a division with target t faults, and only t, TEMP and registers 4 and 5 are then other than before
+pub record Stops (words : ℕ → ℕ) (tree : Tree) (c : Config) (t : ℕ) : Type 0 where
+  pub at : Config
+  pub run : evaluate words tree c ≡ faulted at
+  pub rest : Unchanged (λ l. (l ≢ t) × (l ≢ TEMP) × (l ≢ RETURN1) × (l ≢ RETURN2)) c at
+
+-- signed quotient and remainder, truncated toward zero, of the words that the sources held before; or the fault
+pub record Divides (words : ℕ → ℕ) (c : Config) (t x y : ℕ) : Type 0 where
+  pub div : divisionFaults (held c x) (held c y) ≡ false → Does words (arithmetic base Div t x y) c (Sets t (quotient (held c x) (held c y)) c)
+  pub rem : divisionFaults (held c x) (held c y) ≡ false → Does words (arithmetic base Rem t x y) c (Sets t (remainder (held c x) (held c y)) c)
+  pub div-faults : divisionFaults (held c x) (held c y) ≡ true → Stops words (arithmetic base Div t x y) c t
+  pub rem-faults : divisionFaults (held c x) (held c y) ≡ true → Stops words (arithmetic base Rem t x y) c t
+
+-- the target differs from both sources and from registers 4 and 5, and the divisor is not register 4
+pub record DivisionOperands (t x y : ℕ) : Type 0 where
+  pub not-dividend : t ≢ x
+  pub not-divisor : t ≢ y
+  pub not-quotient : t ≢ RETURN1
+  pub not-remainder : t ≢ RETURN2
+  pub divisor : y ≢ RETURN1
+
+unfoldable pub DividesWhatItNames : Type 0
+DividesWhatItNames =
+    (words : ℕ → ℕ) (blocks : ℕ) (c : Config) → Placed blocks c
+    → (t x y : ℕ) → operandOk base t ≡ true → operandOk base x ≡ true → operandOk base y ≡ true → DivisionOperands t x y → Divides words c t x y

@@ -1,8 +1,13 @@
 // What the records of code.rs's operations do on document 01's machine.
 // Each promise is the claim of a function that does nothing: its statement is in specs/Claims.antt, and its proof cites the theorem.
-ghost use Rattle.meaning.specs.Claims.{ComputesWhatItNames};
+ghost use Rattle.meaning.specs.Claims.{ComputesWhatItNames, DividesWhatItNames};
 
 // load_immediate, mov, add, sub and mul
 pub fn computes_what_it_names()
     ensures { λ r. ⌜ ComputesWhatItNames ⌝ }
+{}
+
+// div and rem, where the target differs from both sources and from registers 4 and 5, and the divisor is not register 4
+pub fn divides_what_it_names()
+    ensures { λ r. ⌜ DividesWhatItNames ⌝ }
 {}
