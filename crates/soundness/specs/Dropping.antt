@@ -1,0 +1,65 @@
+-- The last variable dropped, and the last ones stored: the orders perform what the abstract heap names.
+use mathlib.Core.Bool.{Bool, true, false, cond}
+use mathlib.Core.List.{List, [], _∷_, _++_}
+use mathlib.Core.Logic.{_≢_}
+use mathlib.Core.Path.{_≡_, refl, sym, _∙_, ap}
+use Prim.Native.Nat.{ℕ, suc, _+_, _-_, _*_, _≤_, _<_}
+use native.Mathlib.Nat.{zero-add}
+use native.Mathlib.Omega.{arith}
+use lib.ListN.{length}
+use Rattle.trees.specs.Tree.{nop, seq}
+use Rattle.layout.specs.Config.{base}
+use Rattle.layout.specs.Positions.{location}
+use Rattle.instructions.specs.Step.{Config}
+use Rattle.code.specs.Code.{loadImmediate}
+use Rattle.memory.specs.Blocks.{eraseBlock}
+use Rattle.memory.specs.Objects.{storeObject}
+use Rattle.heap.specs.Blocks.{pointers}
+use Rattle.heap.specs.GrowthLemmas.{reachable-below}
+use Rattle.heap.specs.Invariant.{Represents}
+use Rattle.heap.specs.Orders.{drop, store, Performs}
+use Rattle.heap.specs.Values.{Values}
+use Rattle.positions.specs.Held.{held, Keeps, Placed}
+use Rattle.positions.specs.HeldLemmas.{keeps-sub, keeps-register, placed-keeps, location-fits}
+use Rattle.positions.specs.Runs.{Does, one, so}
+use Rattle.meaning.proofs.Puts.{puts-sets}
+use Rattle.meaning.proofs.Records.{immediate-does}
+use Rattle.bridge.specs.DropOrder.{drop-integer, drop-order}
+use Rattle.bridge.specs.StoreOrder.{store-order}
+use Rattle.bridge.specs.Shown.{L, heapOf}
+use Rattle.bridge.specs.Sizes.{objectSizes}
+use Rattle.bridge.specs.Variables.{variable, variables, variables-snoc, variables-kinds}
+use Rattle.soundness.specs.Appending.{Performed, heap-same}
+
+module _ (words : ℕ → ℕ) {N m : ℕ} {values : Values} (ext ext′ : ℕ → Bool) (c : Config) (v : Placed N c) where
+  -- the variable e is the last
+  pub drop-does : (e : ℕ) → e < 133 → m ≤ N → ((x : ℕ) → x < e → ext′ x ≡ ext x) → Represents objectSizes L (heapOf c) m (variables ext c 0 (suc e)) values
+      → Does words (cond (ext e) nop (eraseBlock base (location (2 * e)))) c (Performed N c drop ext ext′ (suc e) e)
+  drop-does e h mN agree rep = by (ext e) refl
+    where
+      snoc : variables ext c 0 (suc e) ≡ variables ext c 0 e ++ (variable ext c e ∷ [])
+      snoc = variables-snoc ext c 0 e ∙ rw (zero-add e)
+
+      kinds : (d : Config) → variables ext′ d 0 e ≡ variables ext d 0 e
+      kinds d = variables-kinds ext ext′ d 0 e (λ x a b. agree x (omega arith))
+
+      by : (q : Bool) → ext e ≡ q → Does words (cond q nop (eraseBlock base (location (2 * e)))) c (Performed N c drop ext ext′ (suc e) e)
+      by true q = one refl (record { performs = rw (snoc, kinds c) (drop-integer ext c e q); placed = v; quiet = refl })
+      by false q =
+          so (drop-order words ext c e v mN h q (rw snoc at rep)) (λ d x.
+            record { performs = rw (snoc, kinds d) (x .0); placed = placed-keeps (omega arith, omega arith) (x .1) v; quiet = x .1 .calls-kept })
+
+  -- the variables from r on are the last n
+  pub store-does : (r n tag : ℕ) → r + n ≤ 133 → r < 133 → ((x : ℕ) → x < r → ext′ x ≡ ext x) → ext′ r ≡ false → m + length (objectSizes n) < N
+      → Represents objectSizes L (heapOf c) m (variables ext c 0 (r + n)) values
+      → Does words (seq (storeObject base ext r n) (loadImmediate base (location (2 * r + 1)) tag)) c (Performed N c (store n tag) ext ext′ (r + n) (suc r))
+  store-does r n tag h l agree linked room rep =
+      let f = location-fits (2 * r + 1) (omega arith) in
+      let g = location-fits (2 * r) (omega arith) in
+      so (store-order words ext ext′ c r n tag (loadImmediate base (location (2 * r + 1)) tag) v h l agree linked
+        (λ u p. so (immediate-does words u p (location (2 * r + 1)) tag (f .1)) (λ z s.
+          let t = puts-sets s in
+          let K = t .1 .kept in
+          (t .0, heap-same u z (t .1 .heap) (keeps-register K 2 (omega arith) (omega (arith, f .0), omega arith)) (keeps-register K 3 (omega arith) (omega (arith, f .0), omega arith)), keeps-sub (λ x q. (q .1, q .0)) K)))
+        (λ count k. omega (arith, reachable-below (rep .consistent) k)) (omega arith) rep)
+      (λ d x. record { performs = x .0; placed = placed-keeps ((omega arith, omega arith, omega arith), omega (arith, g .0)) (x .1) v; quiet = x .1 .calls-kept })
