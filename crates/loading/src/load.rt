@@ -1,12 +1,14 @@
 // Variables loaded from an object of as many blocks as they fill, from memory.rs.
 // `kinds` is binding records, of which the first is variable `first`'s; `table` gives each position its operand.
 ghost use mathlib.Core.Path.{_≡_};
+ghost use mathlib.Core.Bool.{not, _&&_};
 ghost use Prim.Native.Nat.{_+_, _*_, _-_, _<_, _≤_, _^_};
+ghost use lib.Dec.{ltb};
 ghost use lib.ListN.{length};
 ghost use Rattle.emit.specs.Emitted.{Emits};
 ghost use Rattle.layout.specs.Config.{base};
 ghost use Rattle.layout.specs.Positions.{Table};
-ghost use Rattle.memory.specs.Objects.{extIn, shareLoaded, loadFst, loadValue, loadValues, releaseUnless, loadLink, capacity, setAside, restore, loadBody, loadSpilled, loadBlock};
+ghost use Rattle.memory.specs.Objects.{extIn, shareLoaded, loadFst, loadValue, loadValues, releaseUnless, loadLink, capacity, setAside, restore, loadBody, loadSpilled, loadBlock, loadOthers, loadSome, fst};
 use memory::block;
 use storing::store;
 use emit::cursor::Cursor;
@@ -189,4 +191,172 @@ fn load_body(
     let q = release_unless(out, p, shared, r);
     let s = load_link(out, q, table, other, v + k, r);
     load_values(out, s, table, kinds, first, shared, v, k, free, r)
+}
+
+// The same out of the block in spill w, which goes through register 4.
+fn load_spilled(
+    out: &mut [u8],
+    p: Cursor,
+    table: &[u64; 267],
+    kinds: &[u8],
+    first: u64,
+    shared: bool,
+    other: bool,
+    aside: bool,
+    v: u64,
+    k: u64,
+    w: u64,
+) -> Cursor
+    requires { ⌜ (Table (now table)) × (first ≤ v) × (8 * (v + k - first) ≤ length (now kinds)) × (v + k ≤ 133) × (k ≤ capacity base other) × (p .at + 1296 < 2 ^ 64) × (p .counter + k < 2 ^ 32) × (w ≡ fst v) × (16 ≤ w) × (w < 272) ⌝ }
+    ensures { λ q. ⌜ Emits (now (out .entry)) p (now (out .exit)) q (loadSpilled base (extIn (now (kinds .entry)) first) shared other aside v k) ⌝ }
+{
+    let q = set_aside(out, p, aside);
+    let offset = layout::config::stack_offset(w);
+    let s = emit::cursor::emit(out, q, Row(MOVL, RETURN1, STACK, 0, offset, 0));
+    let t = load_body(
+        out,
+        s,
+        table,
+        kinds,
+        first,
+        shared,
+        other,
+        v,
+        k,
+        RETURN1,
+    );
+    restore_aside(out, t, other)
+}
+
+// The same out of the block in variable v's Fst.
+fn load_block(
+    out: &mut [u8],
+    p: Cursor,
+    table: &[u64; 267],
+    kinds: &[u8],
+    first: u64,
+    shared: bool,
+    other: bool,
+    aside: bool,
+    v: u64,
+    k: u64,
+) -> Cursor
+    requires { ⌜ (Table (now table)) × (first ≤ v) × (8 * (v + k - first) ≤ length (now kinds)) × (v + k ≤ 133) × (k ≤ capacity base other) × (p .at + 1296 < 2 ^ 64) × (p .counter + k < 2 ^ 32) ⌝ }
+    ensures { λ q. ⌜ Emits (now (out .entry)) p (now (out .exit)) q (loadBlock base (extIn (now (kinds .entry)) first) shared other aside v k) ⌝ }
+{
+    let w = layout::utils::location_at(table, 2 * v);
+    if w < 16 {
+        load_body(out, p, table, kinds, first, shared, other, v, k, w as u8)
+    } else {
+        load_spilled(
+            out,
+            p,
+            table,
+            kinds,
+            first,
+            shared,
+            other,
+            aside,
+            v,
+            k,
+            w,
+        )
+    }
+}
+
+// Whether a block before the one that starts with variable v + n lay in a spill.
+fn freed_before(table: &[u64; 267], v: u64, n: u64) -> bool
+    requires { ⌜ (Table (now table)) × (v + n ≤ 133) ⌝ }
+    ensures { λ r. ⌜ r ≡ (ltb 0 n && not (ltb (fst (v + (n - 2))) 16)) ⌝ }
+{
+    if 0 < n {} else {
+        return false;
+    }
+    let rest = store::less(n, 2);
+    let w = layout::utils::location_at(table, 2 * (v + rest));
+    if w < 16 {
+        return false;
+    }
+    true
+}
+
+// The n variables from v on, out of m blocks before the last: two out of each, and out of the first what is left.
+fn load_others(
+    out: &mut [u8],
+    p: Cursor,
+    table: &[u64; 267],
+    kinds: &[u8],
+    first: u64,
+    shared: bool,
+    m: u64,
+    v: u64,
+    n: u64,
+) -> Cursor
+    requires { ⌜ (Table (now table)) × (first ≤ v) × (8 * (v + n - first) ≤ length (now kinds)) × (v + n ≤ 133) × (n ≤ 2 * m) × (2 * m ≤ n + 1) × (p .at + 552 * m + 800 < 2 ^ 64) × (p .counter + 2 * m < 2 ^ 32) ⌝ }
+    ensures { λ q. ⌜ Emits (now (out .entry)) p (now (out .exit)) q (loadOthers base (extIn (now (kinds .entry)) first) shared m v n) ⌝ }
+{
+    let mut q = p;
+    let mut i = 0;
+    let mut from = 0;
+    let mut to = n + 2 - 2 * m;
+    while i < m {
+        let aside = freed_before(table, v, from);
+        q = load_block(
+            out,
+            q,
+            table,
+            kinds,
+            first,
+            shared,
+            true,
+            aside,
+            v + from,
+            to - from,
+        );
+        from = to;
+        to += 2;
+        i += 1;
+    }
+    q
+}
+
+// n variables from v on, out of all blocks of an object.
+fn load_some(
+    out: &mut [u8],
+    p: Cursor,
+    table: &[u64; 267],
+    kinds: &[u8],
+    first: u64,
+    shared: bool,
+    v: u64,
+    n: u64,
+) -> Cursor
+    requires { ⌜ (Table (now table)) × (first ≤ v) × (8 * (v + n - first) ≤ length (now kinds)) × (v + n ≤ 133) × (p .at + 40000 < 2 ^ 64) × (p .counter + 200 < 2 ^ 32) ⌝ }
+    ensures { λ q. ⌜ Emits (now (out .entry)) p (now (out .exit)) q (loadSome base (extIn (now (kinds .entry)) first) shared v n) ⌝ }
+{
+    let rest = store::less(n, 3);
+    let aside = freed_before(table, v, rest);
+    let q = load_others(
+        out,
+        p,
+        table,
+        kinds,
+        first,
+        shared,
+        (rest + 1) / 2,
+        v,
+        rest,
+    );
+    load_block(
+        out,
+        q,
+        table,
+        kinds,
+        first,
+        shared,
+        false,
+        aside,
+        v + rest,
+        n - rest,
+    )
 }

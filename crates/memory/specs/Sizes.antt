@@ -1,5 +1,5 @@
 -- How many records and labels the trees of memory.rs have.
-use Prim.Native.Nat.{ℕ, zero, suc, _+_, _*_, _-_, _≤_}
+use Prim.Native.Nat.{ℕ, zero, suc, _+_, _*_, _-_, _/_, _≤_}
 use mathlib.Core.Bool.{Bool, true, false, cond}
 use mathlib.Core.Path.{_≡_, refl}
 use native.Mathlib.Omega.{arith}
@@ -8,7 +8,7 @@ use Rattle.records.specs.declared.code.Code.the-variants.{MOVS, MOVL, MOVIM}
 use Rattle.trees.specs.Tree.{Tree, nop, leaf, seq, labels, size}
 use Rattle.layout.specs.Config.{base, stackOffset}
 use Rattle.code.specs.Code.{loadImmediate}
-use Rattle.memory.specs.Objects.{fst, snd, storeZeros, storeValue, storeValues, storeOther, storeOthers, storeSome, storeObject, chunks, shareLoaded, loadFst, loadValue, loadValues, releaseUnless, loadLink, capacity, setAside, restore, loadBody, loadSpilled, loadBlock}
+use Rattle.memory.specs.Objects.{fst, snd, storeZeros, storeValue, storeValues, storeOther, storeOthers, storeSome, storeObject, chunks, shareLoaded, loadFst, loadValue, loadValues, releaseUnless, loadLink, capacity, setAside, restore, loadBody, loadSpilled, loadBlock, freed, loadOthers, loadSome}
 use Rattle.memory.specs.Blocks.{eraseBlock, shareRegister, blockRegister, shareBlock, takeBlock, acquireBlock, storeField, loadField, releaseBlock}
 
 -- of a choice between two trees
@@ -146,3 +146,19 @@ module _ (ext : ℕ → Bool) (shared other : Bool) where
       let a = body-size v k (fst v) in
       let z = spilled-size aside v k in
       within (ltb (fst v) 16) (loadBody base ext shared other v k (fst v)) (loadSpilled base ext shared other aside v k) k (8 * k + 7) (a .0) (z .0) (omega arith) (z .1)
+
+module _ (ext : ℕ → Bool) (shared : Bool) where
+  pub others-size : (m v n : ℕ) → (labels (loadOthers base ext shared m v n) ≤ 2 * m) × (size (loadOthers base ext shared m v n) ≤ 23 * m)
+  others-size zero v n = (omega arith, omega arith)
+  others-size (suc m) v n =
+      let a = block-size ext shared true (freed base ext v (n - 2)) (v + (n - 2)) (n - (n - 2)) in
+      let z = others-size m v (n - 2) in
+      (omega arith, omega arith)
+
+  -- of a load of no more variables than have positions
+  pub some-size : (v n : ℕ) → n ≤ 133 → (labels (loadSome base ext shared v n) ≤ 133) × (size (loadSome base ext shared v n) ≤ 1526)
+  some-size v n h =
+      let m = (n - 3 + 1) / 2 in
+      let a = block-size ext shared false (freed base ext v (n - 3)) (v + (n - 3)) (n - (n - 3)) in
+      let z = others-size m v (n - 3) in
+      (omega arith, omega arith)

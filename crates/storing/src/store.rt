@@ -103,7 +103,7 @@ fn store_values(
 }
 
 // a less b, and 0 where b is more.
-fn less(a: u64, b: u64) -> u64
+pub fn less(a: u64, b: u64) -> u64
     ensures { λ r. ⌜ r ≡ a - b ⌝ }
 {
     if a < b { 0 } else { a - b }
