@@ -1,0 +1,17 @@
+use borrow.Author.Needs.{needs}
+use mathlib.Core.Path.{refl}
+use Rattle.emit.specs.Laws.{_⨟_, grown}
+use Rattle.records.specs.declared.code.Code.the-variants.{ADDIM}
+use Rattle.trees.specs.Tree.{leaf}
+use Rattle.layout.specs.Config.{MINUSONE}
+use Rattle.loading.proofs.load.load_shared.Statement.{statement}
+use Rattle.loading.proofs.load.load_shared.Tie as tie
+
+pub load-shared-spec : {M : Type 1} → statement M
+load-shared-spec =
+    tie.close
+    (tie.spec
+    (λ c κs. search needs)
+    (λ c κs. search needs)
+    (λ c. search needs)
+    (λ c. grown (leaf (ADDIM _ 0 MINUSONE) refl) (c .before .before .before .before .before .before .emit .ensures) refl refl ⨟ c .before .before .load-some .ensures))

@@ -1,0 +1,329 @@
+// The fields of an object's blocks, one block after the other, loaded into variables. From memory.rs.
+// `kinds` is binding records, of which the first is variable `first`'s; `table` gives each position its operand.
+ghost use mathlib.Core.Path.{_≡_};
+ghost use mathlib.Core.Bool.{not, _&&_};
+ghost use Prim.Native.Nat.{_+_, _*_, _-_, _<_, _≤_, _^_};
+ghost use lib.Dec.{ltb};
+ghost use lib.ListN.{length};
+ghost use Rattle.emit.specs.Emitted.{Emits};
+ghost use Rattle.layout.specs.Config.{base};
+ghost use Rattle.layout.specs.Positions.{Table};
+ghost use Rattle.memory.specs.Objects.{extIn, shareLoaded, loadFst, loadValue, loadValues, releaseUnless, loadLink, capacity, setAside, restore, loadBody, loadSpilled, loadBlock, loadOthers, loadSome, fst};
+use emit::cursor::Cursor;
+use emit::cursor::Row;
+use layout::config::RETURN1;
+use layout::config::SPILL_TEMP;
+use layout::config::STACK;
+use layout::config::TEMP;
+use memory::block;
+use records::number::MOVL;
+use records::number::MOVS;
+use storing::store;
+
+// A pointer just loaded to w is shared where it stays in its block too.
+fn share_loaded(out: &mut [u8], p: Cursor, shared: bool, w: u64) -> Cursor
+    requires { ⌜ (p .at + 96 < 2 ^ 64) × (p .counter + 1 < 2 ^ 32) ⌝ }
+    ensures { λ q. ⌜ Emits (now (out .entry)) p (now (out .exit)) q (shareLoaded shared w) ⌝ }
+{
+    if shared {
+        if w < 16 {
+            block::share_register(out, p, w as u8, 1)
+        } else {
+            block::share_register(out, p, TEMP, 1)
+        }
+    } else {
+        p
+    }
+}
+
+// Field t's pointer into variable v, unless it is an integer.
+fn load_fst(
+    out: &mut [u8],
+    p: Cursor,
+    table: &[u64; 267],
+    ext: bool,
+    shared: bool,
+    v: u64,
+    t: u64,
+    r: u8,
+) -> Cursor
+    requires { ⌜ (Table (now table)) × (v < 133) × (t < 3) × (p .at + 144 < 2 ^ 64) × (p .counter + 1 < 2 ^ 32) ⌝ }
+    ensures { λ q. ⌜ Emits (now (out .entry)) p (now (out .exit)) q (loadFst base ext shared v t r) ⌝ }
+{
+    if ext {
+        return p;
+    }
+    let offset = layout::config::fst_offset(t);
+    let w = layout::utils::location_at(table, 2 * v);
+    let q = block::load_field(out, p, w, r, offset);
+    share_loaded(out, q, shared, w)
+}
+
+// Field t of the block in register r into variable v.
+fn load_value(
+    out: &mut [u8],
+    p: Cursor,
+    table: &[u64; 267],
+    kinds: &[u8],
+    first: u64,
+    shared: bool,
+    v: u64,
+    t: u64,
+    r: u8,
+) -> Cursor
+    requires { ⌜ (Table (now table)) × (first ≤ v) × (8 * (v - first) + 8 ≤ length (now kinds)) × (v < 133) × (t < 3) × (p .at + 192 < 2 ^ 64) × (p .counter + 1 < 2 ^ 32) ⌝ }
+    ensures { λ q. ⌜ Emits (now (out .entry)) p (now (out .exit)) q (loadValue base (extIn (now (kinds .entry)) first) shared v t r) ⌝ }
+{
+    let offset = layout::config::snd_offset(t);
+    let w = layout::utils::location_at(table, 2 * v + 1);
+    let q = block::load_field(out, p, w, r, offset);
+    let ext = store::is_ext(kinds, v - first);
+    load_fst(out, q, table, ext, shared, v, t, r)
+}
+
+// The last k of the first `free` fields into the k variables from v on.
+fn load_values(
+    out: &mut [u8],
+    p: Cursor,
+    table: &[u64; 267],
+    kinds: &[u8],
+    first: u64,
+    shared: bool,
+    v: u64,
+    k: u64,
+    free: u64,
+    r: u8,
+) -> Cursor
+    requires { ⌜ (Table (now table)) × (first ≤ v) × (8 * (v + k - first) ≤ length (now kinds)) × (v + k ≤ 133) × (k ≤ free) × (free ≤ 3) × (p .at + 192 * k + 24 < 2 ^ 64) × (p .counter + k < 2 ^ 32) ⌝ }
+    ensures { λ q. ⌜ Emits (now (out .entry)) p (now (out .exit)) q (loadValues base (extIn (now (kinds .entry)) first) shared v k free r) ⌝ }
+{
+    let mut q = p;
+    let mut left = k;
+    let mut at = free;
+    while 0 < left {
+        q = load_value(
+            out,
+            q,
+            table,
+            kinds,
+            first,
+            shared,
+            v + (left - 1),
+            at - 1,
+            r,
+        );
+        left -= 1;
+        at -= 1;
+    }
+    q
+}
+
+fn release_unless(out: &mut [u8], p: Cursor, shared: bool, r: u8) -> Cursor
+    requires { ⌜ p .at + 48 < 2 ^ 64 ⌝ }
+    ensures { λ q. ⌜ Emits (now (out .entry)) p (now (out .exit)) q (releaseUnless shared r) ⌝ }
+{
+    if shared {
+        return p;
+    }
+    block::release_block(out, p, r)
+}
+
+// The link to the next block into variable v's Fst, unless the block is the last.
+fn load_link(out: &mut [u8], p: Cursor, table: &[u64; 267], other: bool, v: u64, r: u8) -> Cursor
+    requires { ⌜ (Table (now table)) × (v ≤ 133) × (p .at + 48 < 2 ^ 64) ⌝ }
+    ensures { λ q. ⌜ Emits (now (out .entry)) p (now (out .exit)) q (loadLink base other v r) ⌝ }
+{
+    if other {
+        let w = layout::utils::location_at(table, 2 * v);
+        block::load_field(out, p, w, r, 48)
+    } else {
+        p
+    }
+}
+
+// Register 4 into spill 0, unless it is there already.
+fn set_aside(out: &mut [u8], p: Cursor, aside: bool) -> Cursor
+    requires { ⌜ p .at + 24 < 2 ^ 64 ⌝ }
+    ensures { λ q. ⌜ Emits (now (out .entry)) p (now (out .exit)) q (setAside base aside) ⌝ }
+{
+    if aside {
+        return p;
+    }
+    let offset = layout::config::stack_offset(SPILL_TEMP);
+    emit::cursor::emit(out, p, Row(MOVS, RETURN1, STACK, 0, offset, 0))
+}
+
+// And back, after the last block.
+fn restore_aside(out: &mut [u8], p: Cursor, other: bool) -> Cursor
+    requires { ⌜ p .at + 24 < 2 ^ 64 ⌝ }
+    ensures { λ q. ⌜ Emits (now (out .entry)) p (now (out .exit)) q (restore base other) ⌝ }
+{
+    if other {
+        return p;
+    }
+    let offset = layout::config::stack_offset(SPILL_TEMP);
+    emit::cursor::emit(out, p, Row(MOVL, RETURN1, STACK, 0, offset, 0))
+}
+
+fn capacity_of(other: bool) -> u64
+    ensures { λ r. ⌜ (r ≡ capacity base other) × (r ≤ 3) × (2 ≤ r) ⌝ }
+{
+    if other { 2 } else { 3 }
+}
+
+// k variables from v on out of the block in register r, and before them the link to the next block.
+fn load_body(
+    out: &mut [u8],
+    p: Cursor,
+    table: &[u64; 267],
+    kinds: &[u8],
+    first: u64,
+    shared: bool,
+    other: bool,
+    v: u64,
+    k: u64,
+    r: u8,
+) -> Cursor
+    requires { ⌜ (Table (now table)) × (first ≤ v) × (8 * (v + k - first) ≤ length (now kinds)) × (v + k ≤ 133) × (k ≤ capacity base other) × (p .at + 1200 < 2 ^ 64) × (p .counter + k < 2 ^ 32) ⌝ }
+    ensures { λ q. ⌜ Emits (now (out .entry)) p (now (out .exit)) q (loadBody base (extIn (now (kinds .entry)) first) shared other v k r) ⌝ }
+{
+    let free = capacity_of(other);
+    let q = release_unless(out, p, shared, r);
+    let s = load_link(out, q, table, other, v + k, r);
+    load_values(out, s, table, kinds, first, shared, v, k, free, r)
+}
+
+// The same out of the block in spill w, which goes through register 4.
+fn load_spilled(
+    out: &mut [u8],
+    p: Cursor,
+    table: &[u64; 267],
+    kinds: &[u8],
+    first: u64,
+    shared: bool,
+    other: bool,
+    aside: bool,
+    v: u64,
+    k: u64,
+    w: u64,
+) -> Cursor
+    requires { ⌜ (Table (now table)) × (first ≤ v) × (8 * (v + k - first) ≤ length (now kinds)) × (v + k ≤ 133) × (k ≤ capacity base other) × (p .at + 1296 < 2 ^ 64) × (p .counter + k < 2 ^ 32) × (w ≡ fst v) × (16 ≤ w) × (w < 272) ⌝ }
+    ensures { λ q. ⌜ Emits (now (out .entry)) p (now (out .exit)) q (loadSpilled base (extIn (now (kinds .entry)) first) shared other aside v k) ⌝ }
+{
+    let q = set_aside(out, p, aside);
+    let offset = layout::config::stack_offset(w);
+    let s = emit::cursor::emit(out, q, Row(MOVL, RETURN1, STACK, 0, offset, 0));
+    let t = load_body(out, s, table, kinds, first, shared, other, v, k, RETURN1);
+    restore_aside(out, t, other)
+}
+
+// The same out of the block in variable v's Fst.
+fn load_block(
+    out: &mut [u8],
+    p: Cursor,
+    table: &[u64; 267],
+    kinds: &[u8],
+    first: u64,
+    shared: bool,
+    other: bool,
+    aside: bool,
+    v: u64,
+    k: u64,
+) -> Cursor
+    requires { ⌜ (Table (now table)) × (first ≤ v) × (8 * (v + k - first) ≤ length (now kinds)) × (v + k ≤ 133) × (k ≤ capacity base other) × (p .at + 1296 < 2 ^ 64) × (p .counter + k < 2 ^ 32) ⌝ }
+    ensures { λ q. ⌜ Emits (now (out .entry)) p (now (out .exit)) q (loadBlock base (extIn (now (kinds .entry)) first) shared other aside v k) ⌝ }
+{
+    let w = layout::utils::location_at(table, 2 * v);
+    if w < 16 {
+        load_body(out, p, table, kinds, first, shared, other, v, k, w as u8)
+    } else {
+        load_spilled(out, p, table, kinds, first, shared, other, aside, v, k, w)
+    }
+}
+
+// Whether a block before the one that starts with variable v + n lay in a spill.
+fn freed_before(table: &[u64; 267], v: u64, n: u64) -> bool
+    requires { ⌜ (Table (now table)) × (v + n ≤ 133) ⌝ }
+    ensures { λ r. ⌜ r ≡ (ltb 0 n && not (ltb (fst (v + (n - 2))) 16)) ⌝ }
+{
+    if 0 < n {} else {
+        return false;
+    }
+    let rest = store::less(n, 2);
+    let w = layout::utils::location_at(table, 2 * (v + rest));
+    if w < 16 {
+        return false;
+    }
+    true
+}
+
+// The n variables from v on, out of m blocks before the last: two out of each, and out of the first what is left.
+fn load_others(
+    out: &mut [u8],
+    p: Cursor,
+    table: &[u64; 267],
+    kinds: &[u8],
+    first: u64,
+    shared: bool,
+    m: u64,
+    v: u64,
+    n: u64,
+) -> Cursor
+    requires { ⌜ (Table (now table)) × (first ≤ v) × (8 * (v + n - first) ≤ length (now kinds)) × (v + n ≤ 133) × (n ≤ 2 * m) × (2 * m ≤ n + 1) × (p .at + 552 * m + 800 < 2 ^ 64) × (p .counter + 2 * m < 2 ^ 32) ⌝ }
+    ensures { λ q. ⌜ Emits (now (out .entry)) p (now (out .exit)) q (loadOthers base (extIn (now (kinds .entry)) first) shared m v n) ⌝ }
+{
+    let mut q = p;
+    let mut i = 0;
+    let mut from = 0;
+    let mut to = n + 2 - 2 * m;
+    while i < m {
+        let aside = freed_before(table, v, from);
+        q = load_block(
+            out,
+            q,
+            table,
+            kinds,
+            first,
+            shared,
+            true,
+            aside,
+            v + from,
+            to - from,
+        );
+        from = to;
+        to += 2;
+        i += 1;
+    }
+    q
+}
+
+// n variables from v on, out of all blocks of an object.
+pub fn load_some(
+    out: &mut [u8],
+    p: Cursor,
+    table: &[u64; 267],
+    kinds: &[u8],
+    first: u64,
+    shared: bool,
+    v: u64,
+    n: u64,
+) -> Cursor
+    requires { ⌜ (Table (now table)) × (first ≤ v) × (8 * (v + n - first) ≤ length (now kinds)) × (v + n ≤ 133) × (p .at + 40000 < 2 ^ 64) × (p .counter + 200 < 2 ^ 32) ⌝ }
+    ensures { λ q. ⌜ Emits (now (out .entry)) p (now (out .exit)) q (loadSome base (extIn (now (kinds .entry)) first) shared v n) ⌝ }
+{
+    let rest = store::less(n, 3);
+    let aside = freed_before(table, v, rest);
+    let q = load_others(out, p, table, kinds, first, shared, (rest + 1) / 2, v, rest);
+    load_block(
+        out,
+        q,
+        table,
+        kinds,
+        first,
+        shared,
+        false,
+        aside,
+        v + rest,
+        n - rest,
+    )
+}
