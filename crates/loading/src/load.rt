@@ -4,16 +4,20 @@ ghost use mathlib.Core.Bool.{true, false};
 ghost use Prim.Native.Nat.{_+_, _*_, _-_, _<_, _≤_, _^_};
 ghost use lib.ListN.{length};
 ghost use Rattle.records.specs.declared.code.Code.the-variants.{ADDIM, CMPIM};
-ghost use Rattle.trees.specs.Tree.{leaf, seq, if-zero, labels};
+ghost use Rattle.trees.specs.Tree.{leaf, seq, if-zero, labels, flat};
 ghost use Rattle.emit.specs.Emitted.{Emits};
+ghost use Rattle.emit.specs.Answers.{Answers};
 ghost use Rattle.layout.specs.Config.{base, MINUSONE};
 ghost use Rattle.layout.specs.Positions.{Table};
 ghost use Rattle.memory.specs.Objects.{extIn, loadSome, loadObject};
+ghost use Rattle.memory.specs.LoadAnswered.{loadTree, loadFits, loadAfter, loadAnswer};
 use crate::fields;
+use emit::answer::Answer;
 use emit::cursor::Cursor;
 use emit::cursor::Row;
 use layout::config::STACK;
 use layout::config::TEMP;
+use records::check::Checked;
 use records::number::ADDIM;
 use records::number::CMPIM;
 use records::number::JEL;
@@ -110,8 +114,8 @@ fn load_counted(
     emit::cursor::draw(w, shared + 2)
 }
 
-// n variables from v on out of the object in variable v's Fst.
-fn load_object(
+// One variable or more, from v on, out of the object in variable v's Fst.
+fn load_present(
     out: &mut [u8],
     p: Cursor,
     table: &[u64; 267],
@@ -131,4 +135,72 @@ fn load_object(
         let q = emit::cursor::emit(out, p, Row(MOVL, TEMP, STACK, 0, offset, 0));
         load_counted(out, q, table, kinds, first, v, n, TEMP)
     }
+}
+
+// n variables after v, out of the object in the Fst past those.
+fn load_object(
+    out: &mut [u8],
+    p: Cursor,
+    table: &[u64; 267],
+    kinds: &[u8],
+    v: u64,
+    n: u64,
+) -> Cursor
+    requires { ⌜ (Table (now table)) × (8 * n ≤ length (now kinds)) × (loadFits base v n ≡ true) × (p .at + 90024 < 2 ^ 64) × (p .counter + 400 < 2 ^ 32) ⌝ }
+    ensures { λ q. ⌜ Emits (now (out .entry)) p (now (out .exit)) q (loadObject base (extIn (now (kinds .entry)) v) v n) ⌝ }
+{
+    if n == 0 {
+        return p;
+    }
+    load_present(out, p, table, kinds, v, v, n)
+}
+
+// Whether n variables after v have positions.
+fn load_fits(v: u64, n: u64) -> bool
+    requires { ⌜ (v ≤ 4096) × (n ≤ 4096) ⌝ }
+    ensures { λ r. ⌜ r ≡ loadFits base v n ⌝ }
+{
+    if n == 0 {
+        return true;
+    }
+    v + n < 134
+}
+
+// A load of n variables after v.
+fn load_after(out: &mut [u8], counter: u64, loaded: &[u8], v: u64, n: u64) -> Answer
+    requires { ⌜ (v ≤ 4096) × (n ≤ 4096) × (8 * n ≤ length (now loaded)) ⌝ }
+    ensures { λ r. ⌜ Answers (now (out .entry)) (now (out .exit)) r (loadAfter base counter (length (now (out .entry))) (now (loaded .entry)) v n) (flat (loadObject base (extIn (now (loaded .entry)) v) v n) counter) ⌝ }
+{
+    if load_fits(v, n) {} else {
+        return Answer::Position;
+    }
+    let table = layout::utils::positions();
+    let mut none = [0u8; 1];
+    let need = load_object(
+        &mut none,
+        Cursor { at: 0, counter: 0 },
+        &table,
+        loaded,
+        v,
+        n,
+    );
+    let answer = emit::answer::grant(counter, out.len(), need);
+    if emit::answer::is_written(answer) {} else {
+        return answer;
+    }
+    load_object(out, Cursor { at: 0, counter }, &table, loaded, v, n);
+    answer
+}
+
+// The variables of one context, out of the object in the Fst past the existing context.
+pub fn load(out: &mut [u8], counter: u64, loaded: &[u8], existing: &[u8]) -> Answer
+    ensures { λ r. ⌜ Answers (now (out .entry)) (now (out .exit)) r (loadAnswer base counter (length (now (out .entry))) (now (loaded .entry)) (now (existing .entry))) (flat (loadTree base (now (loaded .entry)) (now (existing .entry))) counter) ⌝ }
+{
+    let Checked::Good(n) = records::binding::check_context(loaded) else {
+        return Answer::Context;
+    };
+    let Checked::Good(v) = records::binding::check_context(existing) else {
+        return Answer::Context;
+    };
+    load_after(out, counter, loaded, v as u64, n as u64)
 }

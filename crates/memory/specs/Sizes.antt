@@ -4,11 +4,11 @@ use mathlib.Core.Bool.{Bool, true, false, cond}
 use mathlib.Core.Path.{_≡_, refl}
 use native.Mathlib.Omega.{arith}
 use lib.Dec.{ltb, eqb}
-use Rattle.records.specs.declared.code.Code.the-variants.{MOVS, MOVL, MOVIM}
-use Rattle.trees.specs.Tree.{Tree, nop, leaf, seq, labels, size}
-use Rattle.layout.specs.Config.{base, stackOffset}
+use Rattle.records.specs.declared.code.Code.the-variants.{ADDIM, MOVS, MOVL, MOVIM, CMPIM}
+use Rattle.trees.specs.Tree.{Tree, nop, leaf, seq, if-zero, labels, size}
+use Rattle.layout.specs.Config.{STACK, TEMP, MINUSONE, base, stackOffset}
 use Rattle.code.specs.Code.{loadImmediate}
-use Rattle.memory.specs.Objects.{fst, snd, storeZeros, storeValue, storeValues, storeOther, storeOthers, storeSome, storeObject, chunks, shareLoaded, loadFst, loadValue, loadValues, releaseUnless, loadLink, capacity, setAside, restore, loadBody, loadSpilled, loadBlock, freed, loadOthers, loadSome}
+use Rattle.memory.specs.Objects.{fst, snd, storeZeros, storeValue, storeValues, storeOther, storeOthers, storeSome, storeObject, chunks, shareLoaded, loadFst, loadValue, loadValues, releaseUnless, loadLink, capacity, setAside, restore, loadBody, loadSpilled, loadBlock, freed, loadOthers, loadSome, loadObject}
 use Rattle.memory.specs.Blocks.{eraseBlock, shareRegister, blockRegister, shareBlock, takeBlock, acquireBlock, storeField, loadField, releaseBlock}
 
 -- of a choice between two trees
@@ -162,3 +162,13 @@ module _ (ext : ℕ → Bool) (shared : Bool) where
       let a = block-size ext shared false (freed base ext v (n - 3)) (v + (n - 3)) (n - (n - 3)) in
       let z = others-size m v (n - 3) in
       (omega arith, omega arith)
+
+pub object-size : (ext : ℕ → Bool) (v n : ℕ) → n ≤ 133 → (labels (loadObject base ext v n) ≤ 268) × (size (loadObject base ext v n) ≤ 3059)
+object-size ext v n h =
+    let a = some-size ext false v n h in
+    let b = some-size ext true v n h in
+    let r : ℕ = blockRegister (fst v) in
+    let p : Tree = leaf (MOVL TEMP STACK (stackOffset base (fst v))) refl in
+    let c : Tree = if-zero (CMPIM r 0 0) refl (loadSome base ext false v n) (seq (leaf (ADDIM r 0 MINUSONE) refl) (loadSome base ext true v n)) in
+    let y = within (ltb (fst v) 16) nop p 0 1 (omega arith) (omega arith) (omega arith) (omega arith) in
+    within (eqb n 0) nop (seq (cond (ltb (fst v) 16) nop p) c) 268 3059 (omega arith) (omega (arith, a .0, b .0, y .0)) (omega arith) (omega (arith, a .1, b .1, y .1))

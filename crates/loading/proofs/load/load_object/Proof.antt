@@ -1,11 +1,8 @@
 use borrow.Author.Needs.{needs}
-use mathlib.Core.Path.{refl}
 use native.Mathlib.Omega.{arith}
-use borrow.Author.Tests.{lt-ltb, le-ltb, ne-eqb}
-use Rattle.records.specs.declared.code.Code.the-variants.{MOVL}
-use Rattle.trees.specs.Tree.{leaf}
-use Rattle.emit.specs.Laws.{_⨟_, grown, emits-nop}
-use Rattle.layout.specs.Config.{STACK, TEMP}
+use borrow.Author.Tests.{eq-eqb}
+use Rattle.emit.specs.Laws.{emits-nop}
+use Rattle.loading.proofs.Answering.{fits-all}
 use Rattle.loading.proofs.load.load_object.Statement.{statement}
 use Rattle.loading.proofs.load.load_object.Tie as tie
 
@@ -13,14 +10,7 @@ pub load-object-spec : {M : Type 1} → statement M
 load-object-spec =
     tie.close
     (tie.spec
+    (λ c. rw (eq-eqb _ 0 (c .if1 .taken)) emits-nop)
+    (λ c κs. let a = c .before .before .before .before .args in let w = c .before .before .before .before .pre in let l = c .before .if1 .left in let f = fits-all (a .v) (a .n) (w .2) l in (w .0, omega arith, omega (arith, w .1), f, w .3, w .4, omega (arith, l)))
     (λ c. search needs)
-    (λ c κs. search needs)
-    (λ c. search needs)
-    (λ c κs. search needs)
-    (λ c κs. search needs)
-    (λ c κs. search needs)
-    (λ c κs. search needs)
-    (λ c. search needs)
-    (λ c. rw (ne-eqb (c .before .before .before .before .before .before .before .before .args .n) 0 (λ z. omega (arith, z, c .before .before .before .before .before .before .before .before .pre .6)), ← (c .before .before .before .before .before .location-at .ensures .0), lt-ltb _ 16 (c .before .before .before .before .if1 .taken)) (emits-nop ⨟ c .before .before .load-counted .ensures))
-    (λ c. search needs)
-    (λ c. rw (ne-eqb (c .before .before .before .before .before .before .before .before .before .before .before .before .before .args .n) 0 (λ z. omega (arith, z, c .before .before .before .before .before .before .before .before .before .before .before .before .before .pre .6)), ← (c .before .before .before .before .before .before .before .before .before .before .location-at .ensures .0), le-ltb _ 16 (c .before .before .before .before .before .before .before .before .before .if1 .left), ← (c .before .before .before .before .before .before .before .before .stack-offset .ensures)) (grown (leaf (MOVL TEMP STACK _) refl) (c .before .before .before .before .before .before .emit .ensures) refl refl ⨟ c .before .before .load-counted2 .ensures)))
+    (λ c. c .before .before .load-present .ensures))

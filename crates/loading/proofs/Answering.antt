@@ -1,0 +1,38 @@
+-- From two checked contexts to what a load answers.
+use Prim.Native.Nat.{ℕ, _+_, _*_, _-_, _≤_, _<_}
+use mathlib.Core.Path.{_≡_, sym, ap, _∙_}
+use mathlib.Core.Bool.{true}
+use mathlib.Core.List.{List}
+use native.Mathlib.Omega.{arith}
+use native.Mathlib.Decide.{ℕ-discrete}
+use borrow.Author.Tests.{ne-eqb, ltb-true}
+use Rattle.records.specs.declared.check.Checked.{Checked}
+use Rattle.records.specs.declared.check.Checked.the-variants.{Good}
+use Rattle.records.specs.Contexts.{checkedContext}
+use Rattle.layout.specs.Config.{base}
+use Rattle.memory.specs.Objects.{extIn, loadObject}
+use Rattle.memory.specs.Answered.{onContext, variablesIn}
+use Rattle.memory.specs.LoadAnswered.{loadTree, loadFits, loadAfter, loadAnswer}
+
+module _ (v n : ℕ) (e : loadFits base v n ≡ true) where
+  pub fits-all : (n ≡ 0 → ⊥) → v + n ≤ 133
+  fits-all z = let g : 2 * (v + n) - 1 < 267 = ltb-true (2 * (v + n) - 1) 267 (rw (ne-eqb n 0 z) at e) in omega arith
+
+  pub fits-few : n ≤ 133
+  fits-few = by (ℕ-discrete n 0)
+    where
+      by : Dec (n ≡ 0) → n ≤ 133
+      by (yes z) = omega arith
+      by (no z) = let g = fits-all z in omega arith
+
+module _ (s e : List ℕ) (n v : ℕ) (h : checkedContext s ≡ Good n) (k : checkedContext e ≡ Good v) where
+  pub tree : loadObject base (extIn s v) v n ≡ loadTree base s e
+  tree =
+      ap (λ (c : Checked). loadObject base (extIn s (variablesIn c)) (variablesIn c) n) (sym k)
+      ∙ ap (λ (c : Checked). loadObject base (extIn s (variablesIn (checkedContext e))) (variablesIn (checkedContext e)) (variablesIn c)) (sym h)
+
+  pub answer : (counter room : ℕ) → loadAfter base counter room s v n ≡ loadAnswer base counter room s e
+  unfolding loadAnswer
+  answer counter room =
+      ap (λ (c : Checked). onContext c (λ v. loadAfter base counter room s v n)) (sym k)
+      ∙ ap (λ (c : Checked). onContext c (λ n. onContext (checkedContext e) (λ v. loadAfter base counter room s v n))) (sym h)

@@ -1,0 +1,2 @@
+-- Lemmas of the loads' proofs.
+pub mod Answering  -- from checked contexts to what a load answers
