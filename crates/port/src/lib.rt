@@ -8,8 +8,13 @@ ghost use Rattle.records.specs.Instructions.{checkedCodes};
 ghost use Rattle.records.specs.Orders.{orderRead, orderCause};
 ghost use Rattle.listing.specs.Names.{codeNames};
 ghost use Rattle.listing.specs.Listing.{listed, listedText};
-ghost use Rattle.port.specs.Numbers.{numberIn, valueIn, listedNumbers};
+ghost use Rattle.instructions.specs.View.{view, wordsOf};
+ghost use Rattle.machine.specs.State.{entryState};
+ghost use Rattle.machine.specs.Run.{ran};
+ghost use Rattle.port.specs.Numbers.{numberIn, valueIn, listedNumbers, Gives};
 use listing::Listed;
+use machine::run::Answer;
+use machine::state::State;
 use records::check::Checked;
 use records::order::OrderRead;
 
@@ -76,6 +81,70 @@ pub extern "C" fn axcut_list(records: &[u8], text: &mut [u8], value: &mut u64) -
         Listed::Short(bytes) => {
             *value = bytes as u64;
             10
+        }
+    }
+}
+
+// The state with which a routine is entered.
+#[no_mangle]
+pub extern "C" fn axcut_entry(registers: &mut [u64; 16], stack: &mut [u64; 320])
+    ensures registers { λ r. ⌜ now (registers .exit) ≡ entryState .registers ⌝ }
+    ensures stack { λ r. ⌜ now (stack .exit) ≡ entryState .stack ⌝ }
+{
+    let state = machine::state::entry();
+    let words = state.registers;
+    let below = state.stack;
+    *registers = words;
+    *stack = below;
+}
+
+// Document 01's run on a lent state, heap and print words: the answer's number, with the steps and the record's place that go with it.
+#[no_mangle]
+pub extern "C" fn axcut_run(
+    records: &[u8],
+    registers: &mut [u64; 16],
+    stack: &mut [u64; 320],
+    heap: &mut [u64],
+    words: &[u64; 9],
+    limit: u64,
+    steps: &mut u64,
+    place: &mut u64,
+) -> u64
+    ensures { λ r. ⌜ Gives r (now (steps .exit)) (now (place .exit)) (view (now (registers .exit)) (now (stack .exit)) (now (heap .exit))) (ran (wordsOf (now (words .entry))) (now (records .entry)) limit (view (now (registers .entry)) (now (stack .entry)) (now (heap .entry)))) ⌝ }
+{
+    let taken = *registers;
+    let held = *stack;
+    let state = State {
+        registers: taken,
+        stack: held,
+    };
+    let ran = machine::run::run(records, state, heap, *words, limit);
+    let left = ran.state;
+    let answer = ran.answer;
+    let after = left.registers;
+    let below = left.stack;
+    *registers = after;
+    *stack = below;
+    match answer {
+        Answer::Ended(done) => {
+            *steps = done;
+            *place = 0;
+            0
+        }
+        Answer::Malformed(bad) => {
+            *steps = 0;
+            *place = bad as u64;
+            2
+        }
+        Answer::Fault(done, at) => {
+            *steps = done;
+            *place = at as u64;
+            11
+        }
+        Answer::Limit(done) => {
+            *steps = done;
+            *place = 0;
+            12
         }
     }
 }
