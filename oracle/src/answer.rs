@@ -1,5 +1,7 @@
 //! What the Rust and the port answer, and how it is written.
 
+use crate::interpreter::State;
+use crate::port::Ran;
 use crate::record::{self, Record};
 use std::fmt;
 
@@ -14,6 +16,8 @@ pub enum Answer {
     Accepted,
     /// What the lister writes.
     Listing(String),
+    /// How a run came out, and what it left.
+    Ran(Ran, Box<State>, Vec<u64>),
     /// The Rust panicked.
     Panic,
     /// The labels that the Rust drew lead above the last fresh label.
@@ -37,6 +41,13 @@ impl fmt::Display for Answer {
             Answer::Value(value) => write!(f, "value {value}"),
             Answer::Accepted => write!(f, "ok"),
             Answer::Listing(text) => write!(f, "{}", text.strip_suffix('\n').unwrap_or(text)),
+            Answer::Ran(ran, state, heap) => {
+                writeln!(f, "{ran}")?;
+                let registers = state.registers.iter().map(|word| format!(" {word}"));
+                writeln!(f, "registers{}", registers.collect::<String>())?;
+                writeln!(f, "stack{}", nonzero(&state.stack))?;
+                write!(f, "heap{}", nonzero(heap))
+            }
             Answer::Panic => write!(f, "panic"),
             Answer::Exceeded(labels) => write!(f, "exceeded {labels}"),
             Answer::Malformed(reason) => write!(f, "malformed {reason}"),
@@ -45,4 +56,28 @@ impl fmt::Display for Answer {
             Answer::Refused(number, Some(value)) => write!(f, "refused {number} {value}"),
         }
     }
+}
+
+impl fmt::Display for Ran {
+    fn fmt(&self, f: &mut fmt::Formatter) -> fmt::Result {
+        let Ran {
+            number,
+            steps,
+            place,
+        } = self;
+        match number {
+            0 => write!(f, "ended {steps}"),
+            2 => write!(f, "refused 2 {place}"),
+            12 => write!(f, "refused 12 {steps}"),
+            _ => write!(f, "refused {number} {steps} {place}"),
+        }
+    }
+}
+
+/// The words that are not zero, each after its index.
+fn nonzero(words: &[u64]) -> String {
+    let words = words.iter().enumerate().filter(|(_, word)| **word != 0);
+    words
+        .map(|(index, word)| format!(" {index}:{word}"))
+        .collect()
 }

@@ -5,74 +5,112 @@
 /// `v` value.
 pub struct Form {
     pub name: &'static str,
-    uses: &'static str,
+    /// A bit for each of `FIELDS`.
+    uses: u8,
 }
 
+const FIELDS: &[u8; 5] = b"ablov";
+
 impl Form {
+    #[inline]
     pub fn uses(&self, field: char) -> bool {
-        self.uses.contains(field)
+        let place = FIELDS.iter().position(|known| char::from(*known) == field);
+        place.is_some_and(|place| self.uses >> place & 1 == 1)
     }
 }
 
 /// The form of a code, if the number is one.
+#[inline]
 pub fn form(code: u8) -> Option<&'static Form> {
     FORMS.get(usize::from(code).checked_sub(1)?)
 }
 
-const fn row(name: &'static str, uses: &'static str) -> Form {
+const fn row(name: &'static str, fields: &'static str) -> Form {
+    let mut uses = 0;
+    let mut at = 0;
+    while at < fields.len() {
+        let mut place = 0;
+        while FIELDS[place] != fields.as_bytes()[at] {
+            place += 1;
+        }
+        uses |= 1 << place;
+        at += 1;
+    }
     Form { name, uses }
 }
 
-pub const FORMS: [Form; 44] = [
-    row("ADD", "ab"),
-    row("ADDRM", "abo"),
-    row("ADDMR", "abo"),
-    row("ADDI", "av"),
-    row("ADDIM", "aov"),
-    row("SUB", "ab"),
-    row("SUBRM", "abo"),
-    row("SUBMR", "abo"),
-    row("SUBI", "av"),
-    row("IMUL", "ab"),
-    row("IMULRM", "abo"),
-    row("IMULMR", "abo"),
-    row("IDIV", "a"),
-    row("IDIVM", "ao"),
-    row("CQO", ""),
-    row("JMP", "a"),
-    row("JMPL", "l"),
-    row("JMPLN", "l"),
-    row("LEAL", "al"),
-    row("MOV", "ab"),
-    row("MOVS", "abo"),
-    row("MOVL", "abo"),
-    row("MOVI", "av"),
-    row("MOVIM", "aov"),
-    row("CMP", "ab"),
-    row("CMPRM", "abo"),
-    row("CMPMR", "abo"),
-    row("CMPI", "av"),
-    row("CMPIM", "aov"),
-    row("JEL", "l"),
-    row("JNEL", "l"),
-    row("JLL", "l"),
-    row("JLEL", "l"),
-    row("JGL", "l"),
-    row("JGEL", "l"),
-    row("PUSH", "a"),
-    row("POP", "a"),
-    row("CALL", "l"),
-    row("RET", ""),
-    row("LAB", "l"),
-    row("NOEXECSTACK", ""),
-    row("TEXT", ""),
-    row("GLOBAL", "l"),
-    row("EXTERN", "l"),
-];
+/// Makes the table of forms and an enum of the same names from one list.
+macro_rules! codes {
+    ($($name:ident $uses:literal,)*) => {
+        #[derive(Debug, Clone, Copy, PartialEq, Eq)]
+        #[allow(clippy::upper_case_acronyms)]
+        pub enum Code {
+            $($name,)*
+        }
+
+        pub const FORMS: [Form; 44] = [$(row(stringify!($name), $uses),)*];
+
+        pub const CODES: [Code; 44] = [$(Code::$name,)*];
+    };
+}
+
+codes! {
+    ADD "ab",
+    ADDRM "abo",
+    ADDMR "abo",
+    ADDI "av",
+    ADDIM "aov",
+    SUB "ab",
+    SUBRM "abo",
+    SUBMR "abo",
+    SUBI "av",
+    IMUL "ab",
+    IMULRM "abo",
+    IMULMR "abo",
+    IDIV "a",
+    IDIVM "ao",
+    CQO "",
+    JMP "a",
+    JMPL "l",
+    JMPLN "l",
+    LEAL "al",
+    MOV "ab",
+    MOVS "abo",
+    MOVL "abo",
+    MOVI "av",
+    MOVIM "aov",
+    CMP "ab",
+    CMPRM "abo",
+    CMPMR "abo",
+    CMPI "av",
+    CMPIM "aov",
+    JEL "l",
+    JNEL "l",
+    JLL "l",
+    JLEL "l",
+    JGL "l",
+    JGEL "l",
+    PUSH "a",
+    POP "a",
+    CALL "l",
+    RET "",
+    LAB "l",
+    NOEXECSTACK "",
+    TEXT "",
+    GLOBAL "l",
+    EXTERN "l",
+}
+
+impl Code {
+    /// The number in the record.
+    pub const fn number(self) -> u8 {
+        self as u8 + 1
+    }
+}
 
 #[cfg(test)]
 mod tests {
-    use super::FORMS;
+    use super::{FIELDS, FORMS};
 
     const PUBLISHED: &str = include_str!("../target/published/lang/axcut2x86_64/src/code.rs");
 
@@ -110,7 +148,9 @@ mod tests {
         assert_eq!(variants[44].0, "COMMENT");
         for (form, (name, fields)) in FORMS.iter().zip(&variants) {
             assert_eq!(form.name, *name);
-            assert_eq!(form.uses, uses(name, fields), "{name}");
+            let used = FIELDS.iter().map(|field| char::from(*field));
+            let used: String = used.filter(|field| form.uses(*field)).collect();
+            assert_eq!(used, uses(name, fields), "{name}");
         }
     }
 }

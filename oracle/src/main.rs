@@ -2,6 +2,7 @@
 
 mod agree;
 mod answer;
+mod bench;
 mod codes;
 mod context;
 mod conversion;
@@ -9,10 +10,13 @@ mod differ;
 mod generate;
 mod hex;
 mod inputs;
+mod interpreter;
 mod lent;
+mod machine_agree;
 mod parse;
 mod port;
 mod port_side;
+mod programs;
 mod random;
 mod reading;
 mod record;
@@ -78,6 +82,15 @@ fn run(words: &[&str]) -> Result<bool, Failure> {
             let (count, seed) = options_of(options, 100_000)?;
             need_port()?;
             return Ok(agree::run(count, seed));
+        }
+        ["machine-agree", options @ ..] => {
+            let (count, seed) = options_of(options, 200_000)?;
+            need_port()?;
+            return Ok(machine_agree::run(count, seed));
+        }
+        ["bench", "machine"] => {
+            need_port()?;
+            return Ok(bench::machine());
         }
         _ => return Err(Failure::Usage),
     }

@@ -4,7 +4,7 @@ use crate::context::{read_ids, read_kinds};
 use crate::hex;
 use crate::record;
 use crate::request::{
-    Arithmetic, Condition, Emission, Form, Number, Operand, Operation, Query, Request,
+    Arithmetic, Condition, Emission, Form, Number, Operand, Operation, Query, Request, Run,
 };
 
 type Read<T> = Result<T, String>;
@@ -18,7 +18,14 @@ pub fn request(line: &str) -> Read<Request> {
         ["check", "records", bytes] => Ok(Request::Check(Form::Records, hex::read(bytes)?)),
         ["check", "order", bytes] => Ok(Request::Check(Form::Order, hex::read(bytes)?)),
         ["list", bytes] => Ok(Request::List(hex::read(bytes)?)),
-        ["order" | "run" | "fresh" | "play" | "show", ..] => Ok(Request::OrderOrRun),
+        ["run", limit, blocks, words, records] => Ok(Request::Run(Run {
+            limit: number(limit)?,
+            blocks: number(blocks)?,
+            words: print_words(words)?,
+            records: hex::read(records)?,
+        })),
+        ["run", ..] => Err("wrong words after run".to_string()),
+        ["order" | "fresh" | "play" | "show", ..] => Ok(Request::Order),
         [
             "variable_temporary" | "fresh_temporary" | "position" | "stack_offset" | "field_offset",
             ..,
@@ -223,6 +230,13 @@ fn zero_or_one(text: &str) -> Read<bool> {
         "1" => Ok(true),
         _ => Err(format!("{text} is neither 0 nor 1")),
     }
+}
+
+/// Nine words with commas between.
+fn print_words(text: &str) -> Read<[u64; 9]> {
+    let words = text.split(',').map(number).collect::<Read<Vec<_>>>()?;
+    let words = words.try_into();
+    words.map_err(|_| "a print leaves nine words".to_string())
 }
 
 /// An unsigned 64-bit decimal.

@@ -1,5 +1,6 @@
 //! The port's library: its functions as they are exported for C, and safe functions over them.
 
+use crate::interpreter::{STACK_WORDS, State};
 use crate::lent::Lent;
 use crate::record::SIZE;
 
@@ -32,6 +33,19 @@ exported! {
         text: *mut u8,
         text_len: usize,
         value: *mut u64
+    ) -> u64;
+    fn axcut_entry(registers: *mut [u64; 16], stack: *mut [u64; STACK_WORDS]) -> ();
+    fn axcut_run(
+        records: *const u8,
+        len: usize,
+        registers: *mut [u64; 16],
+        stack: *mut [u64; STACK_WORDS],
+        heap: *mut u64,
+        heap_len: usize,
+        words: *const [u64; 9],
+        limit: u64,
+        steps: *mut u64,
+        place: *mut u64
     ) -> u64;
 }
 
@@ -88,4 +102,52 @@ pub fn list(records: &[u8], room: usize) -> Result<(Returned, Vec<u8>), Damaged>
     let length = if number == 0 { value } else { 0 };
     let written = text.written(length).ok_or(Damaged)?;
     Ok((Returned { number, value }, written.to_vec()))
+}
+
+/// What a run returned: 0 or document 01's number, the steps and the record's place.
+#[derive(Debug, Clone, Copy, PartialEq, Eq)]
+pub struct Ran {
+    pub number: u64,
+    pub steps: u64,
+    pub place: u64,
+}
+
+/// The state with which a routine is entered.
+pub fn entry() -> State {
+    let mut state = State {
+        registers: [1; 16],
+        stack: [1; STACK_WORDS],
+    };
+    unsafe { axcut_entry(&mut state.registers, &mut state.stack) };
+    state
+}
+
+/// Runs records on a state, beside a heap given as words.
+pub fn run(
+    records: &[u8],
+    state: &mut State,
+    heap: &mut [u64],
+    words: &[u64; 9],
+    limit: u64,
+) -> Ran {
+    let (mut steps, mut place) = (u64::MAX, u64::MAX);
+    let number = unsafe {
+        axcut_run(
+            records.as_ptr(),
+            records.len(),
+            &mut state.registers,
+            &mut state.stack,
+            heap.as_mut_ptr(),
+            heap.len(),
+            words,
+            limit,
+            &mut steps,
+            &mut place,
+        )
+    };
+    Ran {
+        number,
+        steps,
+        place,
+    }
 }

@@ -1,14 +1,16 @@
 //! Answers requests by the port.
 
 use crate::answer::Answer;
-use crate::port::{self, Damaged, Returned};
-use crate::request::{Form, Request};
+use crate::interpreter::{BLOCK_WORDS, MOST_BLOCKS};
+use crate::port::{self, Damaged, Ran, Returned};
+use crate::request::{Form, Request, Run};
 
 pub fn answer(request: &Request) -> Answer {
     match request {
         Request::Check(form, bytes) => check(*form, bytes),
         Request::List(bytes) => list(bytes),
-        Request::Emission(_) | Request::Query(_) | Request::OrderOrRun => {
+        Request::Run(request) => run(request),
+        Request::Emission(_) | Request::Query(_) | Request::Order => {
             Answer::Malformed("the port does not answer this yet".to_string())
         }
     }
@@ -41,4 +43,20 @@ fn list(bytes: &[u8]) -> Answer {
         }
         Ok((Returned { number, value }, _)) => Answer::Listing(format!("{number} {value}\n")),
     }
+}
+
+/// A run from the entry state. A heap too large to be lent is refused as the port refuses one
+/// block more than it takes.
+fn run(request: &Run) -> Answer {
+    let mut state = Box::new(port::entry());
+    let blocks = request.blocks.min(MOST_BLOCKS as u64 + 1);
+    let mut heap = vec![0; blocks as usize * BLOCK_WORDS];
+    let Run {
+        limit,
+        words,
+        records,
+        ..
+    } = request;
+    let ran: Ran = port::run(records, &mut state, &mut heap, words, *limit);
+    Answer::Ran(ran, state, heap)
 }

@@ -32,7 +32,11 @@ pub fn check_context(bytes: &[u8]) -> Result<(), Refusal> {
 /// "malformed instruction, field not zero, too many": 2 with "the first bad or surplus record's"
 /// place.
 pub fn check_records(bytes: &[u8]) -> Result<(), Refusal> {
-    well_formed_records(bytes, MOST_RECORDS).map(|_| ())
+    let bad = bytes
+        .chunks(record::SIZE)
+        .enumerate()
+        .position(|(index, chunk)| index >= MOST_RECORDS || well_formed_record(chunk).is_none());
+    bad.map_or(Ok(()), |index| Err(bad_record(index + 1)))
 }
 
 /// An order is one record: the same number and place, a second record being surplus.

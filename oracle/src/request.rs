@@ -11,8 +11,10 @@ pub enum Request {
     Check(Form, Vec<u8>),
     /// What the lister writes for the bytes.
     List(Vec<u8>),
-    /// Orders and runs of the machine, of which the port's library has no function yet.
-    OrderOrRun,
+    /// A run of the machine from the entry state.
+    Run(Run),
+    /// Orders, of which the port's library has no function yet.
+    Order,
 }
 
 /// Operations that append to one list of records.
@@ -22,6 +24,16 @@ pub struct Emission {
     /// The length of the port's output in bytes, if not ample.
     pub room: Option<u64>,
     pub operations: Vec<Operation>,
+}
+
+/// A run on a zeroed heap of so many blocks.
+#[derive(Debug)]
+pub struct Run {
+    pub limit: u64,
+    pub blocks: u64,
+    /// What print calls leave.
+    pub words: [u64; 9],
+    pub records: Vec<u8>,
 }
 
 #[derive(Debug)]
