@@ -13,6 +13,8 @@ mod inputs;
 mod interpreter;
 mod lent;
 mod machine_agree;
+#[cfg(target_arch = "x86_64")]
+mod native;
 mod parse;
 mod port;
 mod port_side;
@@ -87,6 +89,13 @@ fn run(words: &[&str]) -> Result<bool, Failure> {
             let (count, seed) = options_of(options, 200_000)?;
             need_port()?;
             return Ok(machine_agree::run(count, seed));
+        }
+        #[cfg(target_arch = "x86_64")]
+        ["native", options @ ..] => {
+            let (count, seed) = options_of(options, 400)?;
+            need_port()?;
+            let folder = std::path::Path::new("target/native");
+            return native::run(count, seed, folder).map_err(Failure::Files);
         }
         ["bench", "machine"] => {
             need_port()?;
