@@ -29,10 +29,11 @@ struct Program {
 pub fn machine() -> bool {
     let stored = store();
     let loaded = shared_load(&stored);
-    let programs = [stored, loaded, routine()];
-    programs
-        .iter()
-        .fold(true, |good, program| time(program) && good)
+    let mut alike = true;
+    for program in [stored, loaded, mixed_routine(), even_routine()] {
+        alike &= time(&program);
+    }
+    alike
 }
 
 /// The bytes of the records that the published Rust emits for a request.
@@ -79,8 +80,9 @@ fn kinds() -> String {
     "eel".repeat(44) + "e"
 }
 
-/// A routine without a jump: arithmetic and moves between registers and spills.
-fn routine() -> Program {
+/// A routine without a jump: arithmetic and moves between registers and spills, in no pattern
+/// that a processor could foresee.
+fn mixed_routine() -> Program {
     let mut random = Random::new(1);
     let mut body = String::new();
     for _ in 0..1_000 {
@@ -92,9 +94,18 @@ fn routine() -> Program {
             _ => format!("{operation} p{t} p{fst} p{snd}; "),
         };
     }
+    routine("routine of mixed operations", &body)
+}
+
+/// A routine without a jump in which every operation is the same.
+fn even_routine() -> Program {
+    routine("routine of additions", &"add p1 p3 p5; ".repeat(1_000))
+}
+
+fn routine(name: &'static str, body: &str) -> Program {
     Program {
-        name: "routine without a jump",
-        records: emitted(&(body + "routine 5")),
+        name,
+        records: emitted(&format!("{body}routine 5")),
         state: interpreter::entry(),
         heap: vec![0; BLOCKS * BLOCK_WORDS],
     }

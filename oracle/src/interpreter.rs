@@ -1,5 +1,6 @@
 //! A reading of document 01's machine, made from the document, the Intel manual and the text that
 //! the published Rust prints for each instruction, and not from the port, to be held against it.
+//! It is plain Rust on mutable words, so it also serves to time the port's machine.
 
 use crate::codes::{CODES, Code};
 use crate::reading;
@@ -201,6 +202,7 @@ fn target(records: &[[u8; SIZE]], wanted: u32) -> Result<usize, Fault> {
 
 impl Machine<'_> {
     /// Performs one record. Whatever can fault comes before anything is written.
+    #[inline(always)]
     fn step(&mut self, record: &[u8; SIZE]) -> Result<Next, Fault> {
         use Code::*;
         let code = code(record);
@@ -339,6 +341,7 @@ impl Machine<'_> {
     }
 
     /// The word of memory at a register's content plus an offset.
+    #[inline(always)]
     fn word(&mut self, base: usize, offset: u64) -> Result<&mut u64, Fault> {
         let address = self.registers[base].wrapping_add(offset);
         if !address.is_multiple_of(8) {
@@ -374,4 +377,66 @@ impl Machine<'_> {
 /// What CQO makes of register 4: its sign in every bit.
 fn extension(word: u64) -> u64 {
     (word as i64 >> 63) as u64
+}
+
+#[cfg(test)]
+mod tests {
+    use super::*;
+    use crate::answer::Answer;
+    use crate::{parse, programs, rust_side};
+
+    fn routine(request: &str) -> Vec<u8> {
+        let request = parse::request(request).unwrap();
+        match rust_side::answer(&request) {
+            Answer::Records(records, _) => records.iter().flat_map(|r| r.to_bytes()).collect(),
+            answer => panic!("{answer}"),
+        }
+    }
+
+    /// "The first state follows the 16 records before the body of a 0-argument routine."
+    #[test]
+    fn where_a_body_starts() {
+        let records = routine("routine 0");
+        let (mut state, mut heap) = (entry(), vec![0; 16]);
+        let outcome = run(&records[..16 * SIZE], &mut state, &mut heap, &[0; 9], 16);
+        let at_return = false;
+        assert_eq!(
+            outcome,
+            Outcome::Ended {
+                steps: 16,
+                at_return
+            }
+        );
+        let [stack, _, heap, free, ..] = state.registers;
+        assert_eq!(stack, STACK_AT_ENTRY - 6 * 8 - 2_048);
+        assert_eq!([heap, free], [HEAP_START, HEAP_START + 64]);
+    }
+
+    /// A routine gives back what it saved and returns.
+    #[test]
+    fn a_routine_returns() {
+        let records = routine("load_immediate p1 7; add p3 p1 p1; routine 0");
+        let mut state = entry();
+        state.registers[12..].copy_from_slice(&[5, 6, 7, 8]);
+        let outcome = run(&records, &mut state, &mut [0; 16], &[0; 9], u64::MAX);
+        assert!(matches!(
+            outcome,
+            Outcome::Ended {
+                at_return: true,
+                ..
+            }
+        ));
+        assert_eq!(state.registers[12..], [5, 6, 7, 8]);
+        assert_eq!(state.registers[STACK], STACK_END);
+    }
+
+    #[test]
+    fn each_fault_has_its_place_and_cause() {
+        for (mut program, place, why) in programs::faults() {
+            let (state, heap) = (&mut program.state, &mut program.heap);
+            let outcome = run(&program.records, state, heap, &program.words, program.limit);
+            let steps = place - 1;
+            assert_eq!(outcome, Outcome::Fault { steps, place, why });
+        }
+    }
 }

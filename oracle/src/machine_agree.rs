@@ -38,9 +38,11 @@ pub fn run(count: u64, seed: u64) -> bool {
     }
     for (program, place, why) in programs::faults() {
         let outcome = tally.compare(&program);
-        let expected =
-            matches!(outcome, Outcome::Fault { place: p, why: w, .. } if p == place && w == why);
-        assert!(expected, "{why:?} at {place} expected, not {outcome:?}");
+        let steps = place - 1;
+        if outcome != (Outcome::Fault { steps, place, why }) {
+            println!("{why:?} at {place} was made, {outcome:?} met");
+            tally.different += 1;
+        }
     }
     for program in programs::limits() {
         tally.compare(&program);

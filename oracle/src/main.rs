@@ -36,7 +36,12 @@ oracle compare rust|port                           answers requests on standard 
 oracle differ                                      puts them to both and counts differences
 oracle generate emission|sample|checks [OPTIONS]   writes requests (--count 1000, --seed 1)
 oracle agree [OPTIONS]                             holds the port against document 01
-                                                   (--count 100000, --seed 1)";
+                                                   (--count 100000, --seed 1)
+oracle machine-agree [OPTIONS]                     holds the port's machine against document 01
+                                                   (--count 200000, --seed 1)
+oracle native [OPTIONS]                            holds it against this processor
+                                                   (--count 400, --seed 1)
+oracle bench machine                               times it beside plain Rust";
 
 /// Why a command did not run to its end.
 enum Failure {
