@@ -1,6 +1,6 @@
 -- How the code goes about an instruction: writes that may fail, operands, results and conditions by numbers, and what an answer says. The meaning of an
 -- instruction is in `Step`; these join the code to it.
-use Prim.Native.Nat.{ℕ, _<_}
+use Prim.Native.Nat.{ℕ, _<_, _%_}
 use mathlib.Core.Path.{_≡_}
 use mathlib.Core.Bool.{Bool, true, false, not, cond}
 use mathlib.Core.List.{List}
@@ -37,6 +37,10 @@ operandOf n f =
     (cond (eqb n 1) (register (f .b))
     (cond (eqb n 2) (memory (f .a) (f .offset))
     (cond (eqb n 3) (memory (f .b) (f .offset)) (immediate (f .value)))))
+
+-- the register in a form below 4: a in the even ones, b in the odd ones
+unfoldable pub named : ℕ → Fields → ℕ
+named n f = choose (eqb (n % 2) 0) (f .a) (f .b)
 
 unfoldable pub resultOf : ℕ → ℕ → ℕ → ℕ
 resultOf n x y = choose (eqb n 0) (sum x y) (choose (eqb n 1) (difference x y) (product x y))

@@ -3,10 +3,23 @@ ghost use mathlib.Core.Path.{_≡_};
 ghost use Prim.Native.Nat.{_<_};
 ghost use Rattle.instructions.specs.View.{view};
 ghost use Rattle.instructions.specs.Memory.{valueOf, assigned};
-ghost use Rattle.instructions.specs.Forms.{operandOf, Sized, Wrote};
+ghost use Rattle.instructions.specs.Forms.{operandOf, named, Sized, Wrote};
 use crate::memory;
 use crate::memory::Loaded;
 use records::code::Fields;
+
+// The register that a form names, or whose word it adds the offset to: a for the even forms, b for the odd ones. Two comparisons and this choice
+// compile to fewer jumps than a match on the form.
+fn register_of(form: u8, f: Fields) -> usize
+    requires { ⌜ (f .a < 16) × (f .b < 16) ⌝ }
+    ensures { λ r. ⌜ (r < 16) × (r ≡ named form f) ⌝ }
+{
+    if form % 2 == 0 {
+        f.a as usize
+    } else {
+        f.b as usize
+    }
+}
 
 pub fn operand(
     form: u8,
@@ -18,15 +31,14 @@ pub fn operand(
     requires { ⌜ (f .a < 16) × (f .b < 16) ⌝ }
     ensures { λ r. ⌜ r ≡ valueOf (view (now (registers .entry)) (now (stack .entry)) (now (heap .entry))) (operandOf form f) ⌝ }
 {
-    let a = f.a as usize;
-    let b = f.b as usize;
-    match form {
-        0 => Loaded::Word(registers[a]),
-        1 => Loaded::Word(registers[b]),
-        2 => memory::load(stack, heap, word::sum(registers[a], f.offset)),
-        3 => memory::load(stack, heap, word::sum(registers[b], f.offset)),
-        _ => Loaded::Word(f.value),
+    let i = register_of(form, f);
+    if form < 2 {
+        return Loaded::Word(registers[i]);
     }
+    if form < 4 {
+        return memory::load(stack, heap, word::sum(registers[i], f.offset));
+    }
+    Loaded::Word(f.value)
 }
 
 // Whether v was written.
@@ -41,19 +53,13 @@ pub fn assign(
     requires { ⌜ (f .a < 16) × (f .b < 16) × Sized (now registers) (now stack) ⌝ }
     ensures { λ r. ⌜ Sized (now (registers .exit)) (now (stack .exit)) × Wrote (view (now (registers .entry)) (now (stack .entry)) (now (heap .entry))) (assigned (view (now (registers .entry)) (now (stack .entry)) (now (heap .entry))) (operandOf form f) v) (view (now (registers .exit)) (now (stack .exit)) (now (heap .exit))) r ⌝ }
 {
-    let a = f.a as usize;
-    let b = f.b as usize;
-    match form {
-        0 => {
-            registers[a] = v;
-            true
-        }
-        1 => {
-            registers[b] = v;
-            true
-        }
-        2 => memory::store(stack, heap, word::sum(registers[a], f.offset), v),
-        3 => memory::store(stack, heap, word::sum(registers[b], f.offset), v),
-        _ => false,
+    let i = register_of(form, f);
+    if form < 2 {
+        registers[i] = v;
+        return true;
     }
+    if form < 4 {
+        return memory::store(stack, heap, word::sum(registers[i], f.offset), v);
+    }
+    false
 }

@@ -1,5 +1,5 @@
 use borrow.Author.Needs.{needs}
-use Rattle.instructions.proofs.Forms.{immediate-form}
+use Rattle.instructions.proofs.Forms.{register-form, memory-form, immediate-form}
 use Rattle.instructions.proofs.operand.operand.Statement.{statement}
 use Rattle.instructions.proofs.operand.operand.Tie as tie
 
@@ -7,22 +7,13 @@ pub operand-spec : {M : Type 1} → statement M
 operand-spec =
     tie.close
     (tie.spec
+    (λ c κs. search needs)
     (λ c. search needs)
     (λ c. search needs)
-    (λ c. search needs)
-    (λ c. search needs)
-    (λ c. search needs)
-    (λ c. search needs)
+    (λ c. rw (register-form _ _ (c .before .if1 .taken), ← (c .before .before .register-of .ensures .1)))
     (λ c. search needs)
     (λ c. search needs)
     (λ c κs. search needs)
     (λ c κs. search needs)
-    (λ c. search needs)
-    (λ c. search needs)
-    (λ c κs. search needs)
-    (λ c κs. search needs)
-    (λ c. rw (c .before .match .keys1))
-    (λ c. rw (c .before .match .keys2))
-    (λ c. rw (c .before .before .before .match .keys3, ← (c .before .sum .ensures)) (c .load .ensures))
-    (λ c. rw (c .before .before .before .match .keys4, ← (c .before .sum2 .ensures)) (c .load2 .ensures))
-    (λ c. rw (immediate-form _ _ (c .match .rest))))
+    (λ c. rw (memory-form _ _ (c .before .before .before .before .if1 .left) (c .before .before .before .if2 .taken), ← (c .before .before .before .before .before .register-of .ensures .1), ← (c .before .sum .ensures)) (c .load .ensures))
+    (λ c. rw (immediate-form _ _ (c .if2 .left))))
