@@ -62,12 +62,12 @@ module _ (words : ℕ → ℕ) where
   take-does {N} s l v a b = by (ltb l 16) refl
     where
       by : (c : Bool) → ltb l 16 ≡ c → Does words (cond c (leaf (MOV l 2) refl) (seq (leaf (MOV 1 2) refl) (leaf (MOVS 2 0 (stackOffset base l)) refl))) s
-        (λ r. (held r l ≡ s .state .reg 2) × (r .state .reg (cond c l TEMP) ≡ s .state .reg 2) × (r .state .mem ≡ s .state .mem) × Keeps (λ x. (x ≢ 1) × (x ≢ l)) s r)
+          (λ r. (held r l ≡ s .state .reg 2) × (r .state .reg (cond c l TEMP) ≡ s .state .reg 2) × (r .state .mem ≡ s .state .mem) × Keeps (λ x. (x ≢ 1) × (x ≢ l)) s r)
       by true e = one (register-MOV words s l 2) (register-same (s .state .reg) (s .state .stk) l (s .state .reg 2) (ltb-true l 16 e), upd-same (s .state .reg) l (s .state .reg 2), refl, keeps-put l (s .state .reg 2) (λ x d. d .1) keeps-refl)
       by false e =
           let h : 16 ≤ l = ltb-false l 16 e in
           go (register-MOV words s 1 2) (one (spill-MOVS words (withRegister s 1 (s .state .reg 2)) v l h b 2)
-            (spill-same (upd (s .state .reg) 1 (s .state .reg 2)) (s .state .stk) l (s .state .reg 2) h, refl, refl, keeps-spill l (s .state .reg 2) h b (λ x d. d .1) (keeps-put 1 (s .state .reg 2) (λ x d. d .0) keeps-refl)))
+          (spill-same (upd (s .state .reg) 1 (s .state .reg 2)) (s .state .stk) l (s .state .reg 2) h, refl, refl, keeps-spill l (s .state .reg 2) h b (λ x d. d .1) (keeps-put 1 (s .state .reg 2) (λ x d. d .0) keeps-refl)))
 
   module _ {N n : ℕ} (roots : List ℕ) (s : Config) (v : Placed N s) (room : n < N) (few : length roots ≤ 1048559) where
     abbrev Goal : Tree → Config → Type 0
@@ -101,11 +101,13 @@ module _ (words : ℕ → ℕ) where
         let k₃ : K (s .state .reg 3) ≡ pointers (cellsFrom 3 m₁ i 0 3) = ap pointers (l₃ ∙ sym (cells-agree 3 m m₁ i 0 3 (λ y a b. head-fields m i 0 i y (omega arith) (omega arith)))) in
         let q₃ : Invariant L (children (blockFields 3 m₁)) (headers 3 m₁) (s .state .reg 3) (m (8 * i + 0)) n [] ys (s .state .reg 2 ∷ o .0) (pointers (cellsFrom 3 m₁ i 0 3) ++ (s .state .reg 2 ∷ roots)) = rw (f₃, ← k₃, ← h₃) q₂ in
         go (block-MOVIM words (dropped u) v 2 i 0 0 is lt refl (omega arith) 0)
-        (weaken (λ r g. (record {
+        (weaken (λ r g. (
+          record {
             did = subst (λ x. Acquire L K (headers 3 m) (s .state .reg 2) (s .state .reg 3) (headers 3 (r .state .mem)) x (r .state .reg 3)) (sym (keeps-register (g .2) 2 (omega arith) (omega arith))) (from-lazy z (λ x. nz (sym h₃ ∙ x)) at₁ off (rw (k₃, h₃) (g .0)));
-            fields = λ x y a b. g .1 x y a b ∙ head-fields m i 0 x y a b
+            fields = λ x y a b. g .1 x y a b ∙ head-fields m i 0 x y a b;
           },
-          keeps-trans (keeps-put 3 (m (8 * i + 0)) (λ l x. x .2) (keeps-put 2 (s .state .reg 3) (λ l x. x .1) (keeps-put 2 w (λ l x. x .1) keeps-refl))) (keeps-sub (λ l x. (x .0, x .2)) (g .2))))
+          keeps-trans (keeps-put 3 (m (8 * i + 0)) (λ l x. x .2) (keeps-put 2 (s .state .reg 3) (λ l x. x .1) (keeps-put 2 w (λ l x. x .1) keeps-refl))) (keeps-sub (λ l x. (x .0, x .2)) (g .2)),
+        ))
         (children-does words (s .state .reg 2 ∷ roots) (withHeap (dropped u) (8 * i + 0) 0) i v is lt (omega arith) (omega arith) q₃))
 
     -- HEAP's next block, whichever of the three it is
@@ -119,11 +121,13 @@ module _ (words : ℕ → ℕ) where
             → Goal (if-zero (CMPI 3 0) refl (seq (leaf (MOV 3 2) refl) (leaf (ADDI 3 64) refl)) (seq (leaf (MOVIM 2 0 0) refl) (eraseFields 3))) (withRegister (withRegister (dropped (withRegister s 2 w)) 2 (s .state .reg 3)) 3 (s .state .mem (8 * i + 0)))
         slow w i is lt z (yes e) =
             if-yes (register-compared words (withRegister (withRegister (dropped (withRegister s 2 w)) 2 (s .state .reg 3)) 3 (s .state .mem (8 * i + 0))) 3 0) (eq-eqb (s .state .mem (8 * i + 0)) 0 e)
-            (go (register-MOV words (dropped (withRegister (withRegister (dropped (withRegister s 2 w)) 2 (s .state .reg 3)) 3 (s .state .mem (8 * i + 0)))) 3 2) (one (register-ADDI words (withRegister (dropped (withRegister (withRegister (dropped (withRegister s 2 w)) 2 (s .state .reg 3)) 3 (s .state .mem (8 * i + 0)))) 3 (s .state .reg 3)) 3 64) (record {
+            (go (register-MOV words (dropped (withRegister (withRegister (dropped (withRegister s 2 w)) 2 (s .state .reg 3)) 3 (s .state .mem (8 * i + 0)))) 3 2) (one (register-ADDI words (withRegister (dropped (withRegister (withRegister (dropped (withRegister s 2 w)) 2 (s .state .reg 3)) 3 (s .state .mem (8 * i + 0)))) 3 (s .state .reg 3)) 3 64) (
+              record {
                 did = from-frontier z (rw is (header-at 3 (s .state .mem) i ∙ e)) refl (λ x y. rw is (bumped i (omega (arith, v .fits)) x (sym is ∙ y)));
-                fields = λ x y a b. refl
+                fields = λ x y a b. refl;
               },
-              keeps-put 3 _ (λ l x. x .2) (keeps-put 3 _ (λ l x. x .2) (keeps-put 3 _ (λ l x. x .2) (keeps-put 2 _ (λ l x. x .1) (keeps-put 2 w (λ l x. x .1) keeps-refl)))))))
+              keeps-put 3 _ (λ l x. x .2) (keeps-put 3 _ (λ l x. x .2) (keeps-put 3 _ (λ l x. x .2) (keeps-put 2 _ (λ l x. x .1) (keeps-put 2 w (λ l x. x .1) keeps-refl)))),
+            )))
         slow w i is lt z (no e) =
             if-no (register-compared words (withRegister (withRegister (dropped (withRegister s 2 w)) 2 (s .state .reg 3)) 3 (s .state .mem (8 * i + 0))) 3 0) (ne-eqb (s .state .mem (8 * i + 0)) 0 e)
             (recycled rest lazy w i is lt z e q)
@@ -139,13 +143,14 @@ module _ (words : ℕ → ℕ) where
             let w : ℕ = s .state .mem (8 * j + 0) in
             let h₁ : headers 3 (s .state .mem) (s .state .reg 2) ≡ w = rw is (header-at 3 (s .state .mem) j) in
             if-no (register-compared words (withRegister s 2 w) 2 0) (ne-eqb w 0 e)
-            (one (block-MOVIM words (dropped (withRegister s 2 w)) v b j 0 0 (upd-other (s .state .reg) 2 w b nb ∙ eb ∙ is) lt refl (omega arith) 0)
-            (record {
+            (one (block-MOVIM words (dropped (withRegister s 2 w)) v b j 0 0 (upd-other (s .state .reg) 2 w b nb ∙ eb ∙ is) lt refl (omega arith) 0) (
+              record {
                 did = subst (λ x. Acquire L K (headers 3 (s .state .mem)) (s .state .reg 2) (s .state .reg 3) (headers 3 (upd (s .state .mem) (8 * j + 0) 0)) x (s .state .reg 3)) h₁
-                  (from-linear (λ z. e (sym h₁ ∙ z)) (rw is (head-same (s .state .mem) j 0)) (λ c d. head-off (s .state .mem) j 0 c (λ y. d (y ∙ sym is))));
-                fields = head-fields (s .state .mem) j 0
+                    (from-linear (λ z. e (sym h₁ ∙ z)) (rw is (head-same (s .state .mem) j 0)) (λ c d. head-off (s .state .mem) j 0 c (λ y. d (y ∙ sym is))));
+                fields = head-fields (s .state .mem) j 0;
               },
-              keeps-put 2 w (λ l x. x .1) keeps-refl))
+              keeps-put 2 w (λ l x. x .1) keeps-refl,
+            ))
 
   -- a block taken into a location
   pub acquire-does : {N n : ℕ} {rest lazy live : List ℕ} (roots : List ℕ) (s : Config) (l : ℕ) → Placed N s → n < N → length roots ≤ 1048559 → 4 ≤ l → l < 272
@@ -153,12 +158,12 @@ module _ (words : ℕ → ℕ) where
       → Does words (acquireBlock base l) s (λ r. (held r l ≡ s .state .reg 2) × Taken (s .state .mem) (s .state .reg 2) (s .state .reg 3) (r .state .mem) (r .state .reg 2) (r .state .reg 3) × Keeps (λ x. Low x × (x ≢ l)) s r)
   acquire-does {N} {n} {rest} {lazy} {live} roots s l v room few a b q =
       then (take-does s l v a b) (λ r g.
-        let e : r .state .mem ≡ s .state .mem = g .2 in
-        let e2 : r .state .reg 2 ≡ s .state .reg 2 = keeps-register (g .3) 2 (omega arith) (omega arith) in
-        let e3 : r .state .reg 3 ≡ s .state .reg 3 = keeps-register (g .3) 3 (omega arith) (omega arith) in
-        let q₁ : Invariant L (children (blockFields 3 (r .state .mem))) (headers 3 (r .state .mem)) (r .state .reg 2) (r .state .reg 3) n rest lazy live (children (blockFields 3 (r .state .mem)) (r .state .reg 2) ++ roots) = rw (e, e2, e3) q in
-        weaken (λ t d. (d .1 .kept l b (omega arith) ∙ g .0, rw (e, e2, e3) at (d .0), keeps-trans (keeps-sub (λ x y. (y .0 .0, y .1)) (g .3)) (keeps-sub (λ x y. y .0) (d .1))))
-        (next-does roots r (placed-keeps (omega arith) (g .3) v) room few (blockRegister l) (low (ltb l 16) refl) (g .1 ∙ sym e2) q₁))
+      let e : r .state .mem ≡ s .state .mem = g .2 in
+      let e2 : r .state .reg 2 ≡ s .state .reg 2 = keeps-register (g .3) 2 (omega arith) (omega arith) in
+      let e3 : r .state .reg 3 ≡ s .state .reg 3 = keeps-register (g .3) 3 (omega arith) (omega arith) in
+      let q₁ : Invariant L (children (blockFields 3 (r .state .mem))) (headers 3 (r .state .mem)) (r .state .reg 2) (r .state .reg 3) n rest lazy live (children (blockFields 3 (r .state .mem)) (r .state .reg 2) ++ roots) = rw (e, e2, e3) q in
+      weaken (λ t d. (d .1 .kept l b (omega arith) ∙ g .0, rw (e, e2, e3) at (d .0), keeps-trans (keeps-sub (λ x y. (y .0 .0, y .1)) (g .3)) (keeps-sub (λ x y. y .0) (d .1))))
+      (next-does roots r (placed-keeps (omega arith) (g .3) v) room few (blockRegister l) (low (ltb l 16) refl) (g .1 ∙ sym e2) q₁))
     where
       low : (c : Bool) → ltb l 16 ≡ c → cond c l TEMP ≢ 2
       low true e = omega arith

@@ -49,7 +49,7 @@ module _ (words : ℕ → ℕ) where
   pub drop-order : {N m : ℕ} {values : Values} (ext : ℕ → Bool) (s : Config) (e : ℕ) → Placed N s → m ≤ N → e < 133 → ext e ≡ false
       → Represents objectSizes L (heapOf s) m (variables ext s 0 e ++ (variable ext s e ∷ [])) values
       → Does words (eraseBlock base (location (2 * e))) s
-        (λ u. Performs objectSizes L (heapOf s) drop (variables ext s 0 e ++ (variable ext s e ∷ [])) (heapOf u) (variables ext u 0 e) × Keeps (λ x. (x ≢ 1) × (x ≢ 3)) s u)
+      (λ u. Performs objectSizes L (heapOf s) drop (variables ext s 0 e ++ (variable ext s e ∷ [])) (heapOf u) (variables ext u 0 e) × Keeps (λ x. (x ≢ 1) × (x ≢ 3)) s u)
   drop-order {N} {m} {values} ext s e en mN e1 linked rep = by (ltb (location (2 * e)) 16) refl
     where
       fst-held : variable ext s e .fst ≡ held s (location (2 * e))
@@ -59,7 +59,7 @@ module _ (words : ℕ → ℕ) where
       pointer (yes z) = inl z
       pointer (no nz) =
           inr (reachable-block s (rep .consistent) mN (en .fits) (few-roots ext s e e1) (variable ext s e .fst)
-            (start nz (omega (arith, occ-pointers (variable ext s e .fst) (variables ext s 0 e) (variable ext s e ∷ []), same-self (variable ext s e .fst)))))
+          (start nz (omega (arith, occ-pointers (variable ext s e .fst) (variables ext s 0 e) (variable ext s e ∷ []), same-self (variable ext s e .fst)))))
 
       fits : (4 ≤ location (2 * e)) × (location (2 * e) < 272) × (location (2 * e) ≢ 16)
       fits = location-fits (2 * e) (omega arith)
@@ -71,14 +71,14 @@ module _ (words : ℕ → ℕ) where
           let er : Placed N r = placed-keeps (omega arith) kr en in
           let pr : Pointer N (r .state .mem) (r .state .reg b) = rw (em, rb, ← fst-held) (pointer (ℕ-discrete (variable ext s e .fst) 0)) in
           so (erase-does words r b er b3 pr) (λ u x.
-            let fu : blockFields 3 (u .state .mem) ≡ blockFields 3 (s .state .mem) = fields-all 3 (r .state .mem) (u .state .mem) (x .0 .fields) ∙ ap (blockFields 3) em in
-            let two : u .state .reg 2 ≡ s .state .reg 2 = keeps-register (x .1) 2 (omega arith) (omega arith) ∙ e2 in
-            let did : Erase (variable ext s e .fst) (headers 3 (s .state .mem)) (s .state .reg 3) (headers 3 (u .state .mem)) (u .state .reg 3) = rw (rb, ← fst-held, em, e3) at (x .0 .did) in
-            let ks : Keeps (λ y. (y ≢ 1) × (y ≢ 3)) s u = keeps-trans (keeps-sub (λ y d. d .0) kr) (keeps-sub (λ y d. d .1) (x .1)) in
-            let vs : variables ext u 0 e ≡ variables ext s 0 e = variables-kept ext s u 0 e (omega arith) (λ p a b. omega (arith, location-fits p (omega arith) .0)) ks in
-            let p : Performs objectSizes L (heapOf s) drop (variables ext s 0 e ++ (variable ext s e ∷ [])) (withLazy (heapOf s) (headers 3 (u .state .mem)) (u .state .reg 3)) (variables ext s 0 e)
-              = drops (variables ext s 0 e) (variable ext s e) (headers 3 (u .state .mem)) (u .state .reg 3) did in
-            (rw (vs, fu, two) p, ks))
+          let fu : blockFields 3 (u .state .mem) ≡ blockFields 3 (s .state .mem) = fields-all 3 (r .state .mem) (u .state .mem) (x .0 .fields) ∙ ap (blockFields 3) em in
+          let two : u .state .reg 2 ≡ s .state .reg 2 = keeps-register (x .1) 2 (omega arith) (omega arith) ∙ e2 in
+          let did : Erase (variable ext s e .fst) (headers 3 (s .state .mem)) (s .state .reg 3) (headers 3 (u .state .mem)) (u .state .reg 3) = rw (rb, ← fst-held, em, e3) at (x .0 .did) in
+          let ks : Keeps (λ y. (y ≢ 1) × (y ≢ 3)) s u = keeps-trans (keeps-sub (λ y d. d .0) kr) (keeps-sub (λ y d. d .1) (x .1)) in
+          let vs : variables ext u 0 e ≡ variables ext s 0 e = variables-kept ext s u 0 e (omega arith) (λ p a b. omega (arith, location-fits p (omega arith) .0)) ks in
+          let p : Performs objectSizes L (heapOf s) drop (variables ext s 0 e ++ (variable ext s e ∷ [])) (withLazy (heapOf s) (headers 3 (u .state .mem)) (u .state .reg 3)) (variables ext s 0 e)
+          = drops (variables ext s 0 e) (variable ext s e) (headers 3 (u .state .mem)) (u .state .reg 3) did in
+          (rw (vs, fu, two) p, ks))
 
       by : (c : Bool) → ltb (location (2 * e)) 16 ≡ c → Does words (cond c (eraseRegister (location (2 * e))) (seq (leaf (MOVL 1 0 (stackOffset base (location (2 * e)))) refl) (eraseRegister 1))) s
           (λ u. Performs objectSizes L (heapOf s) drop (variables ext s 0 e ++ (variable ext s e ∷ [])) (heapOf u) (variables ext u 0 e) × Keeps (λ x. (x ≢ 1) × (x ≢ 3)) s u)
@@ -91,16 +91,17 @@ module _ (words : ℕ → ℕ) where
   pub share-performs : {N m : ℕ} {values : Values} (ext : ℕ → Bool) (s : Config) (e a n : ℕ) → Placed N s → m ≤ N → a < e → e ≤ 133 → n ≤ 1048576 → ext a ≡ false
       → Represents objectSizes L (heapOf s) m (variables ext s 0 e) values
       → Does words (shareBlock base (location (2 * a)) n) s
-        (λ u. Share (replicate n (variable ext s a .fst)) (headers 3 (s .state .mem)) (headers 3 (u .state .mem)) × (heapOf u ≡ withHeaders (heapOf s) (headers 3 (u .state .mem))) × Keeps (λ x. x ≢ 1) s u)
+      (λ u. Share (replicate n (variable ext s a .fst)) (headers 3 (s .state .mem)) (headers 3 (u .state .mem)) × (heapOf u ≡ withHeaders (heapOf s) (headers 3 (u .state .mem))) × Keeps (λ x. x ≢ 1) s u)
   share-performs {N} ext s e a n en mN ae eN nN linked rep =
       let f = location-fits (2 * a) (omega arith) in
       let p : variable ext s a .fst ≡ held s (location (2 * a)) = rw linked in
       so (share-at words s (location (2 * a)) n en (f .0) (f .1) (λ nz. room nz)) (λ u x.
-        let two : u .state .reg 2 ≡ s .state .reg 2 = keeps-register (x .1) 2 (omega arith) (omega arith) in
-        let three : u .state .reg 3 ≡ s .state .reg 3 = keeps-register (x .1) 3 (omega arith) (omega arith) in
-        (rw p (x .0 .counts),
-         memory-is (blockFields 3 (u .state .mem)) (blockFields 3 (s .state .mem)) (headers 3 (u .state .mem)) (u .state .reg 2) (s .state .reg 2) (u .state .reg 3) (s .state .reg 3) (sym (fields-all 3 (s .state .mem) (u .state .mem) (x .0 .fields))) (sym two) (sym three),
-         x .1))
+      let two : u .state .reg 2 ≡ s .state .reg 2 = keeps-register (x .1) 2 (omega arith) (omega arith) in
+      let three : u .state .reg 3 ≡ s .state .reg 3 = keeps-register (x .1) 3 (omega arith) (omega arith) in (
+        rw p (x .0 .counts),
+        memory-is (blockFields 3 (u .state .mem)) (blockFields 3 (s .state .mem)) (headers 3 (u .state .mem)) (u .state .reg 2) (s .state .reg 2) (u .state .reg 3) (s .state .reg 3) (sym (fields-all 3 (s .state .mem) (u .state .mem) (x .0 .fields))) (sym two) (sym three),
+        x .1,
+      ))
     where
       among : occ (variable ext s a .fst) (pointers (variables ext s 0 e)) ≢ 0
       among =

@@ -81,16 +81,17 @@ module _ (words : ℕ → ℕ) where
       off x y d = head-off (s .state .mem) (b .i) y x (λ q. d (q ∙ sym (b .is)))
 
       by : Dec (s .state .mem (8 * b .i + 0) ≡ 0) → Does words (if-zero (CMPIM r 0 0) refl (seq (leaf (MOVS 3 r 0) refl) (leaf (MOV 3 r) refl)) (leaf (ADDIM r 0 18446744073709551615) refl)) (dropped s)
-        (λ t. Erased (s .state .reg r) (s .state .mem) (s .state .reg 3) (t .state .mem) (t .state .reg 3) × Keeps (λ l. l ≢ 3) s t)
+          (λ t. Erased (s .state .reg r) (s .state .mem) (s .state .reg 3) (t .state .mem) (t .state .reg 3) × Keeps (λ l. l ≢ 3) s t)
       by (yes e) =
           if-yes (block-compared words (dropped s) v r (b .i) 0 0 (b .is) (b .lt) refl (omega arith) 0) (eq-eqb (s .state .mem (8 * b .i + 0)) 0 e)
           (go (block-MOVS words (dropped s) v r (b .i) 0 0 (b .is) (b .lt) refl (omega arith) 3)
           (one (register-MOV words (withHeap (dropped s) (8 * b .i + 0) (s .state .reg 3)) 3 r) (
             record {
               did = last-pointer nz (rw (b .is) (header-at 3 (s .state .mem) (b .i) ∙ e)) (rw (b .is) (head-same (s .state .mem) (b .i) (s .state .reg 3))) (λ x d. off x (s .state .reg 3) d);
-              fields = head-fields (s .state .mem) (b .i) (s .state .reg 3)
+              fields = head-fields (s .state .mem) (b .i) (s .state .reg 3);
             },
-            keeps-put 3 (s .state .reg r) (λ l d. d) keeps-refl)))
+            keeps-put 3 (s .state .reg r) (λ l d. d) keeps-refl,
+          )))
       by (no e) =
           let y : ℕ = sum (s .state .mem (8 * b .i + 0)) 18446744073709551615 in
           let w : suc y ≡ s .state .mem (8 * b .i + 0) = minus-one (s .state .mem (8 * b .i + 0)) e (omega (arith, b .small)) in
@@ -98,9 +99,10 @@ module _ (words : ℕ → ℕ) where
           (one (block-ADDIM words (dropped s) v r (b .i) 0 0 (b .is) (b .lt) refl (omega arith) 18446744073709551615) (
             record {
               did = one-less nz (rw (b .is) (ap suc (head-same (s .state .mem) (b .i) y) ∙ w ∙ sym (header-at 3 (s .state .mem) (b .i)))) (λ x d. off x y d);
-              fields = head-fields (s .state .mem) (b .i) y
+              fields = head-fields (s .state .mem) (b .i) y;
             },
-            keeps-refl))
+            keeps-refl,
+          ))
 
   -- the first t children and then n more
   joined : (t n : ℕ) (c : Config) → evaluate words (seq (eraseFields t) (eraseRest t n)) c ≡ evaluate words (eraseFields (t + n)) c
@@ -116,20 +118,20 @@ module _ (words : ℕ → ℕ) where
       let c : ℕ = s .state .mem (8 * j + (2 + 2 * t)) in
       let u : Config = withRegister s 1 c in
       let first : Does words (seq (leaf (MOVL 1 2 (16 + 16 * t)) refl) (eraseRegister 1)) s (λ r. Erased c (s .state .mem) (s .state .reg 3) (r .state .mem) (r .state .reg 3) × Keeps (λ l. l ≢ 3) u r)
-        = go (block-MOVL words s v 2 j (16 + 16 * t) (2 + 2 * t) p h (omega arith) (omega arith) 1) (erase-does u 1 v (omega arith) (root-pointer c g (v .fits) (omega (arith, length-append (pointers (cellsFrom 3 (s .state .mem) j (suc t) k)) roots, cells-pointers (s .state .mem) j (suc t) k)) i)) in
+      = go (block-MOVL words s v 2 j (16 + 16 * t) (2 + 2 * t) p h (omega arith) (omega arith) 1) (erase-does u 1 v (omega arith) (root-pointer c g (v .fits) (omega (arith, length-append (pointers (cellsFrom 3 (s .state .mem) j (suc t) k)) roots, cells-pointers (s .state .mem) j (suc t) k)) i)) in
       then first (λ r e.
-        let w : SameFields (s .state .mem) (r .state .mem) = e .0 .fields in
-        let agree : cellsFrom 3 (r .state .mem) j (suc t) k ≡ cellsFrom 3 (s .state .mem) j (suc t) k = cells-agree 3 (s .state .mem) (r .state .mem) j (suc t) k (λ y a b. w j y (omega arith) (omega arith)) in
-        let kp : Keeps (λ l. (l ≢ 1) × (l ≢ 3)) s r = keeps-trans (keeps-put 1 c (λ l d. d .0) keeps-refl) (keeps-sub (λ l d. d .1) (e .1)) in
-        let i₁ = erase-pointer (e .0 .did) i in
-        let i₂ : Invariant L (children (blockFields 3 (r .state .mem))) (headers 3 (r .state .mem)) heap (r .state .reg 3) n rest (i₁ .0) live (pointers (cellsFrom 3 (r .state .mem) j (suc t) k) ++ roots) = rw (fields-all 3 (s .state .mem) (r .state .mem) w, agree) (i₁ .1) in
-        weaken (λ z d. (rw agree at (more (e .0 .did) (d .0)), (λ x y a b. d .1 x y a b ∙ w x y a b), keeps-trans kp (d .2)))
-        (rest-does roots r j (suc t) k (placed-keeps (omega arith) kp v) (keeps-register (e .1) 2 (omega arith) (omega arith) ∙ p) h g o (omega arith) i₂))
+      let w : SameFields (s .state .mem) (r .state .mem) = e .0 .fields in
+      let agree : cellsFrom 3 (r .state .mem) j (suc t) k ≡ cellsFrom 3 (s .state .mem) j (suc t) k = cells-agree 3 (s .state .mem) (r .state .mem) j (suc t) k (λ y a b. w j y (omega arith) (omega arith)) in
+      let kp : Keeps (λ l. (l ≢ 1) × (l ≢ 3)) s r = keeps-trans (keeps-put 1 c (λ l d. d .0) keeps-refl) (keeps-sub (λ l d. d .1) (e .1)) in
+      let i₁ = erase-pointer (e .0 .did) i in
+      let i₂ : Invariant L (children (blockFields 3 (r .state .mem))) (headers 3 (r .state .mem)) heap (r .state .reg 3) n rest (i₁ .0) live (pointers (cellsFrom 3 (r .state .mem) j (suc t) k) ++ roots) = rw (fields-all 3 (s .state .mem) (r .state .mem) w, agree) (i₁ .1) in
+      weaken (λ z d. (rw agree at (more (e .0 .did) (d .0)), (λ x y a b. d .1 x y a b ∙ w x y a b), keeps-trans kp (d .2)))
+      (rest-does roots r j (suc t) k (placed-keeps (omega arith) kp v) (keeps-register (e .1) 2 (omega arith) (omega arith) ∙ p) h g o (omega arith) i₂))
 
   pub children-does : {N n heap : ℕ} {rest lazy live : List ℕ} (roots : List ℕ) (s : Config) (j : ℕ) → Placed N s → s .state .reg 2 ≡ blockAddress j → j < N → n ≤ N → length roots ≤ 1048560
       → Invariant L (children (blockFields 3 (s .state .mem))) (headers 3 (s .state .mem)) heap (s .state .reg 3) n rest lazy live (pointers (cellsFrom 3 (s .state .mem) j 0 3) ++ roots)
       → Does words (eraseFields 3) s
-        (λ r. EraseAll (pointers (cellsFrom 3 (s .state .mem) j 0 3)) (headers 3 (s .state .mem)) (s .state .reg 3) (headers 3 (r .state .mem)) (r .state .reg 3) × SameFields (s .state .mem) (r .state .mem) × Keeps (λ l. (l ≢ 1) × (l ≢ 3)) s r)
+      (λ r. EraseAll (pointers (cellsFrom 3 (s .state .mem) j 0 3)) (headers 3 (s .state .mem)) (s .state .reg 3) (headers 3 (r .state .mem)) (r .state .reg 3) × SameFields (s .state .mem) (r .state .mem) × Keeps (λ l. (l ≢ 1) × (l ≢ 3)) s r)
   children-does roots s j v p h g o i =
       let d = rest-does roots s j 0 3 v p h g o (omega arith) i in
       alike (sym (joined 0 3 s)) d

@@ -45,8 +45,8 @@ added m p i n is h =
     record {
       fields = head-fields m i y;
       counts = split p
-        (λ nz. rw is (omega (arith, head-same m i y, plus (m (8 * i + 0)) n h, header-at 3 m i, occ-replicate n (blockAddress i))))
-        (λ b d nz. omega (arith, head-off m i y b (λ q. d (q ∙ sym is)), occ-replicate-other n p b d))
+          (λ nz. rw is (omega (arith, head-same m i y, plus (m (8 * i + 0)) n h, header-at 3 m i, occ-replicate n (blockAddress i))))
+          (λ b d nz. omega (arith, head-off m i y b (λ q. d (q ∙ sym is)), occ-replicate-other n p b d));
     }
 
 module _ (words : ℕ → ℕ) where
@@ -56,7 +56,7 @@ module _ (words : ℕ → ℕ) where
     where
       by : Dec (s .state .reg r ≡ 0) → Does words (shareRegister r n) s (λ t. Counts (replicate n (s .state .reg r)) (s .state .mem) (t .state .mem) × Keeps (λ l. Unit {0}) s t)
       by (yes z) = skip-yes (register-compared words s r 0) (eq-eqb (s .state .reg r) 0 z)
-        (record { fields = λ x w a b. refl; counts = λ b nz. omega (arith, occ-replicate-other n (s .state .reg r) b (λ q. nz (q ∙ z))) }, keeps-refl)
+          (record { fields = λ x w a b. refl; counts = λ b nz. omega (arith, occ-replicate-other n (s .state .reg r) b (λ q. nz (q ∙ z))) }, keeps-refl)
       by (no z) =
           let g = f z in
           let i : ℕ = g .0 in
@@ -79,4 +79,4 @@ module _ (words : ℕ → ℕ) where
               let g = f z in
               skip-no (spill-compared words s v l h b 0) (ne-eqb (held s l) 0 z)
               (go (spill-MOVL words (dropped s) v l h b 1) (one (block-ADDIM words (withRegister (dropped s) 1 (held s l)) v 1 (g .0) 0 0 (g .2) (g .1) refl (omega arith) n)
-                (added (s .state .mem) (held s l) (g .0) n (g .2) (g .3), keeps-put 1 (held s l) (λ x d. d) keeps-refl)))
+              (added (s .state .mem) (held s l) (g .0) n (g .2) (g .3), keeps-put 1 (held s l) (λ x d. d) keeps-refl)))

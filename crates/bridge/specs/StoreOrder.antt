@@ -58,20 +58,23 @@ module _ (words : ℕ → ℕ) where
     store-none h =
         let f = location-fits (2 * r) (omega arith) in
         so (zero-does s (location (2 * r)) en (f .0) (f .1)) (λ u x.
-          let z : r + 0 ≡ r = omega arith in
-          ((λ tag. rw (x .0, x .1, z) (stores-none (variables ext s 0 r) tag)), keeps-sub (λ l y. omega (arith, y .1)) (x .2)))
+        let z : r + 0 ≡ r = omega arith in
+        ((λ tag. rw (x .0, x .1, z) (stores-none (variables ext s 0 r) tag)), keeps-sub (λ l y. omega (arith, y .1)) (x .2)))
 
     store-some : {m : ℕ} {values : Values} (k : ℕ) → r + suc k ≤ 133
         → ((count : ℕ) → ReachableCount (blockFields 3 (s .state .mem)) (pointers (variables ext s 0 (r + suc k))) count → count + length (objectSizes (suc k)) < N) → m < N
         → Represents objectSizes L (heapOf s) m (variables ext s 0 (r + suc k)) values → Does words (storeSome base ext r (suc k)) s (StoredFrom ext s r (suc k))
     store-some k h room lt rep =
-        so (store-does words ext s r (suc k) en h (omega arith) (rep .consistent) lt room) (λ u w. ((λ tag.
-          let vs : variables ext s 0 (r + suc k) ≡ variables ext s 0 r ++ concat (w .head ∷ w .others)
-            = variables-append ext s 0 r (suc k) ∙ ap (λ (x : ℕ). variables ext s 0 r ++ variables ext s x (suc k)) (zero-add r) ∙ ap (λ (x : List Cell). variables ext s 0 r ++ x) (sym (w .cells)) in
-          let n : length (concat (w .head ∷ w .others)) ≡ suc k = ap length (w .cells) ∙ variables-length ext s r (suc k) in
-          let p : Performs objectSizes L (heapOf s) (store (length (concat (w .head ∷ w .others))) tag) (variables ext s 0 r ++ concat (w .head ∷ w .others)) (heapOf u) (variables ext s 0 r ++ (cell (held u (location (2 * r))) tag ∷ []))
-            = stores-some (variables ext s 0 r) (w .head) (w .others) (heapOf u) (held u (location (2 * r))) tag (w .shapes ∙ ap objectSizes (sym n)) (w .did) in
-          rw vs (rw n at p)), w .keeps))
+        so (store-does words ext s r (suc k) en h (omega arith) (rep .consistent) lt room) (λ u w. (
+          (λ tag.
+              let vs : variables ext s 0 (r + suc k) ≡ variables ext s 0 r ++ concat (w .head ∷ w .others)
+              = variables-append ext s 0 r (suc k) ∙ ap (λ (x : ℕ). variables ext s 0 r ++ variables ext s x (suc k)) (zero-add r) ∙ ap (λ (x : List Cell). variables ext s 0 r ++ x) (sym (w .cells)) in
+              let n : length (concat (w .head ∷ w .others)) ≡ suc k = ap length (w .cells) ∙ variables-length ext s r (suc k) in
+              let p : Performs objectSizes L (heapOf s) (store (length (concat (w .head ∷ w .others))) tag) (variables ext s 0 r ++ concat (w .head ∷ w .others)) (heapOf u) (variables ext s 0 r ++ (cell (held u (location (2 * r))) tag ∷ []))
+              = stores-some (variables ext s 0 r) (w .head) (w .others) (heapOf u) (held u (location (2 * r))) tag (w .shapes ∙ ap objectSizes (sym n)) (w .did) in
+              rw vs (rw n at p)),
+          w .keeps,
+        ))
 
     -- n variables from r on stored, whatever registers and spills they have
     pub store-performs : {m : ℕ} {values : Values} (n : ℕ) → r + n ≤ 133
@@ -89,9 +92,9 @@ module _ (words : ℕ → ℕ) where
       let g = location-grows (2 * r) (2 * r + 1) (omega arith) in
       let v₀ : held z (location (2 * r)) ≡ held u (location (2 * r)) = kz .kept (location (2 * r)) (f₀ .1) (omega (arith, f₀ .0), omega (arith, g .1)) in
       let front : variables ext′ z 0 r ≡ variables ext s 0 r
-        = variables-kinds ext ext′ z 0 r (λ y a b. agree y (omega arith))
-          ∙ variables-kept ext u z 0 r (omega arith) (λ p a b. let y = location-grows p (2 * r + 1) (omega arith) in (omega (arith, y .0), omega (arith, y .1))) kz
-          ∙ variables-kept ext s u 0 r (omega arith) (λ p a b. let y = location-grows p (2 * r) (omega arith) in (omega (arith, y .0), y .1)) ks in
+      = variables-kinds ext ext′ z 0 r (λ y a b. agree y (omega arith))
+      ∙ variables-kept ext u z 0 r (omega arith) (λ p a b. let y = location-grows p (2 * r + 1) (omega arith) in (omega (arith, y .0), omega (arith, y .1))) kz
+      ∙ variables-kept ext s u 0 r (omega arith) (λ p a b. let y = location-grows p (2 * r) (omega arith) in (omega (arith, y .0), y .1)) ks in
       let last : variable ext′ z r ≡ cell (held u (location (2 * r))) tag = rw (linked, v₀, t) in
       variables-snoc ext′ z 0 r ∙ rw (front, zero-add, last)
 
@@ -101,9 +104,10 @@ module _ (words : ℕ → ℕ) where
       → ((count : ℕ) → ReachableCount (blockFields 3 (s .state .mem)) (pointers (variables ext s 0 (r + n))) count → count + length (objectSizes n) < N) → m < N
       → Represents objectSizes L (heapOf s) m (variables ext s 0 (r + n)) values
       → Does words (seq (storeObject base ext r n) t) s
-        (λ z. Performs objectSizes L (heapOf s) (store n tag) (variables ext s 0 (r + n)) (heapOf z) (variables ext′ z 0 (suc r)) × Keeps (λ x. Low x × (x < location (2 * r))) s z)
+      (λ z. Performs objectSizes L (heapOf s) (store n tag) (variables ext s 0 (r + n)) (heapOf z) (variables ext′ z 0 (suc r)) × Keeps (λ x. Low x × (x < location (2 * r))) s z)
   store-order ext ext′ s r n tag t en h r1 agree linked does room lt rep =
       then (store-performs ext s r en n h room lt rep) (λ u w.
-        so (does u (placed-keeps (omega (arith, location-fits (2 * r) (omega arith) .0)) (w .1) en)) (λ z x.
-          (rw (x .1, tagged ext ext′ s u z r tag r1 agree linked (w .1) (x .0) (x .2)) (w .0 tag),
-           keeps-trans (w .1) (keeps-sub (λ l y. (omega arith, omega (arith, y .1, location-grows (2 * r) (2 * r + 1) (omega arith) .1))) (x .2)))))
+      so (does u (placed-keeps (omega (arith, location-fits (2 * r) (omega arith) .0)) (w .1) en)) (λ z x. (
+        rw (x .1, tagged ext ext′ s u z r tag r1 agree linked (w .1) (x .0) (x .2)) (w .0 tag),
+        keeps-trans (w .1) (keeps-sub (λ l y. (omega arith, omega (arith, y .1, location-grows (2 * r) (2 * r + 1) (omega arith) .1))) (x .2)),
+      )))

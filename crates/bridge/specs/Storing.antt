@@ -42,10 +42,11 @@ written : (m m′ : ℕ → ℕ) (j t : ℕ) (c : Cell) → t < 3 → m′ ≡ u
     → (m′ (8 * j + (3 + 2 * t)) ≡ c .snd) × (m′ (8 * j + (2 + 2 * t)) ≡ c .fst) × Only j t (suc t) m m′
 written m m′ j t c t3 e =
     let i₁ : ℕ = 8 * j + (3 + 2 * t) in
-    let i₂ : ℕ = 8 * j + (2 + 2 * t) in
-    (ap (λ (f : ℕ → ℕ). f i₁) e ∙ upd-other (upd m i₁ (c .snd)) i₂ (c .fst) i₁ (omega arith) ∙ upd-same m i₁ (c .snd),
-     ap (λ (f : ℕ → ℕ). f i₂) e ∙ upd-same (upd m i₁ (c .snd)) i₂ (c .fst),
-     λ x w a b. ap (λ (f : ℕ → ℕ). f (8 * x + w)) e ∙ upd-other (upd m i₁ (c .snd)) i₂ (c .fst) (8 * x + w) (λ q. b (omega arith, omega arith, omega arith)) ∙ upd-other m i₁ (c .snd) (8 * x + w) (λ q. b (omega arith, omega arith, omega arith)))
+    let i₂ : ℕ = 8 * j + (2 + 2 * t) in (
+      ap (λ (f : ℕ → ℕ). f i₁) e ∙ upd-other (upd m i₁ (c .snd)) i₂ (c .fst) i₁ (omega arith) ∙ upd-same m i₁ (c .snd),
+      ap (λ (f : ℕ → ℕ). f i₂) e ∙ upd-same (upd m i₁ (c .snd)) i₂ (c .fst),
+      λ x w a b. ap (λ (f : ℕ → ℕ). f (8 * x + w)) e ∙ upd-other (upd m i₁ (c .snd)) i₂ (c .fst) (8 * x + w) (λ q. b (omega arith, omega arith, omega arith)) ∙ upd-other m i₁ (c .snd) (8 * x + w) (λ q. b (omega arith, omega arith, omega arith)),
+    )
 
 module _ (words : ℕ → ℕ) where
   pub store-field : {N : ℕ} (s : Config) (l j o w : ℕ) → Placed N s → s .state .reg 2 ≡ blockAddress j → j < N → o ≡ 8 * w → w < 8 → l < 272
@@ -53,7 +54,7 @@ module _ (words : ℕ → ℕ) where
   store-field {N} s l j o w v p h q f b = by (ltb l 16) refl
     where
       by : (c : Bool) → ltb l 16 ≡ c → Does words (cond c (leaf (MOVS l 2 o) refl) (seq (leaf (MOVL 1 0 (stackOffset base l)) refl) (leaf (MOVS 1 2 o) refl))) s
-        (λ r. (r .state .mem ≡ upd (s .state .mem) (8 * j + w) (held s l)) × Keeps (λ x. x ≢ 1) s r)
+          (λ r. (r .state .mem ≡ upd (s .state .mem) (8 * j + w) (held s l)) × Keeps (λ x. x ≢ 1) s r)
       by true e = one (block-MOVS words s v 2 j o w p h q f l) (rw (held-register (s .state .reg) (s .state .stk) l (ltb-true l 16 e)), keeps-refl)
       by false e = go (spill-MOVL words s v l (ltb-false l 16 e) b 1) (one (block-MOVS words (withRegister s 1 (held s l)) v 2 j o w p h q f 1) (refl, keeps-put 1 (held s l) (λ x d. d) keeps-refl))
 
@@ -62,11 +63,12 @@ module _ (words : ℕ → ℕ) where
   store-zeros s zero j en p h f = one refl ((λ y a. absurd (omega arith)), (λ x w a b. refl), keeps-refl)
   store-zeros {N} s (suc n) j en p h f =
       then (store-zeros s n j en p h (omega arith)) (λ r d.
-        let i : ℕ = 8 * j + (2 + 2 * n) in
-        one (block-MOVIM words r (placed-keeps (omega arith) (d .2) en) 2 j (16 + 16 * n) (2 + 2 * n) (keeps-register (d .2) 2 (omega arith) (omega arith) ∙ p) h (omega arith) (omega arith) 0) (
-          (λ y a. at r (d .0) y a (ℕ-discrete y n)),
-          (λ x w a b. upd-other (r .state .mem) i 0 (8 * x + w) (λ q. b (omega arith, omega arith, omega arith)) ∙ d .1 x w a (λ c. b (c .0, c .1, omega (arith, c .2)))),
-          d .2))
+      let i : ℕ = 8 * j + (2 + 2 * n) in
+      one (block-MOVIM words r (placed-keeps (omega arith) (d .2) en) 2 j (16 + 16 * n) (2 + 2 * n) (keeps-register (d .2) 2 (omega arith) (omega arith) ∙ p) h (omega arith) (omega arith) 0) (
+        (λ y a. at r (d .0) y a (ℕ-discrete y n)),
+        (λ x w a b. upd-other (r .state .mem) i 0 (8 * x + w) (λ q. b (omega arith, omega arith, omega arith)) ∙ d .1 x w a (λ c. b (c .0, c .1, omega (arith, c .2)))),
+        d .2,
+      ))
     where
       at : (r : Config) → ((y : ℕ) → y < n → r .state .mem (8 * j + (2 + 2 * y)) ≡ 0) → (y : ℕ) → y < suc n → Dec (y ≡ n) → upd (r .state .mem) (8 * j + (2 + 2 * n)) 0 (8 * j + (2 + 2 * y)) ≡ 0
       at r z y a (yes e) = rw e (upd-same (r .state .mem) (8 * j + (2 + 2 * n)) 0)
@@ -97,19 +99,21 @@ module _ (words : ℕ → ℕ) where
         let t : ℕ = free - 1 in
         let c : Cell = variable ext s (v + k) in
         then (store-value s (v + k) t j en p h (omega arith) (omega arith)) (λ r d.
-          let wr = written (s .state .mem) (r .state .mem) j t c (omega arith) (d .0) in
-          weaken (λ q e.
-            let y : Filled ext r v k t j (q .state .mem) = e .0 in
-            let b₁ : q .state .mem (8 * j + (3 + 2 * t)) ≡ c .snd = y .only j (3 + 2 * t) (omega arith) (λ z. omega (arith, z .2)) ∙ wr .0 in
-            let b₂ : q .state .mem (8 * j + (2 + 2 * t)) ≡ c .fst = y .only j (2 + 2 * t) (omega arith) (λ z. omega (arith, z .2)) ∙ wr .1 in
-            let n₁ : free - suc k ≡ t - k = omega arith in
-            let n₂ : suc k ≡ k + 1 = omega arith in
-            let n₃ : t - k + k ≡ t = omega arith in
-            let final : cellsFrom 3 (q .state .mem) j (t - k + k) 1 ≡ c ∷ [] = rw (n₃, b₁, b₂) in
-            let vs : variables ext r v k ≡ variables ext s v k = variables-kept ext s r v k (omega arith) (λ p a b. omega (arith, location-fits p (omega arith) .0)) (d .1) in
-            (record {
-              vals = rw (n₁) (ap (cellsFrom 3 (q .state .mem) j (t - k)) n₂ ∙ cells-append 3 (q .state .mem) j (t - k) k 1 ∙ rw (final, y .vals, vs) (sym (variables-snoc ext s v k)));
-              zeros = λ u a. y .zeros u (omega arith);
-              only = λ x w a b. y .only x w a (λ z. b (z .0, z .1, omega (arith, z .2))) ∙ wr .2 x w a (λ z. b (z .0, omega (arith, z .1), omega (arith, z .2)))
-            }, keeps-trans (d .1) (e .1)))
-          (store-values r v k t j (placed-keeps (omega arith) (d .1) en) (keeps-register (d .1) 2 (omega arith) (omega arith) ∙ p) h (omega arith) (omega arith) (omega arith)))
+        let wr = written (s .state .mem) (r .state .mem) j t c (omega arith) (d .0) in
+        weaken (λ q e.
+        let y : Filled ext r v k t j (q .state .mem) = e .0 in
+        let b₁ : q .state .mem (8 * j + (3 + 2 * t)) ≡ c .snd = y .only j (3 + 2 * t) (omega arith) (λ z. omega (arith, z .2)) ∙ wr .0 in
+        let b₂ : q .state .mem (8 * j + (2 + 2 * t)) ≡ c .fst = y .only j (2 + 2 * t) (omega arith) (λ z. omega (arith, z .2)) ∙ wr .1 in
+        let n₁ : free - suc k ≡ t - k = omega arith in
+        let n₂ : suc k ≡ k + 1 = omega arith in
+        let n₃ : t - k + k ≡ t = omega arith in
+        let final : cellsFrom 3 (q .state .mem) j (t - k + k) 1 ≡ c ∷ [] = rw (n₃, b₁, b₂) in
+        let vs : variables ext r v k ≡ variables ext s v k = variables-kept ext s r v k (omega arith) (λ p a b. omega (arith, location-fits p (omega arith) .0)) (d .1) in (
+          record {
+            vals = rw (n₁) (ap (cellsFrom 3 (q .state .mem) j (t - k)) n₂ ∙ cells-append 3 (q .state .mem) j (t - k) k 1 ∙ rw (final, y .vals, vs) (sym (variables-snoc ext s v k)));
+            zeros = λ u a. y .zeros u (omega arith);
+            only = λ x w a b. y .only x w a (λ z. b (z .0, z .1, omega (arith, z .2))) ∙ wr .2 x w a (λ z. b (z .0, omega (arith, z .1), omega (arith, z .2)));
+          },
+          keeps-trans (d .1) (e .1),
+        ))
+        (store-values r v k t j (placed-keeps (omega arith) (d .1) en) (keeps-register (d .1) 2 (omega arith) (omega arith) ∙ p) h (omega arith) (omega arith) (omega arith)))

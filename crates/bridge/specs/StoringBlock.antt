@@ -55,7 +55,7 @@ module _ (ext : ℕ → Bool) where
         no-pointers = cells-nulls m j 0 (3 - k) (λ y a b. f .zeros y (omega arith));
         written = rw (p, fields-at 3 m j) (ap (cellsFrom 3 m j 0) n ∙ cells-append 3 m j 0 (3 - k) k ∙ rw (z, f .vals));
         elsewhere = λ b ne. fields-off 3 (s .state .mem) m j (λ x w d l. f .only x w l (λ c. d (c .0))) b (λ q. ne (q ∙ sym p));
-        heads = header-all 3 (s .state .mem) m (λ x. f .only x 0 (omega arith) (λ c. omega (arith, c .1)))
+        heads = header-all 3 (s .state .mem) m (λ x. f .only x 0 (omega arith) (λ c. omega (arith, c .1)));
       }
 
   -- another block: the link in field 2
@@ -67,7 +67,7 @@ module _ (ext : ℕ → Bool) where
       let z : 0 + (2 - k) ≡ 2 - k = omega arith in
       let z₂ : 2 - k + k ≡ 2 = omega arith in
       let o : (x w : ℕ) → w < 8 → ((x ≡ j) × (2 ≤ w) → ⊥) → m (8 * x + w) ≡ s .state .mem (8 * x + w)
-        = λ x w a b. f .only x w a (λ c. b (c .0, omega (arith, c .1))) ∙ rw e (upd-other (s .state .mem) (8 * j + 6) q (8 * x + w) (λ y. b (omega arith, omega arith))) in
+      = λ x w a b. f .only x w a (λ c. b (c .0, omega (arith, c .1))) ∙ rw e (upd-other (s .state .mem) (8 * j + 6) q (8 * x + w) (λ y. b (omega arith, omega arith))) in
       let at₆ : m (8 * j + 6) ≡ q = f .only j 6 (omega arith) (λ c. omega (arith, c .2)) ∙ rw e (upd-same (s .state .mem) (8 * j + 6) q) in
       let at₇ : m (8 * j + 7) ≡ s .state .mem (8 * j + 7) = f .only j 7 (omega arith) (λ c. omega (arith, c .2)) ∙ rw e (upd-other (s .state .mem) (8 * j + 6) q (8 * j + 7) (omega arith)) in
       let l : Cell = record { fst = q; snd = s .state .mem (8 * j + 7) } in
@@ -77,7 +77,7 @@ module _ (ext : ℕ → Bool) where
         no-pointers = cells-nulls m j 0 (2 - k) (λ y a b. f .zeros y (omega arith));
         written = rw (p, fields-at 3 m j) (ap (cellsFrom 3 m j 0) n ∙ cells-append 3 m j 0 (2 - k) (k + 1) ∙ rw (z, cells-append 3 m j (2 - k) k 1, f .vals, vs, end));
         elsewhere = λ b ne. fields-off 3 (s .state .mem) m j (λ x w d a. o x w a (λ c. d (c .0))) b (λ y. ne (y ∙ sym p));
-        heads = header-all 3 (s .state .mem) m (λ x. o x 0 (omega arith) (λ c. omega (arith, c .1)))
+        heads = header-all 3 (s .state .mem) m (λ x. o x 0 (omega arith) (λ c. omega (arith, c .1)));
       }
 
 module _ (words : ℕ → ℕ) where
@@ -87,16 +87,18 @@ module _ (words : ℕ → ℕ) where
       → Does words (seq t (acquireBlock base l)) s (λ r. (unused : List Cell) × NoPointers unused × StoreBlock L (heapOf s) (unused ++ c) (heapOf r) × (held r l ≡ s .state .reg 2) × Keeps (λ x. Low x × (x ≢ l)) s r)
   block-does {n = n} {roots₀ = roots₀} roots s l c v room few a b g e d =
       then d (λ r f.
-        let y : BlockWritten (s .state .reg 2) (s .state .mem) c (r .state .mem) = f .0 in
-        let e2 : r .state .reg 2 ≡ s .state .reg 2 = keeps-register (f .1) 2 (omega arith) (omega arith) in
-        let e3 : r .state .reg 3 ≡ s .state .reg 3 = keeps-register (f .1) 3 (omega arith) (omega arith) in
-        let q : Invariant L (children (blockFields 3 (r .state .mem))) (headers 3 (s .state .mem)) (s .state .reg 2) (s .state .reg 3) n (g .linear-rest) (g .lazy) (g .live) (children (blockFields 3 (r .state .mem)) (s .state .reg 2) ++ roots)
-          = same-roots (λ x nz. rw (y .written) (omega (arith, occ-append x (pointers (y .unused ++ c)) roots, occ-pointers x (y .unused) c, y .no-pointers x nz, e x nz))) (write-head (children (blockFields 3 (r .state .mem))) (λ x ne. ap pointers (y .elsewhere x ne)) (g .invariant)) in
-        let q₁ : Invariant L (children (blockFields 3 (r .state .mem))) (headers 3 (r .state .mem)) (r .state .reg 2) (r .state .reg 3) n (g .linear-rest) (g .lazy) (g .live) (children (blockFields 3 (r .state .mem)) (r .state .reg 2) ++ roots) = rw (y .heads, e2, e3) q in
-        weaken (λ u k.
-          let ft : blockFields 3 (u .state .mem) ≡ blockFields 3 (r .state .mem) = fields-all 3 (r .state .mem) (u .state .mem) (k .1 .fields) in
-          (y .unused, y .no-pointers,
-           record { written = rw ft (y .written); elsewhere = λ x ne. rw ft (y .elsewhere x ne); acquired = rw (← ft, y .heads, e2, e3) at (k .1 .did) },
-           k .0 ∙ e2,
-           keeps-trans (keeps-sub (λ x z. z .0 .0) (f .1)) (k .2)))
-        (acquire-does words roots r l (placed-keeps (omega arith) (f .1) v) room few a b q₁))
+      let y : BlockWritten (s .state .reg 2) (s .state .mem) c (r .state .mem) = f .0 in
+      let e2 : r .state .reg 2 ≡ s .state .reg 2 = keeps-register (f .1) 2 (omega arith) (omega arith) in
+      let e3 : r .state .reg 3 ≡ s .state .reg 3 = keeps-register (f .1) 3 (omega arith) (omega arith) in
+      let q : Invariant L (children (blockFields 3 (r .state .mem))) (headers 3 (s .state .mem)) (s .state .reg 2) (s .state .reg 3) n (g .linear-rest) (g .lazy) (g .live) (children (blockFields 3 (r .state .mem)) (s .state .reg 2) ++ roots)
+      = same-roots (λ x nz. rw (y .written) (omega (arith, occ-append x (pointers (y .unused ++ c)) roots, occ-pointers x (y .unused) c, y .no-pointers x nz, e x nz))) (write-head (children (blockFields 3 (r .state .mem))) (λ x ne. ap pointers (y .elsewhere x ne)) (g .invariant)) in
+      let q₁ : Invariant L (children (blockFields 3 (r .state .mem))) (headers 3 (r .state .mem)) (r .state .reg 2) (r .state .reg 3) n (g .linear-rest) (g .lazy) (g .live) (children (blockFields 3 (r .state .mem)) (r .state .reg 2) ++ roots) = rw (y .heads, e2, e3) q in
+      weaken (λ u k.
+      let ft : blockFields 3 (u .state .mem) ≡ blockFields 3 (r .state .mem) = fields-all 3 (r .state .mem) (u .state .mem) (k .1 .fields) in (
+        y .unused,
+        y .no-pointers,
+        record { written = rw ft (y .written); elsewhere = λ x ne. rw ft (y .elsewhere x ne); acquired = rw (← ft, y .heads, e2, e3) at (k .1 .did) },
+        k .0 ∙ e2,
+        keeps-trans (keeps-sub (λ x z. z .0 .0) (f .1)) (k .2),
+      ))
+      (acquire-does words roots r l (placed-keeps (omega arith) (f .1) v) room few a b q₁))

@@ -3,9 +3,9 @@ ghost use Rattle.records.specs.declared.order.Operation.the-variants.{Add, Sub,
 ghost use Rattle.code.specs.declared.emitters.Condition.the-variants.{Equal, NotEqual, Less, LessOrEqual, Greater, GreaterOrEqual};
 ghost use Rattle.operations.specs.declared.operation.Operation.the-variants.{Label, Jump, JumpLabel, JumpLabelFixed, JumpLabelIf, JumpLabelIfZero, LoadImmediate, LoadLabel, AddAndJump, Arithmetic, Mov, Compare, CompareImmediate};
 ghost use Rattle.operations.specs.Operations.{Operates};
-use code::emitters::Condition;
 use crate::operation;
 use crate::operation::Operation;
+use code::emitters::Condition;
 use emit::answer::Answer;
 use records::order;
 

@@ -53,9 +53,13 @@ decided-taken context q k e =
     let a = chosen (present context k (q .bindings) (orderIs q)) _ Missing refl e in
     let b = chosen (kindsOk context k (q .bindings) (orderIs q)) _ Kind refl (a .1) in
     let c = chosen (countOk (orderIs q)) _ Count refl (b .1) in
-    let d = chosen (leb (asked context k (q .bindings) (orderIs q)) 267) _ Position refl (c .1) in
-    (a .0, b .0, c .0, leb-true (asked context k (q .bindings) (orderIs q)) 267 (d .0),
-      labels-fit q (treeOf base context k (q .bindings) (orderIs q)) (contextAfter context k (q .bindings) (orderIs q)) (d .1))
+    let d = chosen (leb (asked context k (q .bindings) (orderIs q)) 267) _ Position refl (c .1) in (
+      a .0,
+      b .0,
+      c .0,
+      leb-true (asked context k (q .bindings) (orderIs q)) 267 (d .0),
+      labels-fit q (treeOf base context k (q .bindings) (orderIs q)) (contextAfter context k (q .bindings) (orderIs q)) (d .1),
+    )
 
 pub taken : (context : List ℕ) (q : Asked) (k : ℕ) → checkedContext context ≡ checked.Good k → accepted (answerTo base context q) ≡ true → Taken context q k
 unfolding answerTo

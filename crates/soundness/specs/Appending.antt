@@ -61,8 +61,8 @@ module _ {N : ℕ} (ext ext′ : ℕ → Bool) (c : Config) (k : ℕ) (v : Place
       let K = s .1 .kept in
       let f = location-fits (2 * k + 1) (omega arith) in
       let front : variables ext′ d 0 k ≡ variables ext c 0 k
-        = variables-kinds ext ext′ d 0 k (λ x a b. agree x (omega arith))
-          ∙ variables-kept ext c d 0 k (omega arith) (λ p a b. let y = location-grows p (2 * k + 1) (omega arith) in (omega (arith, y .1), omega (arith, y .0))) K in
+      = variables-kinds ext ext′ d 0 k (λ x a b. agree x (omega arith))
+      ∙ variables-kept ext c d 0 k (omega arith) (λ p a b. let y = location-grows p (2 * k + 1) (omega arith) in (omega (arith, y .1), omega (arith, y .0))) K in
       let last : variable ext′ d k ≡ cell 0 w = rw (integer, s .0) in
       let vs : variables ext′ d 0 (suc k) ≡ variables ext c 0 k ++ (cell 0 w ∷ []) = variables-snoc ext′ d 0 k ∙ rw (front, zero-add, last) in
       let same : heapOf d ≡ heapOf c = heap-same c d (s .1 .heap) (keeps-register K 2 (omega arith) (omega (arith, f .0), omega arith)) (keeps-register K 3 (omega arith) (omega (arith, f .0), omega arith)) in

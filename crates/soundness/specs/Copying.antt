@@ -69,24 +69,24 @@ module _ (words : ℕ → ℕ) {N : ℕ} where
   one-copy : (ext : Bool) (c : Config) (a v : ℕ) → Placed N c → a < v → v < 133 → Does words (copyVariable base ext a v) c (λ d. (wordsAt ext d v ≡ wordsAt ext c a) × Below v c d)
   one-copy true c a v p h b =
       so (mov-does words c p (location (2 * v + 1)) (location (2 * a + 1)) (location-fits (2 * v + 1) (omega arith) .1) (location-fits (2 * a + 1) (omega arith) .1)) (λ d s.
-        (rw (s .0), set-below c d v (2 * v + 1) (held c (location (2 * a + 1))) b (inr refl) s))
+      (rw (s .0), set-below c d v (2 * v + 1) (held c (location (2 * a + 1))) b (inr refl) s))
   one-copy false c a v p h b =
       then (mov-does words c p (location (2 * v)) (location (2 * a)) (location-fits (2 * v) (omega arith) .1) (location-fits (2 * a) (omega arith) .1)) (λ d s.
-        let B = set-below c d v (2 * v) (held c (location (2 * a))) b (inl refl) s in
-        so (mov-does words d (below-placed c d v (omega arith) B p) (location (2 * v + 1)) (location (2 * a + 1)) (location-fits (2 * v + 1) (omega arith) .1) (location-fits (2 * a + 1) (omega arith) .1)) (λ e t.
-          let g = location-grows (2 * v) (2 * v + 1) (omega arith) in
-          let fv : held e (location (2 * v)) ≡ held d (location (2 * v)) = t .1 .kept .kept (location (2 * v)) (location-fits (2 * v) (omega arith) .1) (omega (arith, g .1), omega (arith, g .0)) in
-          let q = location-grows (2 * a + 1) (2 * v) (omega arith) in
-          let sa : held d (location (2 * a + 1)) ≡ held c (location (2 * a + 1)) = B .0 .kept (location (2 * a + 1)) (location-fits (2 * a + 1) (omega arith) .1) (omega (arith, q .0), q .1) in
-          (rw (fv ∙ s .0, t .0 ∙ sa), below-then v v c d e (omega arith) (omega arith) B (set-below d e v (2 * v + 1) (held d (location (2 * a + 1))) b (inr refl) t))))
+      let B = set-below c d v (2 * v) (held c (location (2 * a))) b (inl refl) s in
+      so (mov-does words d (below-placed c d v (omega arith) B p) (location (2 * v + 1)) (location (2 * a + 1)) (location-fits (2 * v + 1) (omega arith) .1) (location-fits (2 * a + 1) (omega arith) .1)) (λ e t.
+      let g = location-grows (2 * v) (2 * v + 1) (omega arith) in
+      let fv : held e (location (2 * v)) ≡ held d (location (2 * v)) = t .1 .kept .kept (location (2 * v)) (location-fits (2 * v) (omega arith) .1) (omega (arith, g .1), omega (arith, g .0)) in
+      let q = location-grows (2 * a + 1) (2 * v) (omega arith) in
+      let sa : held d (location (2 * a + 1)) ≡ held c (location (2 * a + 1)) = B .0 .kept (location (2 * a + 1)) (location-fits (2 * a + 1) (omega arith) .1) (omega (arith, q .0), q .1) in
+      (rw (fv ∙ s .0, t .0 ∙ sa), below-then v v c d e (omega arith) (omega arith) B (set-below d e v (2 * v + 1) (held d (location (2 * a + 1))) b (inr refl) t))))
 
   copies-does : (n : ℕ) (ext : Bool) (c : Config) (a v : ℕ) → Placed N c → a < v → v + n ≤ 133
       → Does words (copyTo base ext a v n) c (λ d. ((i : ℕ) → i < n → wordsAt ext d (v + i) ≡ wordsAt ext c a) × Below v c d)
   copies-does zero ext c a v p h b = one refl ((λ i l. absurd (omega arith)), (keeps-refl, refl))
   copies-does (suc n) ext c a v p h b =
       then (one-copy ext c a v p h (omega arith)) (λ d s.
-        so (copies-does n ext d a (suc v) (below-placed c d v (omega arith) (s .1) p) (omega arith) (omega arith)) (λ e t.
-          ((λ i l. at d e s t i l), below-then v (suc v) c d e (omega arith) (omega arith) (s .1) (t .1))))
+      so (copies-does n ext d a (suc v) (below-placed c d v (omega arith) (s .1) p) (omega arith) (omega arith)) (λ e t.
+      ((λ i l. at d e s t i l), below-then v (suc v) c d e (omega arith) (omega arith) (s .1) (t .1))))
     where
       at : (d e : Config) → (wordsAt ext d v ≡ wordsAt ext c a) × Below v c d → ((i : ℕ) → i < n → wordsAt ext e (suc v + i) ≡ wordsAt ext d a) × Below (suc v) d e
           → (i : ℕ) → i < suc n → wordsAt ext e (v + i) ≡ wordsAt ext c a
@@ -116,17 +116,17 @@ module _ (words : ℕ → ℕ) {N : ℕ} (ext ext′ : ℕ → Bool) (c : Config
       let low = location-fits (2 * k) (omega arith) .0 in
       let hd : heapOf d ≡ withHeaders (heapOf c) header = heap-same u d (s .1 .1) (keeps-register (s .1 .0) 2 (omega arith) (omega arith, omega arith)) (keeps-register (s .1 .0) 3 (omega arith) (omega arith, omega arith)) ∙ hu in
       let front : variables ext′ d 0 k ≡ variables ext c 0 k
-        = variables-kinds ext ext′ d 0 k (λ x p q. agree x (omega arith))
-          ∙ variables-kept ext c d 0 k (omega arith) (λ p x y. let g = location-grows p (2 * k) (omega arith) in (omega (arith, g .0), g .1)) K in
+      = variables-kinds ext ext′ d 0 k (λ x p q. agree x (omega arith))
+      ∙ variables-kept ext c d 0 k (omega arith) (λ p x y. let g = location-grows p (2 * k) (omega arith) in (omega (arith, g .0), g .1)) K in
       let fa = location-fits (2 * a) (omega arith) in
       let sa = location-fits (2 * a + 1) (omega arith) in
       let ua : wordsAt (ext a) u a ≡ variable ext c a = rw (ku .kept (location (2 * a)) (fa .1) (omega (arith, fa .0)), ku .kept (location (2 * a + 1)) (sa .1) (omega (arith, sa .0))) in
       let back : variables ext′ d k n ≡ replicate n (variable ext c a) = same-variables ext′ d (variable ext c a) k n (λ i l. rw (same i l) (s .0 i l ∙ ua)) in
       let all : variables ext′ d 0 (k + n) ≡ variables ext c 0 k ++ replicate n (variable ext c a)
-        = variables-append ext′ d 0 k n ∙ rw (zero-add k, front, back) in
+      = variables-append ext′ d 0 k n ∙ rw (zero-add k, front, back) in
       let p : Performs objectSizes L (heapOf c) (copy (length (variables ext c 0 a)) n) (variables ext c 0 a ++ (variable ext c a ∷ variables ext c (suc a) (k - suc a))) (withHeaders (heapOf c) header)
-          ((variables ext c 0 a ++ (variable ext c a ∷ variables ext c (suc a) (k - suc a))) ++ replicate n (variable ext c a))
-        = makes-copies (variables ext c 0 a) (variables ext c (suc a) (k - suc a)) (variable ext c a) n header sh in
+      ((variables ext c 0 a ++ (variable ext c a ∷ variables ext c (suc a) (k - suc a))) ++ replicate n (variable ext c a))
+      = makes-copies (variables ext c 0 a) (variables ext c (suc a) (k - suc a)) (variable ext c a) n header sh in
       record {
         performs = rw (hd, all) (rw (variables-length ext c 0 a, ← (among ext c a k ak)) at p);
         placed = placed-keeps (omega arith, omega arith) K v;
@@ -136,7 +136,7 @@ module _ (words : ℕ → ℕ) {N : ℕ} (ext ext′ : ℕ → Bool) (c : Config
   copy-integer : ext a ≡ true → Does words (copyTo base (ext a) a k n) c (Performed N c (copy a n) ext ext′ k (k + n))
   copy-integer e =
       so (copies-does words n (ext a) c a k v ak most) (λ d s.
-        copied c d (heapOf c .header) refl (λ b nz. rw e (omega (arith, occ-replicate-other n 0 b nz))) keeps-refl s)
+      copied c d (heapOf c .header) refl (λ b nz. rw e (omega (arith, occ-replicate-other n 0 b nz))) keeps-refl s)
 
   pub copy-does : {m : ℕ} {values : Values} → m ≤ N → Represents objectSizes L (heapOf c) m (variables ext c 0 k) values
       → Does words (seq (cond (ext a) nop (shareBlock base (location (2 * a)) n)) (copyTo base (ext a) a k n)) c (Performed N c (copy a n) ext ext′ k (k + n))
@@ -146,4 +146,4 @@ module _ (words : ℕ → ℕ) {N : ℕ} (ext ext′ : ℕ → Bool) (c : Config
       by true e = go {t = nop} refl (copy-integer e)
       by false e =
           then (share-performs words ext c k a n v mN ak (omega arith) (omega arith) e rep) (λ u x.
-            so (copies-does words n (ext a) u a k (placed-keeps (omega arith) (x .2) v) ak most) (λ d s. copied u d (headers 3 (u .state .mem)) (x .1) (x .0) (x .2) s))
+          so (copies-does words n (ext a) u a k (placed-keeps (omega arith) (x .2) v) ak most) (λ d s. copied u d (headers 3 (u .state .mem)) (x .1) (x .0) (x .2) s))

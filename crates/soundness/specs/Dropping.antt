@@ -47,7 +47,7 @@ module _ (words : ℕ → ℕ) {N m : ℕ} {values : Values} (ext ext′ : ℕ �
       by true q = one refl (record { performs = rw (snoc, kinds c) (drop-integer ext c e q); placed = v; quiet = refl })
       by false q =
           so (drop-order words ext c e v mN h q (rw snoc at rep)) (λ d x.
-            record { performs = rw (snoc, kinds d) (x .0); placed = placed-keeps (omega arith, omega arith) (x .1) v; quiet = x .1 .calls-kept })
+          record { performs = rw (snoc, kinds d) (x .0); placed = placed-keeps (omega arith, omega arith) (x .1) v; quiet = x .1 .calls-kept })
 
   -- the variables from r on are the last n
   pub store-does : (r n tag : ℕ) → r + n ≤ 133 → r < 133 → ((x : ℕ) → x < r → ext′ x ≡ ext x) → ext′ r ≡ false → m + length (objectSizes n) < N
@@ -57,9 +57,9 @@ module _ (words : ℕ → ℕ) {N m : ℕ} {values : Values} (ext ext′ : ℕ �
       let f = location-fits (2 * r + 1) (omega arith) in
       let g = location-fits (2 * r) (omega arith) in
       so (store-order words ext ext′ c r n tag (loadImmediate base (location (2 * r + 1)) tag) v h l agree linked
-        (λ u p. so (immediate-does words u p (location (2 * r + 1)) tag (f .1)) (λ z s.
-          let t = puts-sets s in
-          let K = t .1 .kept in
-          (t .0, heap-same u z (t .1 .heap) (keeps-register K 2 (omega arith) (omega (arith, f .0), omega arith)) (keeps-register K 3 (omega arith) (omega (arith, f .0), omega arith)), keeps-sub (λ x q. (q .1, q .0)) K)))
-        (λ count k. omega (arith, reachable-below (rep .consistent) k)) (omega arith) rep)
+      (λ u p. so (immediate-does words u p (location (2 * r + 1)) tag (f .1)) (λ z s.
+      let t = puts-sets s in
+      let K = t .1 .kept in
+      (t .0, heap-same u z (t .1 .heap) (keeps-register K 2 (omega arith) (omega (arith, f .0), omega arith)) (keeps-register K 3 (omega arith) (omega (arith, f .0), omega arith)), keeps-sub (λ x q. (q .1, q .0)) K)))
+      (λ count k. omega (arith, reachable-below (rep .consistent) k)) (omega arith) rep)
       (λ d x. record { performs = x .0; placed = placed-keeps ((omega arith, omega arith, omega arith), omega (arith, g .0)) (x .1) v; quiet = x .1 .calls-kept })

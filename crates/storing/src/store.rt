@@ -13,11 +13,11 @@ ghost use Rattle.layout.specs.Config.{base};
 ghost use Rattle.layout.specs.Positions.{Table};
 ghost use Rattle.memory.specs.Objects.{extIn, storeZeros, storeFst, storeValue, storeValues, storeOther, storeOthers, storeSome, storeObject};
 ghost use Rattle.memory.specs.Answered.{storeTree, storeHighest, storeAnswer};
-use memory::block;
 use emit::answer::Answer;
 use emit::cursor::Cursor;
 use emit::cursor::Row;
 use layout::config::HEAP;
+use memory::block;
 use records::check::Checked;
 use records::number::MOVIM;
 
@@ -176,7 +176,14 @@ pub fn store_some(
 }
 
 // n variables from v on into an object whose pointer goes into variable v's Fst; zero for none.
-pub fn store_object(out: &mut [u8], p: Cursor, table: &[u64; 267], kinds: &[u8], v: u64, n: u64) -> Cursor
+pub fn store_object(
+    out: &mut [u8],
+    p: Cursor,
+    table: &[u64; 267],
+    kinds: &[u8],
+    v: u64,
+    n: u64,
+) -> Cursor
     requires { ⌜ (Table (now table)) × (8 * (v + n) ≤ length (now kinds)) × (v + n ≤ 133) × (p .at + 240000 < 2 ^ 64) × (p .counter + 2000 < 2 ^ 32) ⌝ }
     ensures { λ q. ⌜ Emits (now (out .entry)) p (now (out .exit)) q (storeObject base (extIn (now (kinds .entry)) 0) v n) ⌝ }
 {
@@ -212,7 +219,14 @@ fn store_last(out: &mut [u8], counter: u64, context: &[u8], k: u64, n: u64) -> A
     }
     let table = layout::utils::positions();
     let mut none = [0u8; 1];
-    let need = store_object(&mut none, Cursor { at: 0, counter: 0 }, &table, context, k - n, n);
+    let need = store_object(
+        &mut none,
+        Cursor { at: 0, counter: 0 },
+        &table,
+        context,
+        k - n,
+        n,
+    );
     let answer = emit::answer::grant(counter, out.len(), need);
     if emit::answer::is_written(answer) {} else {
         return answer;
