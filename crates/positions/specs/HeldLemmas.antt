@@ -1,5 +1,5 @@
 -- One word changed, what is kept through a change or two, and the order of the operands of positions.
-use mathlib.Core.Path.{_≡_, refl, sym, _∙_}
+use mathlib.Core.Path.{_≡_, refl, sym, _∙_, ap}
 use mathlib.Core.Logic.{_≢_}
 use mathlib.Core.Bool.{Bool, true, false, cond}
 use mathlib.Core.List.{List}
@@ -127,3 +127,20 @@ location-fits p h = by (decLt p 12)
     by : Dec (p < 12) → (4 ≤ location p) × (location p < 272) × (location p ≢ 16)
     by (yes a) = omega (arith, location-low p a)
     by (no a) = omega (arith, location-high p (omega arith))
+
+pub location-apart : (p q : ℕ) → p ≢ q → location p ≢ location q
+location-apart p q n = by (decLt p q)
+  where
+    by : Dec (p < q) → location p ≢ location q
+    by (yes h) = omega (arith, location-grows p q h .1)
+    by (no h) = omega (arith, location-grows q p (omega arith) .1)
+
+pub location-order : (p q : ℕ) → p ≤ q → location p ≤ location q
+location-order p q h = by (decLt p q)
+  where
+    by : Dec (p < q) → location p ≤ location q
+    by (yes z) = omega (arith, location-grows p q z .1)
+    by (no z) = let t : p ≡ q = omega arith in omega (arith, ap location t)
+
+pub location-free : (p : ℕ) → (4 ≤ location p) × (location p ≢ 16)
+location-free p = let a = location-grows p (p + 1) (omega arith) in (a .0, a .2)
