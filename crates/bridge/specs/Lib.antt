@@ -12,3 +12,4 @@ pub mod Sharing  -- a pointer shared
 pub mod ReachedBlocks  -- what pointers lead to may be followed
 pub mod DropOrder  -- a drop performs the order, and a share what copies ask
 pub mod Loading  -- values out of the fields of a block
+pub mod LoadingBlock  -- one block loaded

@@ -44,9 +44,9 @@ pub counted-none : (c : Bool) (m : ℕ → ℕ) → Counted c [] m m
 counted-none false m = idle refl
 counted-none true m = more-of {ps = []} {m = m} {m′ = m} (record { fields = λ x w a b. refl; counts = λ b nz. omega arith })
 
-pub counted-words : {c : Bool} {ps : List ℕ} {m m′ : ℕ → ℕ} → Counted c ps m m′ → SameFields m m′
-counted-words (idle e) x w a b = rw e
-counted-words (more-of e) x w a b = e .fields x w a b
+pub counted-fields : {c : Bool} {ps : List ℕ} {m m′ : ℕ → ℕ} → Counted c ps m m′ → SameFields m m′
+counted-fields (idle e) x w a b = rw e
+counted-fields (more-of e) x w a b = e .fields x w a b
 
 pub counted-then : {c : Bool} {ps qs : List ℕ} {m m₁ m₂ : ℕ → ℕ} → Counted c qs m m₁ → Counted c ps m₁ m₂ → Counted c (ps ++ qs) m m₂
 counted-then (idle a) (idle b) = idle (b ∙ a)
@@ -75,6 +75,7 @@ pointers-append (x ∷ xs) ys = ap (λ (z : List ℕ). x .fst ∷ z) (pointers-a
 pub may-share-last : {c : Bool} {N K : ℕ} {m : ℕ → ℕ} (ps qs : List ℕ) → 1 ≤ K → MayShare c N K m (ps ++ qs) → MayShare c N 1 m qs
 may-share-last ps qs h f = record { each = λ e p n z. let g = f .each e p (omega (arith, occ-append p ps qs)) z in (g .0, g .1, g .2, omega (arith, g .3)) }
 
+-- field t of block j
 abbrev pub cellAt : (ℕ → ℕ) → ℕ → ℕ → Cell
 cellAt m j t = cell (m (8 * j + (2 + 2 * t))) (m (8 * j + (3 + 2 * t)))
 
@@ -82,7 +83,7 @@ pub cells-snoc : (m : ℕ → ℕ) (j t n : ℕ) → cellsFrom 3 m j t (suc n) �
 unfolding cellsFrom
 cells-snoc m j t n = let e : suc n ≡ n + 1 = omega arith in ap (cellsFrom 3 m j t) e ∙ cells-append 3 m j t n 1
 
--- the locations that are none of k variables' cellsFrom 3 v
+-- the operands that are not TEMP nor any of k variables from v on
 abbrev pub Outside : ℕ → ℕ → ℕ → Type 0
 Outside v k x = (x ≢ 1) × ((p : ℕ) → 2 * v ≤ p → p < 2 * (v + k) → x ≢ location p)
 
@@ -99,8 +100,8 @@ module _ (ext : ℕ → Bool) where
   as-variables-snoc v [] c = let e : v + 0 ≡ v = omega arith in rw e
   as-variables-snoc v (d ∷ cs) c = let e : v + suc (length cs) ≡ suc v + length cs = omega arith in rw e (ap (λ (x : List Cell). asVariable v d ∷ x) (as-variables-snoc (suc v) cs c))
 
-module _ (ext : ℕ → Bool) (sh : Bool) where
-  -- the values of fields free - k and on, asVariables cellsFrom 3 variable v
+module _ (ext : ℕ → Bool) where
+  -- the last k of the first `free` fields of block j, as the variables from v on show them
   abbrev pub shownBy : ℕ → ℕ → (ℕ → ℕ) → ℕ → ℕ → List Cell
   shownBy v k m j free = asVariables ext v (cellsFrom 3 m j (free - k) k)
 
@@ -165,22 +166,22 @@ module _ (words : ℕ → ℕ) where
               (share-part q (blockRegister (location (2 * v))) sh (placed-keeps (omega (arith, c₀ .0, c₁ .0)) kq en) f₁))
 
     pub load-values : {N : ℕ} (s : Config) (v k free b j K : ℕ) → Placed N s → (1 ≤ k → s .state .reg b ≡ blockAddress j) → j < N → b < 16 → b ≢ 1 → ((p : ℕ) → 2 * v < p → p < 2 * (v + k) → location p ≢ b) → k ≤ free → free ≤ 3 → v + k ≤ 133
-        → k ≤ K → MayShare sh N K (s .state .mem) (pointers (shownBy ext sh v k (s .state .mem) j free))
-        → Does words (loadValues base ext sh v k free b) s (λ r. (variables ext r v k ≡ shownBy ext sh v k (s .state .mem) j free) × Counted sh (pointers (shownBy ext sh v k (s .state .mem) j free)) (s .state .mem) (r .state .mem) × Keeps (Outside v k) s r)
+        → k ≤ K → MayShare sh N K (s .state .mem) (pointers (shownBy ext v k (s .state .mem) j free))
+        → Does words (loadValues base ext sh v k free b) s (λ r. (variables ext r v k ≡ shownBy ext v k (s .state .mem) j free) × Counted sh (pointers (shownBy ext v k (s .state .mem) j free)) (s .state .mem) (r .state .mem) × Keeps (Outside v k) s r)
     unfolding cellsFrom
     load-values s v zero free b j K en p h b16 b1 ne kf f3 vk kk f = one refl (refl, counted-none sh (s .state .mem), keeps-refl)
     load-values {N} s v (suc k) free b j K en p h b16 b1 ne kf f3 vk kk f =
         let t : ℕ = free - 1 in
         let c : Cell = asVariable ext (v + k) (cellAt (s .state .mem) j t) in
-        let E : shownBy ext sh v (suc k) (s .state .mem) j free ≡ shownBy ext sh v k (s .state .mem) j t ++ (c ∷ []) = shown-snoc ext sh v k (s .state .mem) j free kf in
-        let P : pointers (shownBy ext sh v (suc k) (s .state .mem) j free) ≡ pointers (shownBy ext sh v k (s .state .mem) j t) ++ (c .fst ∷ []) = ap pointers E ∙ pointers-append (shownBy ext sh v k (s .state .mem) j t) (c ∷ []) in
+        let E : shownBy ext v (suc k) (s .state .mem) j free ≡ shownBy ext v k (s .state .mem) j t ++ (c ∷ []) = shown-snoc ext v k (s .state .mem) j free kf in
+        let P : pointers (shownBy ext v (suc k) (s .state .mem) j free) ≡ pointers (shownBy ext v k (s .state .mem) j t) ++ (c .fst ∷ []) = ap pointers E ∙ pointers-append (shownBy ext v k (s .state .mem) j t) (c ∷ []) in
         let q : K ≡ suc (K - 1) = omega arith in
-        let f₁ : MayShare sh N (suc (K - 1)) (s .state .mem) (pointers (shownBy ext sh v k (s .state .mem) j t) ++ (c .fst ∷ [])) = rw (← q, ← P) f in
-        then (load-value s (v + k) t b j en (p (omega arith)) h b16 b1 (ne (2 * (v + k) + 1) (omega arith) (omega arith)) (omega arith) (omega arith) (may-share-last (pointers (shownBy ext sh v k (s .state .mem) j t)) (c .fst ∷ []) (omega arith) f₁)) (λ r d.
-          let w : SameFields (s .state .mem) (r .state .mem) = counted-words (d .1) in
-          let agree : shownBy ext sh v k (r .state .mem) j t ≡ shownBy ext sh v k (s .state .mem) j t = ap (asVariables ext v) (cells-agree 3 (s .state .mem) (r .state .mem) j (t - k) k (λ y a e. w j y (omega arith) (omega arith))) in
+        let f₁ : MayShare sh N (suc (K - 1)) (s .state .mem) (pointers (shownBy ext v k (s .state .mem) j t) ++ (c .fst ∷ [])) = rw (← q, ← P) f in
+        then (load-value s (v + k) t b j en (p (omega arith)) h b16 b1 (ne (2 * (v + k) + 1) (omega arith) (omega arith)) (omega arith) (omega arith) (may-share-last (pointers (shownBy ext v k (s .state .mem) j t)) (c .fst ∷ []) (omega arith) f₁)) (λ r d.
+          let w : SameFields (s .state .mem) (r .state .mem) = counted-fields (d .1) in
+          let agree : shownBy ext v k (r .state .mem) j t ≡ shownBy ext v k (s .state .mem) j t = ap (asVariables ext v) (cells-agree 3 (s .state .mem) (r .state .mem) j (t - k) k (λ y a e. w j y (omega arith) (omega arith))) in
           let kd : Keeps (λ x. (x ≢ 1) × (x ≢ location (2 * (v + k))) × (x ≢ location (2 * (v + k) + 1))) s r = d .2 in
-          let f₂ : MayShare sh N (K - 1) (r .state .mem) (pointers (shownBy ext sh v k (r .state .mem) j t)) = rw agree (may-share-rest (pointers (shownBy ext sh v k (s .state .mem) j t)) (d .1) f₁) in
+          let f₂ : MayShare sh N (K - 1) (r .state .mem) (pointers (shownBy ext v k (r .state .mem) j t)) = rw agree (may-share-rest (pointers (shownBy ext v k (s .state .mem) j t)) (d .1) f₁) in
           so (load-values r v k t b j (K - 1) (placed-keeps (omega arith, omega (arith, location-fits (2 * (v + k)) (omega arith) .0), omega (arith, location-fits (2 * (v + k) + 1) (omega arith) .0)) kd en)
             (λ o. keeps-register kd b b16 (b1, (λ z. ne (2 * (v + k)) (omega arith) (omega arith) (sym z)), (λ z. ne (2 * (v + k) + 1) (omega arith) (omega arith) (sym z))) ∙ p (omega arith)) h b16 b1 (λ x a z. ne x a (omega arith)) (omega arith) (omega arith) (omega arith) (omega arith) f₂) (λ u e.
             let l₀ : held u (location (2 * (v + k))) ≡ held r (location (2 * (v + k))) = e .2 .kept (location (2 * (v + k))) (location-fits (2 * (v + k)) (omega arith) .1) (omega (arith, location-fits (2 * (v + k)) (omega arith) .0), λ p a z. location-apart (2 * (v + k)) p (omega arith)) in

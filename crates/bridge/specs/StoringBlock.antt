@@ -81,11 +81,11 @@ module _ (ext : ℕ → Bool) where
       }
 
 module _ (words : ℕ → ℕ) where
-  pub block-does : {N n : ℕ} {i : ℕ → ℕ} {roots₀ : List ℕ} {t : Tree} (roots : List ℕ) (s : Config) (l : ℕ) (c : List Cell) → Placed N s → n < N → length roots ≤ 1048559 → 4 ≤ l → l < 272
+  pub store-block : {N n : ℕ} {i : ℕ → ℕ} {roots₀ : List ℕ} {t : Tree} (roots : List ℕ) (s : Config) (l : ℕ) (c : List Cell) → Placed N s → n < N → length roots ≤ 1048559 → 4 ≤ l → l < 272
       → Consistent L (heapOf s) i n roots₀ → ((b : ℕ) → b ≢ 0 → occ b (pointers c) + occ b roots ≡ occ b roots₀)
       → Does words t s (λ r. BlockWritten (s .state .reg 2) (s .state .mem) c (r .state .mem) × Keeps (λ x. x ≢ 1) s r)
       → Does words (seq t (acquireBlock base l)) s (λ r. (unused : List Cell) × NoPointers unused × StoreBlock L (heapOf s) (unused ++ c) (heapOf r) × (held r l ≡ s .state .reg 2) × Keeps (λ x. Low x × (x ≢ l)) s r)
-  block-does {n = n} {roots₀ = roots₀} roots s l c v room few a b g e d =
+  store-block {n = n} {roots₀ = roots₀} roots s l c v room few a b g e d =
       then d (λ r f.
       let y : BlockWritten (s .state .reg 2) (s .state .mem) c (r .state .mem) = f .0 in
       let e2 : r .state .reg 2 ≡ s .state .reg 2 = keeps-register (f .1) 2 (omega arith) (omega arith) in

@@ -144,3 +144,18 @@ location-order p q h = by (decLt p q)
 
 pub location-free : (p : ℕ) → (4 ≤ location p) × (location p ≢ 16)
 location-free p = let a = location-grows p (p + 1) (omega arith) in (a .0, a .2)
+
+-- a position in a register, and one in a spill
+pub position-low : (p : ℕ) → location p < 16 → p < 12
+position-low p h = by (decLt p 12)
+  where
+    by : Dec (p < 12) → p < 12
+    by (yes a) = a
+    by (no a) = absurd (omega (arith, location-high p (omega arith)))
+
+pub position-high : (p : ℕ) → 16 ≤ location p → 12 ≤ p
+position-high p h = by (decLt p 12)
+  where
+    by : Dec (p < 12) → 12 ≤ p
+    by (yes a) = absurd (omega (arith, location-low p a))
+    by (no a) = omega arith
