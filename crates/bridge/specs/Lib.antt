@@ -13,3 +13,6 @@ pub mod ReachedBlocks  -- what pointers lead to may be followed
 pub mod DropOrder  -- a drop performs the order, and a share what copies ask
 pub mod Loading  -- values out of the fields of a block
 pub mod LoadingBlock  -- one block loaded
+pub mod LoadingOthers  -- the blocks before the last
+pub mod LoadingObject  -- all blocks of an object
+pub mod LoadedObject  -- a load of one value or more
