@@ -42,7 +42,7 @@ pub drop-integer : (ext : ℕ → Bool) (s : Config) (e : ℕ) → ext e ≡ tru
 drop-integer ext s e k = drops (variables ext s 0 e) (variable ext s e) (headers 3 (s .state .mem)) (s .state .reg 3) (null (rw k) refl)
 
 -- few roots, whatever the context
-few-roots : (ext : ℕ → Bool) (s : Config) (e : ℕ) → e < 133 → length (pointers (variables ext s 0 e ++ (variable ext s e ∷ []))) ≤ 1048576
+pub few-roots : (ext : ℕ → Bool) (s : Config) (e : ℕ) → e < 133 → length (pointers (variables ext s 0 e ++ (variable ext s e ∷ []))) ≤ 1048576
 few-roots ext s e h = omega (arith, pointers-length (variables ext s 0 e ++ (variable ext s e ∷ [])), length-append (variables ext s 0 e) (variable ext s e ∷ []), variables-length ext s 0 e)
 
 module _ (words : ℕ → ℕ) where

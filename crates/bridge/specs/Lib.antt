@@ -16,3 +16,4 @@ pub mod LoadingBlock  -- one block loaded
 pub mod LoadingOthers  -- the blocks before the last
 pub mod LoadingObject  -- all blocks of an object
 pub mod LoadedObject  -- a load of one value or more
+pub mod LoadOrder  -- a load of any number of values performs the order
