@@ -40,9 +40,11 @@ module _ {N n : ℕ} {i : ℕ → ℕ} {roots : List ℕ} (s : Config) (g : Cons
       (b .i, b .lt, b .is, o .1, o .3, o .4, object-lies d ch (o .3 .fst) (λ nz. follow p (r (o .0)) nz (rw (o .4) (omega (arith, occ-pointers (o .3 .fst) (o .1) (c ++ (o .3 ∷ [])), occ-pointers (o .3 .fst) c (o .3 ∷ []), same-self (o .3 .fst))))) (o .6))
 
   pub object-may-share : (ch : List (List Cell)) (p k : ℕ) → k ≤ 1048576 → (p ≢ 0 → ReachableFrom (blockFields 3 (s .state .mem)) roots p) → Object (blockFields 3 (s .state .mem)) i p ch → MayShare true N k (s .state .mem) (pointers (concat ch))
-  object-may-share ch p k h r o = record { each = λ e q m nz.
-      let b = reachable-block s g fits most few q (object-pointers {fields′ = blockFields 3 (s .state .mem)} {linked′ = i} (ReachableFrom (blockFields 3 (s .state .mem)) roots) (λ b r. refl) (λ b r. refl) (λ y b r nz m. follow y r nz m) ch p r o q nz m) in
-      (b .i, b .lt, b .is, omega (arith, b .small)) }
+  object-may-share ch p k h r o = record {
+    each = λ e q m nz.
+        let b = reachable-block s g fits most few q (object-pointers {fields′ = blockFields 3 (s .state .mem)} {linked′ = i} (ReachableFrom (blockFields 3 (s .state .mem)) roots) (λ b r. refl) (λ b r. refl) (λ y b r nz m. follow y r nz m) ch p r o q nz m) in
+        (b .i, b .lt, b .is, omega (arith, b .small));
+  }
 
 -- the kinds of variables from v on fit the values: an integer variable for an integer, a linked one for an object
 abbrev pub Kinds : (ℕ → Bool) → ℕ → Values → Type 0
@@ -78,7 +80,7 @@ module _ (words : ℕ → ℕ) where
       (rep : Represents objectSizes L (heapOf s) m (variables ext s 0 e ++ (variable ext s e ∷ [])) values) where
     load-some : (v : Value) (ws : Values) → e + countOf (cons v ws) ≤ 133 → valueAt e values ≡ object tag (cons v ws) → Kinds ext′ e (cons v ws)
         → Does words (loadObject base ext′ e (countOf (cons v ws))) s
-          (λ u. Performs objectSizes L (heapOf s) (load (countOf (cons v ws))) (variables ext s 0 e ++ (variable ext s e ∷ [])) (heapOf u) (variables ext′ u 0 (e + countOf (cons v ws))) × Keeps (Under e) s u)
+        (λ u. Performs objectSizes L (heapOf s) (load (countOf (cons v ws))) (variables ext s 0 e ++ (variable ext s e ∷ [])) (heapOf u) (variables ext′ u 0 (e + countOf (cons v ws))) × Keeps (Under e) s u)
     load-some v ws vN is ks = by (H .2) (H .3) (H .4) (H .5)
       where
         fst-held : variable ext s e .fst ≡ held s (location (2 * e))
@@ -89,7 +91,7 @@ module _ (words : ℕ → ℕ) where
 
         by : (ch : List (List Cell)) → Object (blockFields 3 (s .state .mem)) (rep .linked) (variable ext s e .fst) ch → HoldAll objectSizes (blockFields 3 (s .state .mem)) (rep .linked) (cons v ws) (concat ch) → lengths ch ≡ objectSizes (countOf (cons v ws))
             → Does words (loadObject base ext′ e (countOf (cons v ws))) s
-              (λ u. Performs objectSizes L (heapOf s) (load (countOf (cons v ws))) (variables ext s 0 e ++ (variable ext s e ∷ [])) (heapOf u) (variables ext′ u 0 (e + countOf (cons v ws))) × Keeps (Under e) s u)
+            (λ u. Performs objectSizes L (heapOf s) (load (countOf (cons v ws))) (variables ext s 0 e ++ (variable ext s e ∷ [])) (heapOf u) (variables ext′ u 0 (e + countOf (cons v ws))) × Keeps (Under e) s u)
         by [] o a sz = let z : _≡_ {A = ℕ} 0 1 = cc (a .2) in absurd (omega arith)
         by (d ∷ ch) o a sz =
             let q : ℕ = variable ext s e .fst in
@@ -100,13 +102,13 @@ module _ (words : ℕ → ℕ) where
             let sn : asVariables ext′ e (concat (d ∷ ch)) ≡ concat (d ∷ ch) = as-variables-all ext′ objectSizes (blockFields 3 (s .state .mem)) (rep .linked) e (cons v ws) (concat (d ∷ ch)) ks a in
             let pt : MayShare true N (countOf (cons v ws)) (s .state .mem) (pointers (asVariables ext′ e (concat (d ∷ ch)))) = rw sn (object-may-share s (rep .consistent) mN (en .fits) few (d ∷ ch) q (countOf (cons v ws)) (omega arith) r o) in
             so (load-does words ext′ s e (countOf (cons v ws)) q (b .i) (d ∷ ch) en (sym fst-held) (b .is) (b .lt) (omega (arith, b .small)) (object-lies s (rep .consistent) mN (en .fits) few d ch q r o) sz pt (omega arith) vN) (λ u x.
-              let vv : variables ext′ u 0 (e + countOf (cons v ws)) ≡ variables ext s 0 e ++ concat (d ∷ ch) = variables-front ext ext′ s u e (countOf (cons v ws)) vN agree (x .2) ∙ ap (λ (y : List Cell). variables ext s 0 e ++ y) (x .0 ∙ sn) in
-              (rw vv (taken-performs (variables ext s 0 e) (variable ext s e) d ch (ap pointers sn) sz (object-reads (blockFields 3 (s .state .mem)) (rep .linked) q d ch o) (x .1)), x .2))
+            let vv : variables ext′ u 0 (e + countOf (cons v ws)) ≡ variables ext s 0 e ++ concat (d ∷ ch) = variables-front ext ext′ s u e (countOf (cons v ws)) vN agree (x .2) ∙ ap (λ (y : List Cell). variables ext s 0 e ++ y) (x .0 ∙ sn) in
+            (rw vv (taken-performs (variables ext s 0 e) (variable ext s e) d ch (ap pointers sn) sz (object-reads (blockFields 3 (s .state .mem)) (rep .linked) q d ch o) (x .1)), x .2))
 
     -- the object in variable e loaded into variables e and on, whatever registers and spills they have
     pub load-order : (ws : Values) → e + countOf ws ≤ 133 → valueAt e values ≡ object tag ws → Kinds ext′ e ws
         → Does words (loadObject base ext′ e (countOf ws)) s
-          (λ u. Performs objectSizes L (heapOf s) (load (countOf ws)) (variables ext s 0 e ++ (variable ext s e ∷ [])) (heapOf u) (variables ext′ u 0 (e + countOf ws)) × Keeps (Under e) s u)
+        (λ u. Performs objectSizes L (heapOf s) (load (countOf ws)) (variables ext s 0 e ++ (variable ext s e ∷ [])) (heapOf u) (variables ext′ u 0 (e + countOf ws)) × Keeps (Under e) s u)
     load-order nil vN is ks =
         let z : e + 0 ≡ e = omega arith in
         let vv : variables ext′ s 0 (e + 0) ≡ variables ext s 0 e = ap (variables ext′ s 0) z ∙ variables-kinds ext ext′ s 0 e (λ x a b. agree x (omega arith)) in

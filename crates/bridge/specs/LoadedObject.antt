@@ -76,7 +76,7 @@ module _ (words : ℕ → ℕ) (ext : ℕ → Bool) where
             let l₁ : Lies N (blockFields 3 (r .state .mem)) p ch = rw em lays in
             if-yes (block-compared words r er b j 0 0 rb lt refl (omega arith) 0) (eq-eqb (r .state .mem (8 * j + 0)) 0 z)
             (so (some-does words ext false n e p ch (dropped r) er ir l₁ (record { each = λ y. let o : _≡_ {A = ℕ} 0 1 = cc in absurd (omega arith) }) n n1 en133 (omega arith) sz) (λ u x.
-              (x .0, released-all u (x .1), keeps-trans ku (x .2))))
+            (x .0, released-all u (x .1), keeps-trans ku (x .2))))
           where
             released-all : (u : Config) → ObjectGone (heapOf r) p ch (pointers (asVariables ext e (concat ch))) false (heapOf u) → ObjectTaken (heapOf s) p ch (pointers (asVariables ext e (concat ch))) (heapOf u)
             released-all u (object-released t) = was-last (hp ∙ z) (rw mr t)
@@ -90,7 +90,7 @@ module _ (words : ℕ → ℕ) (ext : ℕ → Bool) where
             if-no (block-compared words r er b j 0 0 rb lt refl (omega arith) 0) (ne-eqb (r .state .mem (8 * j + 0)) 0 z)
             (go (block-ADDIM words (dropped r) er b j 0 0 rb lt refl (omega arith) 18446744073709551615)
             (so (some-does words ext true n e p ch r₁ er ir l₁ p₁ n n1 en133 (omega arith) sz) (λ u x.
-              (x .0, counted-all u sy (x .1), keeps-trans ku (x .2)))))
+            (x .0, counted-all u sy (x .1), keeps-trans ku (x .2)))))
           where
             lower : (q : ℕ) → occ q (pointers (asVariables ext e (concat ch))) ≢ 0 → q ≢ 0 → (c : ℕ) → suc (sum (r .state .mem (8 * j + 0)) 18446744073709551615) ≡ r .state .mem (8 * j + 0)
                 → (i : ℕ) × (i < N) × (q ≡ blockAddress i) × (upd (r .state .mem) (8 * j + 0) (sum (r .state .mem (8 * j + 0)) 18446744073709551615) (8 * i + 0) + n < 18446744073709551616)
@@ -106,13 +106,13 @@ module _ (words : ℕ → ℕ) (ext : ℕ → Bool) where
                 let y : ℕ = sum (r .state .mem (8 * j + 0)) 18446744073709551615 in
                 was-shared (λ q. z (sym hp ∙ q)) (headers-changed (heapOf s) (heapOf u) (t .fields ∙ head-cells (r .state .mem) j y ∙ ap (blockFields 3) em) (t .linear-head ∙ e2) (t .lazy-head ∙ e3))
                 (split p
-                  (λ nz. omega (arith, t .header p nz, same-self p, hp, ap (headers 3 (upd (r .state .mem) (8 * j + 0) y)) pj, head-same (r .state .mem) j y))
-                  (λ c d nz. omega (arith, t .header c nz, same-other d, head-off (r .state .mem) j y c (λ x. d (x ∙ sym pj)), ap (λ (x : ℕ → ℕ). headers 3 x c) em)))
+                (λ nz. omega (arith, t .header p nz, same-self p, hp, ap (headers 3 (upd (r .state .mem) (8 * j + 0) y)) pj, head-same (r .state .mem) j y))
+                (λ c d nz. omega (arith, t .header c nz, same-other d, head-off (r .state .mem) j y c (λ x. d (x ∙ sym pj)), ap (λ (x : ℕ → ℕ). headers 3 x c) em)))
 
     pub load-does : Does words (loadObject base ext e n) s Post
     load-does = rw (ne-eqb n 0 (omega arith)) (by (ltb (location (2 * e)) 16) refl)
       where
         by : (c : Bool) → ltb (location (2 * e)) 16 ≡ c → Does words (seq (cond c nop (leaf (MOVL 1 0 (stackOffset base (location (2 * e)))) refl))
-          (if-zero (CMPIM (cond c (location (2 * e)) TEMP) 0 0) refl (loadSome base ext false e n) (seq (leaf (ADDIM (cond c (location (2 * e)) TEMP) 0 18446744073709551615) refl) (loadSome base ext true e n)))) s Post
+            (if-zero (CMPIM (cond c (location (2 * e)) TEMP) 0 0) refl (loadSome base ext false e n) (seq (leaf (ADDIM (cond c (location (2 * e)) TEMP) 0 18446744073709551615) refl) (loadSome base ext true e n)))) s Post
         by true q = go refl (branches s (location (2 * e)) refl refl refl keeps-refl (sym (held-register (s .state .reg) (s .state .stk) (location (2 * e)) (ltb-true (location (2 * e)) 16 q)) ∙ is ∙ pj))
         by false q = go (spill-MOVL words s en (location (2 * e)) (ltb-false (location (2 * e)) 16 q) (fits .1) 1) (branches (withRegister s 1 (held s (location (2 * e)))) 1 refl refl refl (keeps-put 1 (held s (location (2 * e))) (λ x y. y) keeps-refl) (is ∙ pj))

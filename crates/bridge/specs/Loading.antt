@@ -62,11 +62,13 @@ at-most p q = by (ℕ-discrete p q)
 -- those left, after one
 pub may-share-rest : {c : Bool} {N K q : ℕ} {m m₁ : ℕ → ℕ} (ps : List ℕ) → Counted c (q ∷ []) m m₁ → MayShare c N (suc K) m (ps ++ (q ∷ [])) → MayShare c N K m₁ ps
 may-share-rest ps (idle a) f = record { each = λ e. let z : _≡_ {A = ℕ} 0 1 = cc in absurd (omega arith) }
-may-share-rest {N = N} {K = K} {q = q} {m = m} {m₁ = m₁} ps (more-of a) f = record { each = λ e p n z.
-    let g = f .each refl p (omega (arith, occ-append p ps (q ∷ []))) z in
-    let h₁ : headers 3 m₁ p ≡ m₁ (8 * g .0 + 0) = ap (headers 3 m₁) (g .2) ∙ header-at 3 m₁ (g .0) in
-    let h₂ : headers 3 m p ≡ m (8 * g .0 + 0) = ap (headers 3 m) (g .2) ∙ header-at 3 m (g .0) in
-    (g .0, g .1, g .2, omega (arith, g .3, a .counts p z, at-most p q)) }
+may-share-rest {N = N} {K = K} {q = q} {m = m} {m₁ = m₁} ps (more-of a) f = record {
+  each = λ e p n z.
+      let g = f .each refl p (omega (arith, occ-append p ps (q ∷ []))) z in
+      let h₁ : headers 3 m₁ p ≡ m₁ (8 * g .0 + 0) = ap (headers 3 m₁) (g .2) ∙ header-at 3 m₁ (g .0) in
+      let h₂ : headers 3 m p ≡ m (8 * g .0 + 0) = ap (headers 3 m) (g .2) ∙ header-at 3 m (g .0) in
+      (g .0, g .1, g .2, omega (arith, g .3, a .counts p z, at-most p q));
+}
 
 pub pointers-append : (xs ys : List Cell) → pointers (xs ++ ys) ≡ pointers xs ++ pointers ys
 pointers-append [] ys = refl
@@ -119,14 +121,14 @@ module _ (words : ℕ → ℕ) where
   load-field {N} s l b j o w v p h q f a g = by (ltb l 16) refl
     where
       by : (c : Bool) → ltb l 16 ≡ c → Does words (cond c (leaf (MOVL l b o) refl) (seq (leaf (MOVL 1 b o) refl) (leaf (MOVS 1 0 (stackOffset base l)) refl))) s
-        (λ r. (held r l ≡ s .state .mem (8 * j + w)) × (r .state .reg (cond c l TEMP) ≡ s .state .mem (8 * j + w)) × (r .state .mem ≡ s .state .mem) × Keeps (λ x. (x ≢ 1) × (x ≢ l)) s r)
+          (λ r. (held r l ≡ s .state .mem (8 * j + w)) × (r .state .reg (cond c l TEMP) ≡ s .state .mem (8 * j + w)) × (r .state .mem ≡ s .state .mem) × Keeps (λ x. (x ≢ 1) × (x ≢ l)) s r)
       by true e = let y : ℕ = s .state .mem (8 * j + w) in
           one (block-MOVL words s v b j o w p h q f l) (register-same (s .state .reg) (s .state .stk) l y (ltb-true l 16 e), upd-same (s .state .reg) l y, refl, keeps-put l y (λ x d. d .1) keeps-refl)
       by false e =
           let y : ℕ = s .state .mem (8 * j + w) in
           let k : 16 ≤ l = ltb-false l 16 e in
           go (block-MOVL words s v b j o w p h q f 1) (one (spill-MOVS words (withRegister s 1 y) v l k g 1)
-            (spill-same (upd (s .state .reg) 1 y) (s .state .stk) l y k, refl, refl, keeps-spill l y k g (λ x d. d .1) (keeps-put 1 y (λ x d. d .0) keeps-refl)))
+          (spill-same (upd (s .state .reg) 1 y) (s .state .stk) l y k, refl, refl, keeps-spill l y k g (λ x d. d .1) (keeps-put 1 y (λ x d. d .0) keeps-refl)))
 
   module _ (ext : ℕ → Bool) (sh : Bool) where
     share-part : {N : ℕ} (s : Config) (b : ℕ) (c : Bool) → Placed N s → MayShare c N 1 (s .state .mem) (s .state .reg b ∷ []) → Does words (cond c (shareRegister b 1) nop) s (λ r. Counted c (s .state .reg b ∷ []) (s .state .mem) (r .state .mem) × Keeps (λ x. Unit {0}) s r)
@@ -144,7 +146,7 @@ module _ (words : ℕ → ℕ) where
             → MayShare sh N 1 (s .state .mem) (choose c 0 (s .state .mem (8 * j + (2 + 2 * t))) ∷ [])
             → Does words (cond c nop (seq (loadField base (location (2 * v)) b (16 + 16 * t)) (cond sh (shareRegister (blockRegister (location (2 * v))) 1) nop))) r
             (λ q. (_≡_ {A = Cell} (cell (choose c 0 (held q (location (2 * v)))) (held q (location (2 * v + 1)))) (cell (choose c 0 (s .state .mem (8 * j + (2 + 2 * t)))) (s .state .mem (8 * j + (3 + 2 * t)))))
-              × Counted sh (choose c 0 (s .state .mem (8 * j + (2 + 2 * t))) ∷ []) (s .state .mem) (q .state .mem) × Keeps (λ x. (x ≢ 1) × (x ≢ location (2 * v)) × (x ≢ location (2 * v + 1))) s q)
+            × Counted sh (choose c 0 (s .state .mem (8 * j + (2 + 2 * t))) ∷ []) (s .state .mem) (q .state .mem) × Keeps (λ x. (x ≢ 1) × (x ≢ location (2 * v)) × (x ≢ location (2 * v + 1))) s q)
         by r e m k true f = one refl (rw e, null sh (s .state .mem) (r .state .mem) m, keeps-sub (λ x y. (y .0, y .2)) k)
           where
             null : (c : Bool) (a b : ℕ → ℕ) → b ≡ a → Counted c (0 ∷ []) a b
@@ -155,15 +157,15 @@ module _ (words : ℕ → ℕ) where
             let c₀ = location-fits (2 * v) (omega arith) in
             let lt = location-grows (2 * v) (2 * v + 1) (omega arith) in
             then (load-field r (location (2 * v)) b j (16 + 16 * t) (2 + 2 * t) (placed-keeps (omega arith) k en) (keeps-register k b b16 (b1, λ q. ne (sym q)) ∙ p) h (omega arith) (omega arith) (c₀ .0) (c₀ .1)) (λ q d.
-              let g : q .state .mem ≡ s .state .mem = d .2 ∙ m in
-              let w : q .state .reg (blockRegister (location (2 * v))) ≡ s .state .mem (8 * j + (2 + 2 * t)) = d .1 ∙ ap (λ (x : ℕ → ℕ). x (8 * j + (2 + 2 * t))) m in
-              let kq : Keeps (λ x. (x ≢ 1) × (x ≢ location (2 * v)) × (x ≢ location (2 * v + 1))) s q = keeps-trans (keeps-sub (λ x y. (y .0, y .2)) k) (keeps-sub (λ x y. (y .0, y .1)) (d .3)) in
-              let f₁ : MayShare sh N 1 (q .state .mem) (q .state .reg (blockRegister (location (2 * v))) ∷ []) = rw (w, g) f in
-              weaken (λ u z.
-                let a₀ : held u (location (2 * v)) ≡ s .state .mem (8 * j + (2 + 2 * t)) = z .1 .kept (location (2 * v)) (c₀ .1) tt ∙ d .0 ∙ ap (λ (x : ℕ → ℕ). x (8 * j + (2 + 2 * t))) m in
-                let a₁ : held u (location (2 * v + 1)) ≡ s .state .mem (8 * j + (3 + 2 * t)) = z .1 .kept (location (2 * v + 1)) (c₁ .1) tt ∙ d .3 .kept (location (2 * v + 1)) (c₁ .1) (omega arith, omega (arith, lt .1)) ∙ e in
-                (rw (a₀, a₁), rw (w, g) at (z .0), keeps-trans kq (keeps-sub (λ x y. tt) (z .1))))
-              (share-part q (blockRegister (location (2 * v))) sh (placed-keeps (omega (arith, c₀ .0, c₁ .0)) kq en) f₁))
+            let g : q .state .mem ≡ s .state .mem = d .2 ∙ m in
+            let w : q .state .reg (blockRegister (location (2 * v))) ≡ s .state .mem (8 * j + (2 + 2 * t)) = d .1 ∙ ap (λ (x : ℕ → ℕ). x (8 * j + (2 + 2 * t))) m in
+            let kq : Keeps (λ x. (x ≢ 1) × (x ≢ location (2 * v)) × (x ≢ location (2 * v + 1))) s q = keeps-trans (keeps-sub (λ x y. (y .0, y .2)) k) (keeps-sub (λ x y. (y .0, y .1)) (d .3)) in
+            let f₁ : MayShare sh N 1 (q .state .mem) (q .state .reg (blockRegister (location (2 * v))) ∷ []) = rw (w, g) f in
+            weaken (λ u z.
+            let a₀ : held u (location (2 * v)) ≡ s .state .mem (8 * j + (2 + 2 * t)) = z .1 .kept (location (2 * v)) (c₀ .1) tt ∙ d .0 ∙ ap (λ (x : ℕ → ℕ). x (8 * j + (2 + 2 * t))) m in
+            let a₁ : held u (location (2 * v + 1)) ≡ s .state .mem (8 * j + (3 + 2 * t)) = z .1 .kept (location (2 * v + 1)) (c₁ .1) tt ∙ d .3 .kept (location (2 * v + 1)) (c₁ .1) (omega arith, omega (arith, lt .1)) ∙ e in
+            (rw (a₀, a₁), rw (w, g) at (z .0), keeps-trans kq (keeps-sub (λ x y. tt) (z .1))))
+            (share-part q (blockRegister (location (2 * v))) sh (placed-keeps (omega (arith, c₀ .0, c₁ .0)) kq en) f₁))
 
     pub load-values : {N : ℕ} (s : Config) (v k free b j K : ℕ) → Placed N s → (1 ≤ k → s .state .reg b ≡ blockAddress j) → j < N → b < 16 → b ≢ 1 → ((p : ℕ) → 2 * v < p → p < 2 * (v + k) → location p ≢ b) → k ≤ free → free ≤ 3 → v + k ≤ 133
         → k ≤ K → MayShare sh N K (s .state .mem) (pointers (shownBy ext v k (s .state .mem) j free))
@@ -178,15 +180,16 @@ module _ (words : ℕ → ℕ) where
         let q : K ≡ suc (K - 1) = omega arith in
         let f₁ : MayShare sh N (suc (K - 1)) (s .state .mem) (pointers (shownBy ext v k (s .state .mem) j t) ++ (c .fst ∷ [])) = rw (← q, ← P) f in
         then (load-value s (v + k) t b j en (p (omega arith)) h b16 b1 (ne (2 * (v + k) + 1) (omega arith) (omega arith)) (omega arith) (omega arith) (may-share-last (pointers (shownBy ext v k (s .state .mem) j t)) (c .fst ∷ []) (omega arith) f₁)) (λ r d.
-          let w : SameFields (s .state .mem) (r .state .mem) = counted-fields (d .1) in
-          let agree : shownBy ext v k (r .state .mem) j t ≡ shownBy ext v k (s .state .mem) j t = ap (asVariables ext v) (cells-agree 3 (s .state .mem) (r .state .mem) j (t - k) k (λ y a e. w j y (omega arith) (omega arith))) in
-          let kd : Keeps (λ x. (x ≢ 1) × (x ≢ location (2 * (v + k))) × (x ≢ location (2 * (v + k) + 1))) s r = d .2 in
-          let f₂ : MayShare sh N (K - 1) (r .state .mem) (pointers (shownBy ext v k (r .state .mem) j t)) = rw agree (may-share-rest (pointers (shownBy ext v k (s .state .mem) j t)) (d .1) f₁) in
-          so (load-values r v k t b j (K - 1) (placed-keeps (omega arith, omega (arith, location-fits (2 * (v + k)) (omega arith) .0), omega (arith, location-fits (2 * (v + k) + 1) (omega arith) .0)) kd en)
-            (λ o. keeps-register kd b b16 (b1, (λ z. ne (2 * (v + k)) (omega arith) (omega arith) (sym z)), (λ z. ne (2 * (v + k) + 1) (omega arith) (omega arith) (sym z))) ∙ p (omega arith)) h b16 b1 (λ x a z. ne x a (omega arith)) (omega arith) (omega arith) (omega arith) (omega arith) f₂) (λ u e.
-            let l₀ : held u (location (2 * (v + k))) ≡ held r (location (2 * (v + k))) = e .2 .kept (location (2 * (v + k))) (location-fits (2 * (v + k)) (omega arith) .1) (omega (arith, location-fits (2 * (v + k)) (omega arith) .0), λ p a z. location-apart (2 * (v + k)) p (omega arith)) in
-            let l₁ : held u (location (2 * (v + k) + 1)) ≡ held r (location (2 * (v + k) + 1)) = e .2 .kept (location (2 * (v + k) + 1)) (location-fits (2 * (v + k) + 1) (omega arith) .1) (omega (arith, location-fits (2 * (v + k) + 1) (omega arith) .0), λ p a z. location-apart (2 * (v + k) + 1) p (omega arith)) in
-            let vl : variable ext u (v + k) ≡ c = rw (l₀, l₁) (d .0) in
-            (variables-snoc ext u v k ∙ rw (e .0, agree, vl) (sym E),
-             rw P (counted-then (d .1) (rw agree at (e .1))),
-             keeps-trans (keeps-sub (λ x y. (y .0, y .1 (2 * (v + k)) (omega arith) (omega arith), y .1 (2 * (v + k) + 1) (omega arith) (omega arith))) kd) (keeps-sub (λ x y. (y .0, λ p a z. y .1 p a (omega arith))) (e .2)))))
+        let w : SameFields (s .state .mem) (r .state .mem) = counted-fields (d .1) in
+        let agree : shownBy ext v k (r .state .mem) j t ≡ shownBy ext v k (s .state .mem) j t = ap (asVariables ext v) (cells-agree 3 (s .state .mem) (r .state .mem) j (t - k) k (λ y a e. w j y (omega arith) (omega arith))) in
+        let kd : Keeps (λ x. (x ≢ 1) × (x ≢ location (2 * (v + k))) × (x ≢ location (2 * (v + k) + 1))) s r = d .2 in
+        let f₂ : MayShare sh N (K - 1) (r .state .mem) (pointers (shownBy ext v k (r .state .mem) j t)) = rw agree (may-share-rest (pointers (shownBy ext v k (s .state .mem) j t)) (d .1) f₁) in
+        so (load-values r v k t b j (K - 1) (placed-keeps (omega arith, omega (arith, location-fits (2 * (v + k)) (omega arith) .0), omega (arith, location-fits (2 * (v + k) + 1) (omega arith) .0)) kd en)
+        (λ o. keeps-register kd b b16 (b1, (λ z. ne (2 * (v + k)) (omega arith) (omega arith) (sym z)), (λ z. ne (2 * (v + k) + 1) (omega arith) (omega arith) (sym z))) ∙ p (omega arith)) h b16 b1 (λ x a z. ne x a (omega arith)) (omega arith) (omega arith) (omega arith) (omega arith) f₂) (λ u e.
+        let l₀ : held u (location (2 * (v + k))) ≡ held r (location (2 * (v + k))) = e .2 .kept (location (2 * (v + k))) (location-fits (2 * (v + k)) (omega arith) .1) (omega (arith, location-fits (2 * (v + k)) (omega arith) .0), λ p a z. location-apart (2 * (v + k)) p (omega arith)) in
+        let l₁ : held u (location (2 * (v + k) + 1)) ≡ held r (location (2 * (v + k) + 1)) = e .2 .kept (location (2 * (v + k) + 1)) (location-fits (2 * (v + k) + 1) (omega arith) .1) (omega (arith, location-fits (2 * (v + k) + 1) (omega arith) .0), λ p a z. location-apart (2 * (v + k) + 1) p (omega arith)) in
+        let vl : variable ext u (v + k) ≡ c = rw (l₀, l₁) (d .0) in (
+          variables-snoc ext u v k ∙ rw (e .0, agree, vl) (sym E),
+          rw P (counted-then (d .1) (rw agree at (e .1))),
+          keeps-trans (keeps-sub (λ x y. (y .0, y .1 (2 * (v + k)) (omega arith) (omega arith), y .1 (2 * (v + k) + 1) (omega arith) (omega arith))) kd) (keeps-sub (λ x y. (y .0, λ p a z. y .1 p a (omega arith))) (e .2)),
+        )))

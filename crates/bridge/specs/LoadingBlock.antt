@@ -57,31 +57,33 @@ module _ (words : ℕ → ℕ) (ext : ℕ → Bool) where
   link-and-values : {N : ℕ} (sh other : Bool) (s : Config) (v k b j K : ℕ) → Placed N s → s .state .reg b ≡ blockAddress j → j < N → b < 16 → b ≢ 1 → ((p : ℕ) → 2 * v < p → p ≤ 2 * (v + k) → location p ≢ b) → k ≤ capacity base other → 1 ≤ k → v + k ≤ 133
       → k ≤ K → MayShare sh N K (s .state .mem) (pointers (shownBy ext v k (s .state .mem) j (capacity base other)))
       → Does words (seq (loadLink base other (v + k) b) (loadValues base ext sh v k (capacity base other) b)) s
-        (λ r. (variables ext r v k ≡ shownBy ext v k (s .state .mem) j (capacity base other)) × Counted sh (pointers (shownBy ext v k (s .state .mem) j (capacity base other))) (s .state .mem) (r .state .mem) × (other ≡ true → held r (location (2 * (v + k))) ≡ s .state .mem (8 * j + 6))
-          × Keeps (λ x. Outside v k x × (x ≢ location (2 * (v + k)))) s r)
+      (λ r. (variables ext r v k ≡ shownBy ext v k (s .state .mem) j (capacity base other)) × Counted sh (pointers (shownBy ext v k (s .state .mem) j (capacity base other))) (s .state .mem) (r .state .mem) × (other ≡ true → held r (location (2 * (v + k))) ≡ s .state .mem (8 * j + 6))
+      × Keeps (λ x. Outside v k x × (x ≢ location (2 * (v + k)))) s r)
   link-and-values sh true s v k b j K en p h b16 b1 ne kf k1 vk kk f =
       let c = location-fits (2 * (v + k)) (omega arith) in
       then (load-field words s (location (2 * (v + k))) b j 48 6 en p h refl (omega arith) (c .0) (c .1)) (λ r d.
-        let g : r .state .mem ≡ s .state .mem = d .2 in
-        so (load-values words ext sh r v k 2 b j K (placed-keeps (omega arith, omega (arith, c .0)) (d .3) en) (λ _. keeps-register (d .3) b b16 (b1, λ z. ne (2 * (v + k)) (omega arith) (omega arith) (sym z)) ∙ p) h b16 b1 (λ x a z. ne x a (omega arith)) kf (omega arith) vk kk (rw g f)) (λ u e.
-          (e .0 ∙ rw g refl, rw g at (e .1),
-           (λ _. e .2 .kept (location (2 * (v + k))) (c .1) (omega (arith, c .0), λ x a z. location-apart (2 * (v + k)) x (omega arith)) ∙ d .0),
-           keeps-trans (keeps-sub (λ x y. (y .0 .0, y .1)) (d .3)) (keeps-sub (λ x y. y .0) (e .2)))))
+      let g : r .state .mem ≡ s .state .mem = d .2 in
+      so (load-values words ext sh r v k 2 b j K (placed-keeps (omega arith, omega (arith, c .0)) (d .3) en) (λ _. keeps-register (d .3) b b16 (b1, λ z. ne (2 * (v + k)) (omega arith) (omega arith) (sym z)) ∙ p) h b16 b1 (λ x a z. ne x a (omega arith)) kf (omega arith) vk kk (rw g f)) (λ u e. (
+        e .0 ∙ rw g refl,
+        rw g at (e .1),
+        (λ _. e .2 .kept (location (2 * (v + k))) (c .1) (omega (arith, c .0), λ x a z. location-apart (2 * (v + k)) x (omega arith)) ∙ d .0),
+        keeps-trans (keeps-sub (λ x y. (y .0 .0, y .1)) (d .3)) (keeps-sub (λ x y. y .0) (e .2)),
+      )))
   link-and-values sh false s v k b j K en p h b16 b1 ne kf k1 vk kk f =
       go refl (so (load-values words ext sh s v k 3 b j K en (λ _. p) h b16 b1 (λ x a z. ne x a (omega arith)) kf (omega arith) vk kk f) (λ u e.
-        (e .0, e .1, (λ z. let y : _≡_ {A = ℕ} 0 1 = cc in absurd (omega arith)), keeps-sub (λ x y. y .0) (e .2))))
+      (e .0, e .1, (λ z. let y : _≡_ {A = ℕ} 0 1 = cc in absurd (omega arith)), keeps-sub (λ x y. y .0) (e .2))))
 
   pub load-body : {N : ℕ} (sh other : Bool) (s : Config) (v k b j K : ℕ) → Placed N s → s .state .reg b ≡ blockAddress j → j < N → b < 16 → b ≢ 1 → b ≢ 2 → ((p : ℕ) → 2 * v < p → p ≤ 2 * (v + k) → location p ≢ b) → k ≤ capacity base other → 1 ≤ k → v + k ≤ 133
       → k ≤ K → MayShare sh N K (s .state .mem) (pointers (shownBy ext v k (s .state .mem) j (capacity base other)))
       → Does words (loadBody base ext sh other v k b) s (λ r. BlockLoaded ext (Far v k) sh other v k j s r)
   load-body true other s v k b j K en p h b16 b1 b2 ne kf k1 vk kk f =
       go refl (so (link-and-values true other s v k b j K en p h b16 b1 ne kf k1 vk kk f) (λ r d.
-        record {
-          vals = d .0;
-          went = by (d .1) (keeps-register (d .3) 2 (omega arith) ((omega arith, λ x a z. omega (arith, location-free x .0)), omega (arith, location-free (2 * (v + k)) .0)));
-          link = d .2;
-          keeps = keeps-sub (λ x y. (y .0, y .2)) (d .3)
-        }))
+      record {
+        vals = d .0;
+        went = by (d .1) (keeps-register (d .3) 2 (omega arith) ((omega arith, λ x a z. omega (arith, location-free x .0)), omega (arith, location-free (2 * (v + k)) .0)));
+        link = d .2;
+        keeps = keeps-sub (λ x y. (y .0, y .2)) (d .3);
+      }))
     where
       by : {ps : List ℕ} {m′ : ℕ → ℕ} {heap′ : ℕ} → Counted true ps (s .state .mem) m′ → heap′ ≡ s .state .reg 2 → AfterBlock j ps (s .state .mem) (s .state .reg 2) true m′ heap′
       by (more-of c) e = counted c e
@@ -90,15 +92,15 @@ module _ (words : ℕ → ℕ) (ext : ℕ → Bool) where
       let s₁ : Config = withRegister (withHeap s (8 * j + 0) (s .state .reg 2)) 2 (s .state .reg b) in
       let k₁ : Keeps (λ x. x ≢ 2) s s₁ = keeps-put 2 (s .state .reg b) (λ x y. y) keeps-refl in
       let agree : shownBy ext v k m₁ j (capacity base other) ≡ shownBy ext v k (s .state .mem) j (capacity base other)
-        = ap (asVariables ext v) (cells-agree 3 (s .state .mem) m₁ j (capacity base other - k) k (λ y a e. head-fields (s .state .mem) j (s .state .reg 2) j y (omega arith) (lt8 other y e kf))) in
+      = ap (asVariables ext v) (cells-agree 3 (s .state .mem) m₁ j (capacity base other - k) k (λ y a e. head-fields (s .state .mem) j (s .state .reg 2) j y (omega arith) (lt8 other y e kf))) in
       then {Q = λ r. r ≡ s₁} (go (block-MOVS words s en b j 0 0 p h refl (omega arith) 2) (one (register-MOV words (withHeap s (8 * j + 0) (s .state .reg 2)) 2 b) refl)) (λ r q. rw q
-        (so (link-and-values false other s₁ v k b j K en (upd-other (s .state .reg) 2 (s .state .reg b) b b2 ∙ p) h b16 b1 ne kf k1 vk kk (record { each = λ z. let y : _≡_ {A = ℕ} 0 1 = cc in absurd (omega arith) })) (λ u d.
-        record {
-          vals = d .0 ∙ agree;
-          went = by (d .1) (keeps-register (d .3) 2 (omega arith) ((omega arith, λ x a z. omega (arith, location-free x .0)), omega (arith, location-free (2 * (v + k)) .0)) ∙ p);
-          link = λ z. d .2 z ∙ upd-other (s .state .mem) (8 * j + 0) (s .state .reg 2) (8 * j + 6) (omega arith);
-          keeps = keeps-trans (keeps-sub (λ x y. y .1) k₁) (keeps-sub (λ x y. (y .0, y .2)) (d .3))
-        })))
+      (so (link-and-values false other s₁ v k b j K en (upd-other (s .state .reg) 2 (s .state .reg b) b b2 ∙ p) h b16 b1 ne kf k1 vk kk (record { each = λ z. let y : _≡_ {A = ℕ} 0 1 = cc in absurd (omega arith) })) (λ u d.
+      record {
+        vals = d .0 ∙ agree;
+        went = by (d .1) (keeps-register (d .3) 2 (omega arith) ((omega arith, λ x a z. omega (arith, location-free x .0)), omega (arith, location-free (2 * (v + k)) .0)) ∙ p);
+        link = λ z. d .2 z ∙ upd-other (s .state .mem) (8 * j + 0) (s .state .reg 2) (8 * j + 6) (omega arith);
+        keeps = keeps-trans (keeps-sub (λ x y. y .1) k₁) (keeps-sub (λ x y. (y .0, y .2)) (d .3));
+      })))
     where
       lt8 : (o : Bool) (y : ℕ) → y < 2 + 2 * (capacity base o - k + k) → k ≤ capacity base o → y < 8
       lt8 true y a b = omega arith
@@ -132,13 +134,15 @@ module _ (words : ℕ → ℕ) (ext : ℕ → Bool) where
             let c = location-fits (2 * v) (omega arith) in
             let z : ℕ = held s (location (2 * v)) in
             let e : Placed N u = placed-keeps ((omega arith, λ x a b. omega (arith, location-free x .0)), omega arith, omega (arith, location-free (2 * (v + k)) .0)) (d .keeps) en in
-            let sixteen : held u 16 ≡ held s 16 = d .keeps .kept 16 (omega arith) far16 ∙ register-other (s .state .reg) (s .state .stk) 4 z 16 (omega arith) in
-            (e, record {
-              vals = variables-kept ext u (restored true u) v k vk (λ x a b. omega (arith, location-high x (omega arith))) (off4 u) ∙ d .vals;
-              went = d .went;
-              link = λ o. register-other (u .state .reg) (u .state .stk) 4 (held u 16) (location (2 * (v + k))) (omega (arith, location-high (2 * (v + k)) (omega arith))) ∙ d .link o;
-              keeps = record { size-kept = d .keeps .size-kept; calls-kept = d .keeps .calls-kept; kept = λ l b y. by l b y sixteen (ℕ-discrete l 4) }
-            })
+            let sixteen : held u 16 ≡ held s 16 = d .keeps .kept 16 (omega arith) far16 ∙ register-other (s .state .reg) (s .state .stk) 4 z 16 (omega arith) in (
+              e,
+              record {
+                vals = variables-kept ext u (restored true u) v k vk (λ x a b. omega (arith, location-high x (omega arith))) (off4 u) ∙ d .vals;
+                went = d .went;
+                link = λ o. register-other (u .state .reg) (u .state .stk) 4 (held u 16) (location (2 * (v + k))) (omega (arith, location-high (2 * (v + k)) (omega arith))) ∙ d .link o;
+                keeps = record { size-kept = d .keeps .size-kept; calls-kept = d .keeps .calls-kept; kept = λ l b y. by l b y sixteen (ℕ-discrete l 4) };
+              },
+            )
           where
             by : (l : ℕ) → l < 272 → Aside v k l → held u 16 ≡ held s 16 → Dec (l ≡ 4) → held (restored true u) l ≡ held (restored true s) l
             by l b y q (yes t) = rw t (register-same (u .state .reg) (u .state .stk) 4 (held u 16) (omega arith) ∙ q ∙ sym (register-same (s .state .reg) (s .state .stk) 4 (held s 16) (omega arith)))
@@ -160,7 +164,7 @@ module _ (words : ℕ → ℕ) (ext : ℕ → Bool) where
             let a : location (2 * v) ≡ 2 * v + 4 = location-low (2 * v) (position-low (2 * v) (ltb-true (location (2 * v)) 16 e)) in
             let b : 2 * v < 12 = position-low (2 * v) (ltb-true (location (2 * v)) 16 e) in
             so (load-body sh other s v k (location (2 * v)) j K en (sym (held-register (s .state .reg) (s .state .stk) (location (2 * v)) (omega arith)) ∙ p) h (omega arith) (omega arith) (omega arith) (λ x y z. location-apart x (2 * v) (omega arith)) kf k1 vk kk f) (λ r d.
-              record { vals = d .vals; went = d .went; link = d .link; keeps = keeps-sub (λ x y. y .0) (d .keeps) })
+            record { vals = d .vals; went = d .went; link = d .link; keeps = keeps-sub (λ x y. y .0) (d .keeps) })
         by false e true g p =
             let b : 12 ≤ 2 * v = position-high (2 * v) (ltb-false (location (2 * v)) 16 e) in
             go refl (load-spilled s b en (sym (register-other (s .state .reg) (s .state .stk) 4 (held s 16) (location (2 * v)) (omega (arith, location-high (2 * v) b))) ∙ p) f)
@@ -170,12 +174,12 @@ module _ (words : ℕ → ℕ) (ext : ℕ → Bool) where
             let q : held s₁ 16 ≡ s .state .reg 4 = spill-same (s .state .reg) (s .state .stk) 16 (s .state .reg 4) (omega arith) in
             go (spill-MOVS words s en 16 (omega arith) (omega arith) 4)
             (so (load-spilled s₁ b en (spill-other (s .state .reg) (s .state .stk) 16 (s .state .reg 4) (location (2 * v)) (omega arith) (omega arith) (location-fits (2 * v) (omega arith) .1) (location-free (2 * v) .1) ∙ p) f) (λ r d.
-              record {
-                vals = d .vals;
-                went = d .went;
-                link = d .link;
-                keeps = keeps-trans (record { size-kept = refl; calls-kept = refl; kept = λ l i y. saved l i (y .1) q (ℕ-discrete l 4) }) (d .keeps)
-              }))
+            record {
+              vals = d .vals;
+              went = d .went;
+              link = d .link;
+              keeps = keeps-trans (record { size-kept = refl; calls-kept = refl; kept = λ l i y. saved l i (y .1) q (ℕ-discrete l 4) }) (d .keeps);
+            }))
           where
             saved : (l : ℕ) → l < 272 → l ≢ 16 → held (withSpill s 16 (s .state .reg 4)) 16 ≡ s .state .reg 4 → Dec (l ≡ 4) → held (restored true (withSpill s 16 (s .state .reg 4))) l ≡ held s l
             saved l i n q (yes t) = rw t (register-same (s .state .reg) (withSpill s 16 (s .state .reg 4) .state .stk) 4 (held (withSpill s 16 (s .state .reg 4)) 16) (omega arith) ∙ q ∙ sym (held-register (s .state .reg) (s .state .stk) 4 (omega arith)))

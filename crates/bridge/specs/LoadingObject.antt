@@ -92,7 +92,7 @@ module _ (words : ℕ → ℕ) (ext : ℕ → Bool) where
     others-run (suc (suc k)) x xs h g sz =
         let n : k + 2 ≡ suc (suc k) = omega arith in
         then (others-run k 2 (x ∷ xs) (omega arith) (omega arith) sz) (λ r w.
-          so (load-other words ext s r 2 (omega arith) (omega arith) (omega arith) (omega arith) w) (λ u y. subst (λ (z : ℕ). LoadedSoFar ext sh N K e z p ch (x ∷ xs) s (borrowedAfter e (suc (suc k))) u) n y))
+        so (load-other words ext s r 2 (omega arith) (omega arith) (omega arith) (omega arith) w) (λ u y. subst (λ (z : ℕ). LoadedSoFar ext sh N K e z p ch (x ∷ xs) s (borrowedAfter e (suc (suc k))) u) n y))
 
     -- the last block
     last-does : (k kk : ℕ) (fr : Bool) (r : Config) → 1 ≤ kk → kk ≤ 3 → e + k + kk ≤ 133 → k + kk ≤ K → LoadedSoFar ext sh N K e k p ch (kk ∷ []) s fr r
@@ -104,7 +104,7 @@ module _ (words : ℕ → ℕ) (ext : ℕ → Bool) where
         finish u j q d pre ps occs iq three (all-released w) (released a z) =
             let wd : SameFields (r .state .mem) (u .state .mem) = λ x y b c. rw a (head-fields (r .state .mem) j (r .state .reg 2) x y b c) in
             let t : ReleaseObject (heapOf s) p (pre ++ (d ∷ [])) (pushLinear (heapOf r) q (headers 3 (u .state .mem)))
-              = released-end pre (heapOf s) p (heapOf r) q (headers 3 (u .state .mem)) d w (rw (a, iq) (head-same (r .state .mem) j (r .state .reg 2))) (λ b n. rw a (head-off (r .state .mem) j (r .state .reg 2) b (λ x. n (x ∙ sym iq)))) in
+            = released-end pre (heapOf s) p (heapOf r) q (headers 3 (u .state .mem)) d w (rw (a, iq) (head-same (r .state .mem) j (r .state .reg 2))) (λ b n. rw a (head-off (r .state .mem) j (r .state .reg 2) b (λ x. n (x ∙ sym iq)))) in
             let t₂ : ReleaseObject (heapOf s) p (pre ++ (d ∷ [])) (heapOf u) = rw (← (memory-is (blockFields 3 (r .state .mem)) (blockFields 3 (u .state .mem)) (headers 3 (u .state .mem)) q (u .state .reg 2) (r .state .reg 3) (u .state .reg 3) (fields-all 3 (r .state .mem) (u .state .mem) wd) (z ∙ sym iq) three)) t in
             object-released t₂
         finish u j q d pre ps occs iq three (all-counted t) (counted c z) = object-counted {M′ = heapOf u} (record { fields = fields-all 3 (r .state .mem) (u .state .mem) (c .fields) ∙ t .fields; linear-head = z ∙ t .linear-head; lazy-head = three ∙ t .lazy-head; header = λ b nz. omega (arith, c .counts b nz, t .header b nz, occs b) })
@@ -122,20 +122,21 @@ module _ (words : ℕ → ℕ) (ext : ℕ → Bool) where
             let sc : shownBy ext (e + k) kk (r .state .mem) j 3 ≡ asVariables ext (e + k) c = ap (asVariables ext (e + k)) o in
             let f₂ : MayShare sh N (K - k) (r .state .mem) (pointers (shownBy ext (e + k) kk (r .state .mem) j 3)) = rw (sc, ← (append-nil c)) f in
             so (load-block words ext sh false (e + k) kk j (K - k) (l .1) k3 k1 vk (omega arith) fr r (w .high) (w .placed) (l .2) f₂) (λ u x.
-              let S : Config = restored fr r in
-              let vo : restored (cond (ltb (location (2 * (e + k))) 16) false false) u ≡ u = restored-none (ltb (location (2 * (e + k))) 16) u in
-              let x₁ : BlockLoaded ext (Aside (e + k) kk) sh false (e + k) kk j S u = subst (λ (z : Config). BlockLoaded ext (Aside (e + k) kk) sh false (e + k) kk j S z) vo x in
-              let w₁ : AfterBlock j (pointers (asVariables ext (e + k) c)) (r .state .mem) (r .state .reg 2) sh (u .state .mem) (u .state .reg 2) = rw (restored-mem fr r, restored-heap fr r, sc) at (x₁ .went) in
-              let sv : shownBy ext (e + k) kk (S .state .mem) j 3 ≡ asVariables ext (e + k) c = ap (λ (z : ℕ → ℕ). shownBy ext (e + k) kk z j 3) (restored-mem fr r) ∙ sc in
-              let cs : asVariables ext e (concat (w .pre ++ (c ∷ []))) ≡ asVariables ext e (concat (w .pre)) ++ asVariables ext (e + k) c
-                = ap (asVariables ext e) (concat-snoc (w .pre) c) ∙ as-variables-append ext e (concat (w .pre)) c ∙ ap (λ (z : ℕ). asVariables ext e (concat (w .pre)) ++ asVariables ext (e + z) c) (w .count) in
-              let vs : variables ext u e k ≡ variables ext S e k = variables-kept ext S u e k (omega arith) (λ z a b. before-aside (e + k) kk z b) (x₁ .keeps) in
-              let three : u .state .reg 3 ≡ r .state .reg 3 = keeps-register (x₁ .keeps) 3 (omega arith) (under-aside e (e + k) kk 3 (omega arith) (omega arith, omega arith, omega arith, omega (arith, location-free (2 * e) .0))) ∙ restored-free fr r in
-              let en₁ : ObjectGone (heapOf s) p (w .pre ++ (c ∷ [])) (pointers (asVariables ext e (concat (w .pre ++ (c ∷ []))))) sh (heapOf u)
-                = finish u j q c (w .pre) (pointers (asVariables ext e (concat (w .pre)))) (λ b. ap (λ (z : List Cell). occ b (pointers z)) cs ∙ occ-pointers b (asVariables ext e (concat (w .pre))) (asVariables ext (e + k) c)) (l .2) three (w .gone) w₁ in
-              (variables-append ext u e k kk ∙ rw (vs, w .vals, x₁ .vals, sv) (sym cs ∙ ap (λ (z : List (List Cell)). asVariables ext e (concat z)) (sym a)),
-               rw a en₁,
-               keeps-trans (w .keeps) (keeps-sub (λ z y. under-aside e (e + k) kk z (omega arith) y) (x₁ .keeps))))
+            let S : Config = restored fr r in
+            let vo : restored (cond (ltb (location (2 * (e + k))) 16) false false) u ≡ u = restored-none (ltb (location (2 * (e + k))) 16) u in
+            let x₁ : BlockLoaded ext (Aside (e + k) kk) sh false (e + k) kk j S u = subst (λ (z : Config). BlockLoaded ext (Aside (e + k) kk) sh false (e + k) kk j S z) vo x in
+            let w₁ : AfterBlock j (pointers (asVariables ext (e + k) c)) (r .state .mem) (r .state .reg 2) sh (u .state .mem) (u .state .reg 2) = rw (restored-mem fr r, restored-heap fr r, sc) at (x₁ .went) in
+            let sv : shownBy ext (e + k) kk (S .state .mem) j 3 ≡ asVariables ext (e + k) c = ap (λ (z : ℕ → ℕ). shownBy ext (e + k) kk z j 3) (restored-mem fr r) ∙ sc in
+            let cs : asVariables ext e (concat (w .pre ++ (c ∷ []))) ≡ asVariables ext e (concat (w .pre)) ++ asVariables ext (e + k) c
+            = ap (asVariables ext e) (concat-snoc (w .pre) c) ∙ as-variables-append ext e (concat (w .pre)) c ∙ ap (λ (z : ℕ). asVariables ext e (concat (w .pre)) ++ asVariables ext (e + z) c) (w .count) in
+            let vs : variables ext u e k ≡ variables ext S e k = variables-kept ext S u e k (omega arith) (λ z a b. before-aside (e + k) kk z b) (x₁ .keeps) in
+            let three : u .state .reg 3 ≡ r .state .reg 3 = keeps-register (x₁ .keeps) 3 (omega arith) (under-aside e (e + k) kk 3 (omega arith) (omega arith, omega arith, omega arith, omega (arith, location-free (2 * e) .0))) ∙ restored-free fr r in
+            let en₁ : ObjectGone (heapOf s) p (w .pre ++ (c ∷ [])) (pointers (asVariables ext e (concat (w .pre ++ (c ∷ []))))) sh (heapOf u)
+            = finish u j q c (w .pre) (pointers (asVariables ext e (concat (w .pre)))) (λ b. ap (λ (z : List Cell). occ b (pointers z)) cs ∙ occ-pointers b (asVariables ext e (concat (w .pre))) (asVariables ext (e + k) c)) (l .2) three (w .gone) w₁ in (
+              variables-append ext u e k kk ∙ rw (vs, w .vals, x₁ .vals, sv) (sym cs ∙ ap (λ (z : List (List Cell)). asVariables ext e (concat z)) (sym a)),
+              rw a en₁,
+              keeps-trans (w .keeps) (keeps-sub (λ z y. under-aside e (e + k) kk z (omega arith) y) (x₁ .keeps)),
+            ))
 
     others-does : (k x : ℕ) (xs : List ℕ) → e + k ≤ 133 → k ≤ K → lengths ch ≡ otherSizes k (x ∷ xs) → Does words (loadOthers base ext sh (chunks 2 k) e k) s (λ r. LoadedSoFar ext sh N K e k p ch (x ∷ xs) s (borrowedAfter e k) r)
     others-does k x xs h g sz = subst (λ (t : Tree). Does words t s (λ r. LoadedSoFar ext sh N K e k p ch (x ∷ xs) s (borrowedAfter e k) r)) (sym (others-blocks ext sh e k)) (others-run k x xs h g sz)
@@ -148,4 +149,4 @@ module _ (words : ℕ → ℕ) (ext : ℕ → Bool) where
         let t : n - 3 + c ≡ n = omega arith in
         let fr : freed base ext e (n - 3) ≡ borrowedAfter e (n - 3) = freed-after ext e (n - 3) in
         then (others-does (n - 3) c [] (omega arith) (omega arith) (sz ∙ ap (λ (x : ℕ). otherSizes (n - 3) (x ∷ [])) m)) (λ r w.
-          so (last-does (n - 3) c (freed base ext e (n - 3)) r (omega arith) (omega arith) (omega arith) (omega arith) (rw fr w)) (λ u x. (ap (variables ext u e) (sym t) ∙ x .0, x .1, x .2)))
+        so (last-does (n - 3) c (freed base ext e (n - 3)) r (omega arith) (omega arith) (omega arith) (omega arith) (rw fr w)) (λ u x. (ap (variables ext u e) (sym t) ∙ x .0, x .1, x .2)))

@@ -92,7 +92,7 @@ module _ (M : Memory) (p : ℕ) (pre : List (List Cell)) (d : List Cell) (ps qs 
   gone-next (all-released w) (released e z) q′ y =
       let wd : SameFields (r .state .mem) (u .state .mem) = λ x w a b. rw e (head-fields (r .state .mem) j (r .state .reg 2) x w a b) in
       let t : ReleasedTo M p (pre ++ (d ∷ [])) (pushLinear (heapOf r) q (headers 3 (u .state .mem))) (lastField (blockFields 3 (r .state .mem) q) .fst)
-        = released-snoc pre M p (heapOf r) q (headers 3 (u .state .mem)) d w (rw (e, is) (head-same (r .state .mem) j (r .state .reg 2))) (λ b n. rw e (head-off (r .state .mem) j (r .state .reg 2) b (λ x. n (x ∙ sym is)))) in
+      = released-snoc pre M p (heapOf r) q (headers 3 (u .state .mem)) d w (rw (e, is) (head-same (r .state .mem) j (r .state .reg 2))) (λ b n. rw e (head-off (r .state .mem) j (r .state .reg 2) b (λ x. n (x ∙ sym is)))) in
       let t₂ : ReleasedTo M p (pre ++ (d ∷ [])) (heapOf u) q′ = rw (y, ← (memory-is (blockFields 3 (r .state .mem)) (blockFields 3 (u .state .mem)) (headers 3 (u .state .mem)) q (u .state .reg 2) (r .state .reg 3) (u .state .reg 3) (fields-all 3 (r .state .mem) (u .state .mem) wd) (z ∙ sym is) three)) t in
       all-released t₂
   gone-next (all-counted t) (counted c z) q′ y = all-counted {M′ = heapOf u} (record { fields = fields-all 3 (r .state .mem) (u .state .mem) (c .fields) ∙ t .fields; linear-head = z ∙ t .linear-head; lazy-head = three ∙ t .lazy-head; header = λ b nz. omega (arith, c .counts b nz, t .header b nz, occs b) })
@@ -124,11 +124,13 @@ as-variables-length ext v (c ∷ cs) = ap suc (as-variables-length ext (suc v) c
 -- the pointers left, after a block
 may-share-block : {sh : Bool} {N j heap heap′ K k : ℕ} {m m′ : ℕ → ℕ} (ps qs : List ℕ) → length ps ≡ k → k ≤ K → AfterBlock j ps m heap sh m′ heap′ → MayShare sh N K m (ps ++ qs) → MayShare sh N (K - k) m′ qs
 may-share-block ps qs n h (released e z) f = record { each = λ e. let z : _≡_ {A = ℕ} 0 1 = cc in absurd (omega arith) }
-may-share-block {m = m} {m′ = m′} ps qs n h (counted c y) f = record { each = λ e p x z.
-    let g = f .each refl p (omega (arith, occ-append p ps qs)) z in
-    let h₁ : headers 3 m′ p ≡ m′ (8 * g .0 + 0) = ap (headers 3 m′) (g .2) ∙ header-at 3 m′ (g .0) in
-    let h₂ : headers 3 m p ≡ m (8 * g .0 + 0) = ap (headers 3 m) (g .2) ∙ header-at 3 m (g .0) in
-    (g .0, g .1, g .2, omega (arith, g .3, c .counts p z, occ-length p ps)) }
+may-share-block {m = m} {m′ = m′} ps qs n h (counted c y) f = record {
+  each = λ e p x z.
+      let g = f .each refl p (omega (arith, occ-append p ps qs)) z in
+      let h₁ : headers 3 m′ p ≡ m′ (8 * g .0 + 0) = ap (headers 3 m′) (g .2) ∙ header-at 3 m′ (g .0) in
+      let h₂ : headers 3 m p ≡ m (8 * g .0 + 0) = ap (headers 3 m) (g .2) ∙ header-at 3 m (g .0) in
+      (g .0, g .1, g .2, omega (arith, g .3, c .counts p z, occ-length p ps));
+}
 
 -- the pointers of a block alone
 pub may-share-first : {sh : Bool} {N K : ℕ} {m : ℕ → ℕ} (ps qs : List ℕ) → MayShare sh N K m (ps ++ qs) → MayShare sh N K m ps
@@ -200,38 +202,38 @@ module _ (words : ℕ → ℕ) (ext : ℕ → Bool) where
           let o = lies-other (r .state .mem) j kk c (l .3) (l .4) lc k2 at in
           let sc : shownBy ext (e + k) kk (r .state .mem) j 2 ≡ asVariables ext (e + k) c = ap (asVariables ext (e + k)) (o .0) in
           let ap₁ : pointers (asVariables ext (e + k) (c ++ concat (d ∷ ds))) ≡ pointers (asVariables ext (e + k) c) ++ pointers (asVariables ext (e + k + kk) (concat (d ∷ ds)))
-            = ap pointers (as-variables-append ext (e + k) c (concat (d ∷ ds)) ∙ ap (λ (x : ℕ). asVariables ext (e + k) c ++ asVariables ext (e + k + x) (concat (d ∷ ds))) lc) ∙ pointers-append (asVariables ext (e + k) c) (asVariables ext (e + k + kk) (concat (d ∷ ds))) in
+          = ap pointers (as-variables-append ext (e + k) c (concat (d ∷ ds)) ∙ ap (λ (x : ℕ). asVariables ext (e + k) c ++ asVariables ext (e + k + x) (concat (d ∷ ds))) lc) ∙ pointers-append (asVariables ext (e + k) c) (asVariables ext (e + k + kk) (concat (d ∷ ds))) in
           let f₁ : MayShare sh N (K - k) (r .state .mem) (pointers (asVariables ext (e + k) c) ++ pointers (asVariables ext (e + k + kk) (concat (d ∷ ds)))) = rw ap₁ at f in
           let f₂ : MayShare sh N (K - k) (r .state .mem) (pointers (shownBy ext (e + k) kk (r .state .mem) j 2)) = rw sc (may-share-first (pointers (asVariables ext (e + k) c)) (pointers (asVariables ext (e + k + kk) (concat (d ∷ ds)))) f₁) in
           so (load-block words ext sh true (e + k) kk j (K - k) (l .1) k2 k1 vk (omega arith) fr r (w .high) (w .placed) (l .2) f₂) (λ u x.
-            let fr₁ : Bool = cond (ltb (location (2 * (e + k))) 16) false true in
-            let S : Config = restored fr r in
-            let R : Config = restored fr₁ u in
-            let n : e + (k + kk) ≡ e + k + kk = omega arith in
-            let w₁ : AfterBlock j (pointers (asVariables ext (e + k) c)) (r .state .mem) (r .state .reg 2) sh (u .state .mem) (u .state .reg 2) = rw (restored-mem fr r, restored-heap fr r, restored-mem fr₁ u, restored-heap fr₁ u, sc) at (x .went) in
-            let fu : blockFields 3 (u .state .mem) ≡ blockFields 3 (r .state .mem) = fields-all 3 (r .state .mem) (u .state .mem) (after-fields w₁) in
-            let lk : held R (location (2 * (e + (k + kk)))) ≡ l .4 .fst = ap (λ (z : ℕ). held R (location (2 * z))) n ∙ x .link refl ∙ ap (λ (z : ℕ → ℕ). z (8 * j + 6)) (restored-mem fr r) ∙ o .1 in
-            let lf : lastField (blockFields 3 (r .state .mem) q) .fst ≡ l .4 .fst = rw (l .5, ← append-assoc, last-field-append) refl in
-            let sv : shownBy ext (e + k) kk (S .state .mem) j 2 ≡ asVariables ext (e + k) c = ap (λ (z : ℕ → ℕ). shownBy ext (e + k) kk z j 2) (restored-mem fr r) ∙ sc in
-            let cs : asVariables ext e (concat (w .pre ++ (c ∷ []))) ≡ asVariables ext e (concat (w .pre)) ++ asVariables ext (e + k) c
-              = ap (asVariables ext e) (concat-snoc (w .pre) c) ∙ as-variables-append ext e (concat (w .pre)) c ∙ ap (λ (z : ℕ). asVariables ext e (concat (w .pre)) ++ asVariables ext (e + z) c) (w .count) in
-            let vs : variables ext R e k ≡ variables ext S e k = variables-kept ext S R e k (omega arith) (λ z a b. before-aside (e + k) kk z b) (x .keeps) in
-            let three : u .state .reg 3 ≡ r .state .reg 3 = sym (restored-free fr₁ u) ∙ keeps-register (x .keeps) 3 (omega arith) (under-aside e (e + k) kk 3 (omega arith) (omega arith, omega arith, omega arith, omega (arith, location-free (2 * e) .0))) ∙ restored-free fr r in
-            let l₆ : Lies N (blockFields 3 (u .state .mem)) (held R (location (2 * (e + (k + kk))))) (d ∷ ds) = rw (fu, lk) (l .6) in
-            let p₂ : MayShare sh N (K - k - kk) (u .state .mem) (pointers (asVariables ext (e + k + kk) (concat (d ∷ ds)))) = may-share-block (pointers (asVariables ext (e + k) c)) (pointers (asVariables ext (e + k + kk) (concat (d ∷ ds)))) (as-variables-length ext (e + k) c ∙ lc) (omega arith) w₁ f₁ in
-            let m : K - (k + kk) ≡ K - k - kk = omega arith in
-            record {
-              pre = w .pre ++ (c ∷ []);
-              left = d ∷ ds;
-              whole = a ∙ sym (append-assoc (w .pre) (c ∷ []) (d ∷ ds));
-              shape = ld;
-              count = ap length (concat-snoc (w .pre) c) ∙ length-append (concat (w .pre)) c ∙ omega (arith, w .count);
-              placed = placed-restored fr₁ u (placed-keeps (under-aside e (e + k) kk 0 (omega arith) (omega arith, omega arith, omega arith, omega (arith, location-free (2 * e) .0))) (x .keeps) (restored-placed fr r (w .placed)));
-              lies = l₆;
-              vals = variables-append ext R e k kk ∙ rw (vs, w .vals, x .vals, sv) (sym cs);
-              gone = gone-next (heapOf s) p (w .pre) c (pointers (asVariables ext e (concat (w .pre)))) (pointers (asVariables ext (e + k) c)) (pointers (asVariables ext e (concat (w .pre ++ (c ∷ [])))))
+          let fr₁ : Bool = cond (ltb (location (2 * (e + k))) 16) false true in
+          let S : Config = restored fr r in
+          let R : Config = restored fr₁ u in
+          let n : e + (k + kk) ≡ e + k + kk = omega arith in
+          let w₁ : AfterBlock j (pointers (asVariables ext (e + k) c)) (r .state .mem) (r .state .reg 2) sh (u .state .mem) (u .state .reg 2) = rw (restored-mem fr r, restored-heap fr r, restored-mem fr₁ u, restored-heap fr₁ u, sc) at (x .went) in
+          let fu : blockFields 3 (u .state .mem) ≡ blockFields 3 (r .state .mem) = fields-all 3 (r .state .mem) (u .state .mem) (after-fields w₁) in
+          let lk : held R (location (2 * (e + (k + kk)))) ≡ l .4 .fst = ap (λ (z : ℕ). held R (location (2 * z))) n ∙ x .link refl ∙ ap (λ (z : ℕ → ℕ). z (8 * j + 6)) (restored-mem fr r) ∙ o .1 in
+          let lf : lastField (blockFields 3 (r .state .mem) q) .fst ≡ l .4 .fst = rw (l .5, ← append-assoc, last-field-append) refl in
+          let sv : shownBy ext (e + k) kk (S .state .mem) j 2 ≡ asVariables ext (e + k) c = ap (λ (z : ℕ → ℕ). shownBy ext (e + k) kk z j 2) (restored-mem fr r) ∙ sc in
+          let cs : asVariables ext e (concat (w .pre ++ (c ∷ []))) ≡ asVariables ext e (concat (w .pre)) ++ asVariables ext (e + k) c
+          = ap (asVariables ext e) (concat-snoc (w .pre) c) ∙ as-variables-append ext e (concat (w .pre)) c ∙ ap (λ (z : ℕ). asVariables ext e (concat (w .pre)) ++ asVariables ext (e + z) c) (w .count) in
+          let vs : variables ext R e k ≡ variables ext S e k = variables-kept ext S R e k (omega arith) (λ z a b. before-aside (e + k) kk z b) (x .keeps) in
+          let three : u .state .reg 3 ≡ r .state .reg 3 = sym (restored-free fr₁ u) ∙ keeps-register (x .keeps) 3 (omega arith) (under-aside e (e + k) kk 3 (omega arith) (omega arith, omega arith, omega arith, omega (arith, location-free (2 * e) .0))) ∙ restored-free fr r in
+          let l₆ : Lies N (blockFields 3 (u .state .mem)) (held R (location (2 * (e + (k + kk))))) (d ∷ ds) = rw (fu, lk) (l .6) in
+          let p₂ : MayShare sh N (K - k - kk) (u .state .mem) (pointers (asVariables ext (e + k + kk) (concat (d ∷ ds)))) = may-share-block (pointers (asVariables ext (e + k) c)) (pointers (asVariables ext (e + k + kk) (concat (d ∷ ds)))) (as-variables-length ext (e + k) c ∙ lc) (omega arith) w₁ f₁ in
+          let m : K - (k + kk) ≡ K - k - kk = omega arith in
+          record {
+            pre = w .pre ++ (c ∷ []);
+            left = d ∷ ds;
+            whole = a ∙ sym (append-assoc (w .pre) (c ∷ []) (d ∷ ds));
+            shape = ld;
+            count = ap length (concat-snoc (w .pre) c) ∙ length-append (concat (w .pre)) c ∙ omega (arith, w .count);
+            placed = placed-restored fr₁ u (placed-keeps (under-aside e (e + k) kk 0 (omega arith) (omega arith, omega arith, omega arith, omega (arith, location-free (2 * e) .0))) (x .keeps) (restored-placed fr r (w .placed)));
+            lies = l₆;
+            vals = variables-append ext R e k kk ∙ rw (vs, w .vals, x .vals, sv) (sym cs);
+            gone = gone-next (heapOf s) p (w .pre) c (pointers (asVariables ext e (concat (w .pre)))) (pointers (asVariables ext (e + k) c)) (pointers (asVariables ext e (concat (w .pre ++ (c ∷ [])))))
                 (λ b. ap (λ (z : List Cell). occ b (pointers z)) cs ∙ occ-pointers b (asVariables ext e (concat (w .pre))) (asVariables ext (e + k) c)) r u j q (l .2) three (w .gone) w₁ (held R (location (2 * (e + (k + kk))))) (lk ∙ sym lf);
-              may-share = rw (n, m) p₂;
-              keeps = keeps-trans (w .keeps) (keeps-sub (λ z y. under-aside e (e + k) kk z (omega arith) y) (x .keeps));
-              high = λ z. omega (arith, borrowed (ltb (location (2 * (e + k))) 16) (e + k) refl z)
-            })
+            may-share = rw (n, m) p₂;
+            keeps = keeps-trans (w .keeps) (keeps-sub (λ z y. under-aside e (e + k) kk z (omega arith) y) (x .keeps));
+            high = λ z. omega (arith, borrowed (ltb (location (2 * (e + k))) 16) (e + k) refl z);
+          })

@@ -97,12 +97,12 @@ module _ (words : ℕ → ℕ) (ext : ℕ → Bool) where
         let c : List Cell = variables ext s v k ++ (cell p w ∷ []) in
         let lb = location-fits (2 * v) (omega arith) in
         let fill : Does words (seq (storeField base (location (2 * (v + k))) 2 48) (storeValues base ext v k 2)) s (λ r. BlockWritten (s .state .reg 2) (s .state .mem) c (r .state .mem) × Keeps (λ x. x ≢ 1) s r)
-          = then (store-field words s (location (2 * (v + k))) (j .0) 48 6 en (j .2) ln refl (omega arith) (location-fits (2 * (v + k)) (omega arith) .1)) (λ r z.
-              let vs : variables ext r v k ≡ variables ext s v k = variables-kept ext s r v k (omega arith) (λ q a b. omega (arith, location-fits q (omega arith) .0)) (z .1) in
-              weaken (λ u x. (filled-other ext s r v k (j .0) (u .state .mem) p h (j .2) (z .0) vs (x .0), keeps-trans (z .1) (x .1)))
-              (store-values words ext r v k 2 (j .0) (placed-keeps (omega arith) (z .1) en) (keeps-register (z .1) 2 (omega arith) (omega arith) ∙ j .2) ln h (omega arith) (omega arith))) in
+        = then (store-field words s (location (2 * (v + k))) (j .0) 48 6 en (j .2) ln refl (omega arith) (location-fits (2 * (v + k)) (omega arith) .1)) (λ r z.
+        let vs : variables ext r v k ≡ variables ext s v k = variables-kept ext s r v k (omega arith) (λ q a b. omega (arith, location-fits q (omega arith) .0)) (z .1) in
+        weaken (λ u x. (filled-other ext s r v k (j .0) (u .state .mem) p h (j .2) (z .0) vs (x .0), keeps-trans (z .1) (x .1)))
+        (store-values words ext r v k 2 (j .0) (placed-keeps (omega arith) (z .1) en) (keeps-register (z .1) 2 (omega arith) (omega arith) ∙ j .2) ln h (omega arith) (omega arith))) in
         let occs : (b : ℕ) → b ≢ 0 → occ b (pointers c) + occ b (pointers (variables ext s 0 v)) ≡ occ b (p ∷ pointers (variables ext s 0 (v + k)))
-          = λ b nz. omega (arith, occ-pointers b (variables ext s v k) (cell p w ∷ []), ap (λ (x : List Cell). occ b (pointers x)) (variables-append ext s 0 v k), occ-pointers b (variables ext s 0 v) (variables ext s (0 + v) k), ap (λ (x : ℕ). occ b (pointers (variables ext s x k))) (zero-add v)) in
+        = λ b nz. omega (arith, occ-pointers b (variables ext s v k) (cell p w ∷ []), ap (λ (x : List Cell). occ b (pointers x)) (variables-append ext s 0 v k), occ-pointers b (variables ext s 0 v) (variables ext s (0 + v) k), ap (λ (x : ℕ). occ b (pointers (variables ext s x k))) (zero-add v)) in
         regroup (weaken (λ u x. ((heapOf s, sym (x .3), x .0, x .1, cell p w, st, x .2), x .4))
         (store-block words (pointers (variables ext s 0 v)) s (location (2 * v)) c en fr (omega (arith, variables-pointers ext s 0 v)) (lb .0) (lb .1) (y .outcome .consistent) occs fill))
 
@@ -119,20 +119,20 @@ module _ (words : ℕ → ℕ) (ext : ℕ → Bool) where
         let st₁ : StoreObject L M d ch (heapOf s) (held s (location (2 * (r + k + 2)))) = rw q at st in
         let e₁ : (b : ℕ) → occ b A ≡ occ b (pointers (concat (d ∷ ch))) + occ b (pointers (variables ext s 0 (r + k + 2))) = λ b. rw q at (e b) in
         then (other-does s d ch (r + k) 2 (omega (arith, other-sizes-most k (2 ∷ lengths (d ∷ ch)), lengths-length ch)) (omega arith) (omega arith) en st₁ e₁) (λ u x.
-          let agree : (v y : ℕ) → v + y ≤ r + k → variables ext u v y ≡ variables ext s v y
-            = λ v y h. variables-kept ext s u v y (omega arith) (λ p a b. let z = location-grows p (2 * (r + k)) (omega arith) in (omega (arith, z .0), omega (arith, z .1))) (x .1) in
-          let two : variables ext s r (k + 2) ≡ variables ext s r k ++ variables ext s (r + k) 2 = variables-append ext s r k 2 in
-          let n : suc (suc k) ≡ k + 2 = omega arith in
-          weaken (λ t y. record {
-            head = y .head;
-            others = y .others;
-            did = y .did;
-            cells = y .cells ∙ rw (agree r k (omega arith)) (sym (append-assoc (variables ext s r k) (variables ext s (r + k) 2) (concat (d ∷ ch))) ∙ ap (λ (c : List Cell). c ++ concat (d ∷ ch)) (sym two ∙ ap (variables ext s r) (sym n)));
-            shapes = y .shapes;
-            keeps = keeps-trans (keeps-sub (λ a z. (z .0, below (2 * r) (2 * (r + k)) a (omega arith) (z .1))) (x .1)) (y .keeps)
-          })
-          (others-run k u (variables ext s (r + k) 2) (d ∷ ch) r lb₀ (omega arith) (placed-keeps (omega (arith, location-fits (2 * (r + k)) (omega arith) .0)) (x .1) en) (x .0)
-            (λ b. rw (agree 0 (r + k) (omega arith)) (omega (arith, e₁ b, occ-pointers b (variables ext s (r + k) 2) (concat (d ∷ ch)), ap (λ (c : List Cell). occ b (pointers c)) (variables-append ext s 0 (r + k) 2), occ-pointers b (variables ext s 0 (r + k)) (variables ext s (0 + (r + k)) 2), ap (λ (c : ℕ). occ b (pointers (variables ext s c 2))) (zero-add (r + k)))))))
+        let agree : (v y : ℕ) → v + y ≤ r + k → variables ext u v y ≡ variables ext s v y
+        = λ v y h. variables-kept ext s u v y (omega arith) (λ p a b. let z = location-grows p (2 * (r + k)) (omega arith) in (omega (arith, z .0), omega (arith, z .1))) (x .1) in
+        let two : variables ext s r (k + 2) ≡ variables ext s r k ++ variables ext s (r + k) 2 = variables-append ext s r k 2 in
+        let n : suc (suc k) ≡ k + 2 = omega arith in
+        weaken (λ t y. record {
+          head = y .head;
+          others = y .others;
+          did = y .did;
+          cells = y .cells ∙ rw (agree r k (omega arith)) (sym (append-assoc (variables ext s r k) (variables ext s (r + k) 2) (concat (d ∷ ch))) ∙ ap (λ (c : List Cell). c ++ concat (d ∷ ch)) (sym two ∙ ap (variables ext s r) (sym n)));
+          shapes = y .shapes;
+          keeps = keeps-trans (keeps-sub (λ a z. (z .0, below (2 * r) (2 * (r + k)) a (omega arith) (z .1))) (x .1)) (y .keeps);
+        })
+        (others-run k u (variables ext s (r + k) 2) (d ∷ ch) r lb₀ (omega arith) (placed-keeps (omega (arith, location-fits (2 * (r + k)) (omega arith) .0)) (x .1) en) (x .0)
+        (λ b. rw (agree 0 (r + k) (omega arith)) (omega (arith, e₁ b, occ-pointers b (variables ext s (r + k) 2) (concat (d ∷ ch)), ap (λ (c : List Cell). occ b (pointers c)) (variables-append ext s 0 (r + k) 2), occ-pointers b (variables ext s 0 (r + k)) (variables ext s (0 + (r + k)) 2), ap (λ (c : ℕ). occ b (pointers (variables ext s c 2))) (zero-add (r + k)))))))
 
     others-does : (k : ℕ) (s : Config) (d : List Cell) (ch : List (List Cell)) (r : ℕ) → length (otherSizes k (lengths (d ∷ ch))) ≤ B → r + k ≤ 133 → Placed N s → StoreObject L M d ch (heapOf s) (held s (location (2 * (r + k))))
         → ((b : ℕ) → occ b A ≡ occ b (pointers (concat (d ∷ ch))) + occ b (pointers (variables ext s 0 (r + k))))
@@ -156,18 +156,18 @@ module _ (words : ℕ → ℕ) (ext : ℕ → Bool) where
       let kc : k ≡ k - 3 + c = omega arith in
       let split : variables ext s 0 (r + k) ≡ variables ext s 0 v ++ variables ext s v c = ap (variables ext s 0) vc ∙ variables-append ext s 0 v c ∙ ap (λ (x : ℕ). variables ext s 0 v ++ variables ext s x c) (zero-add v) in
       let fill : Does words (storeValues base ext v c 3) s (λ u. BlockWritten (s .state .reg 2) (s .state .mem) (variables ext s v c) (u .state .mem) × Keeps (λ x. x ≢ 1) s u)
-        = weaken (λ u x. (filled-last ext s v c (j .0) (u .state .mem) (omega arith) (j .2) (x .0), x .1)) (store-values words ext s v c 3 (j .0) en (j .2) ln (omega arith) (omega arith) (omega arith)) in
+      = weaken (λ u x. (filled-last ext s v c (j .0) (u .state .mem) (omega arith) (j .2) (x .0), x .1)) (store-values words ext s v c 3 (j .0) en (j .2) ln (omega arith) (omega arith) (omega arith)) in
       regroup (then (store-block words (pointers (variables ext s 0 v)) s (location (2 * v)) (variables ext s v c) en lt (omega (arith, variables-pointers ext s 0 v)) (lb .0) (lb .1) g
-        (λ b nz. omega (arith, ap (λ (x : List Cell). occ b (pointers x)) split, occ-pointers b (variables ext s 0 v) (variables ext s v c))) fill) (λ u x.
-        let agree : (a y : ℕ) → a + y ≤ v → variables ext u a y ≡ variables ext s a y
-          = λ a y e. variables-kept ext s u a y (omega arith) (λ p b d. let z = location-grows p (2 * v) (omega arith) in (omega (arith, z .0), omega (arith, z .1))) (x .4) in
-        weaken (λ t y. record {
-          head = y .head;
-          others = y .others;
-          did = y .did;
-          cells = y .cells ∙ rw (agree r (k - 3) (omega arith)) (ap (λ (q : List Cell). variables ext s r (k - 3) ++ q) (append-nil (variables ext s v c)) ∙ sym (variables-append ext s r (k - 3) c) ∙ ap (variables ext s r) (sym kc));
-          shapes = y .shapes ∙ ap (λ (q : ℕ). otherSizes (k - 3) (q ∷ [])) (variables-length ext s v c ∙ cm);
-          keeps = keeps-trans (keeps-sub (λ a z. (z .0, below (2 * r) (2 * v) a (omega arith) (z .1))) (x .4)) (y .keeps)
-        })
-        (others-does (heapOf s) (pointers (variables ext s 0 (r + k))) g (length (otherSizes (k - 3) (min k 3 ∷ []))) (rc .1) (room (rc .0) (rc .1)) lt (k - 3) u (variables ext s v c) [] r (omega (arith, ap (λ (q : ℕ). length (otherSizes (k - 3) (q ∷ []))) (variables-length ext s v c ∙ cm))) (omega arith) (placed-keeps (omega (arith, lb .0)) (x .4) en) (sym (x .3), x .0, x .1, x .2)
-          (λ b. rw (agree 0 v (omega arith)) (omega (arith, ap (λ (q : List Cell). occ b (pointers q)) split, occ-pointers b (variables ext s 0 v) (variables ext s v c), occ-pointers b (variables ext s v c) []))))))
+      (λ b nz. omega (arith, ap (λ (x : List Cell). occ b (pointers x)) split, occ-pointers b (variables ext s 0 v) (variables ext s v c))) fill) (λ u x.
+      let agree : (a y : ℕ) → a + y ≤ v → variables ext u a y ≡ variables ext s a y
+      = λ a y e. variables-kept ext s u a y (omega arith) (λ p b d. let z = location-grows p (2 * v) (omega arith) in (omega (arith, z .0), omega (arith, z .1))) (x .4) in
+      weaken (λ t y. record {
+        head = y .head;
+        others = y .others;
+        did = y .did;
+        cells = y .cells ∙ rw (agree r (k - 3) (omega arith)) (ap (λ (q : List Cell). variables ext s r (k - 3) ++ q) (append-nil (variables ext s v c)) ∙ sym (variables-append ext s r (k - 3) c) ∙ ap (variables ext s r) (sym kc));
+        shapes = y .shapes ∙ ap (λ (q : ℕ). otherSizes (k - 3) (q ∷ [])) (variables-length ext s v c ∙ cm);
+        keeps = keeps-trans (keeps-sub (λ a z. (z .0, below (2 * r) (2 * v) a (omega arith) (z .1))) (x .4)) (y .keeps);
+      })
+      (others-does (heapOf s) (pointers (variables ext s 0 (r + k))) g (length (otherSizes (k - 3) (min k 3 ∷ []))) (rc .1) (room (rc .0) (rc .1)) lt (k - 3) u (variables ext s v c) [] r (omega (arith, ap (λ (q : ℕ). length (otherSizes (k - 3) (q ∷ []))) (variables-length ext s v c ∙ cm))) (omega arith) (placed-keeps (omega (arith, lb .0)) (x .4) en) (sym (x .3), x .0, x .1, x .2)
+      (λ b. rw (agree 0 v (omega arith)) (omega (arith, ap (λ (q : List Cell). occ b (pointers q)) split, occ-pointers b (variables ext s 0 v) (variables ext s v c), occ-pointers b (variables ext s v c) []))))))
