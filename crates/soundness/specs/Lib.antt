@@ -4,3 +4,4 @@ pub mod Accepting  -- what an accepted order says of its operands
 pub mod Appending  -- put and compute
 pub mod Copying  -- copy
 pub mod Dropping  -- drop and store
+pub mod Loading  -- load

@@ -1,0 +1,62 @@
+-- The last variable's object loaded: the order performs what the abstract heap names.
+use mathlib.Core.Bool.{Bool, true, false, cond}
+use mathlib.Core.List.{List, [], _∷_, _++_}
+use mathlib.Core.Logic.{_≢_}
+use mathlib.Core.Path.{_≡_, refl, sym, _∙_, ap}
+use Prim.Native.Nat.{ℕ, zero, suc, _+_, _-_, _*_, _/_, _≤_, _<_}
+use native.Mathlib.Nat.{zero-add}
+use native.Mathlib.Omega.{arith}
+use lib.Dec.{ltb}
+use Rattle.trees.specs.Tree.{Tree}
+use Rattle.layout.specs.Config.{base}
+use Rattle.layout.specs.Positions.{location}
+use Rattle.instructions.specs.Step.{Config}
+use Rattle.memory.specs.Objects.{fst, chunks, capacity, freed, loadValue, loadValues, loadBody, loadSpilled, loadBlock, loadOthers, loadSome, loadObject}
+use Rattle.heap.specs.Invariant.{Represents}
+use Rattle.heap.specs.Orders.{load, Performs}
+use Rattle.heap.specs.Values.{object, Values, countOf, valueAt}
+use Rattle.positions.specs.Held.{Keeps, Placed}
+use Rattle.positions.specs.HeldLemmas.{placed-keeps, location-fits}
+use Rattle.positions.specs.Runs.{Does, so}
+use Rattle.bridge.specs.LoadOrder.{Kinds, load-order}
+use Rattle.bridge.specs.Shown.{L, heapOf}
+use Rattle.bridge.specs.Sizes.{objectSizes}
+use Rattle.bridge.specs.Variables.{variable, variables, variables-snoc}
+use Rattle.soundness.specs.Appending.{Performed}
+
+-- a load looks at the kinds of its own variables alone
+module _ (f g : ℕ → Bool) where
+  abbrev Alike : ℕ → ℕ → Type 0
+  Alike v n = (x : ℕ) → v ≤ x → x < v + n → f x ≡ g x
+
+  values-same : (shared : Bool) (v k free r : ℕ) → Alike v k → loadValues base f shared v k free r ≡ loadValues base g shared v k free r
+  values-same shared v zero free r a = refl
+  values-same shared v (suc k) free r a = rw (a (v + k) (omega arith) (omega arith), values-same shared v k (free - 1) r (λ x l h. a x l (omega arith)))
+
+  block-same : (shared other aside : Bool) (v k : ℕ) → Alike v k → loadBlock base f shared other aside v k ≡ loadBlock base g shared other aside v k
+  block-same shared other aside v k a =
+      rw (values-same shared v k (capacity base other) (fst v) a, values-same shared v k (capacity base other) 4 a)
+
+  others-same : (shared : Bool) (m v n : ℕ) → Alike v n → loadOthers base f shared m v n ≡ loadOthers base g shared m v n
+  others-same shared zero v n a = refl
+  others-same shared (suc m) v n a =
+      rw (others-same shared m v (n - 2) (λ x l h. a x l (omega arith)), block-same shared true (freed base g v (n - 2)) (v + (n - 2)) (n - (n - 2)) (λ x l h. a x (omega arith) (omega arith)))
+
+  some-same : (shared : Bool) (v n : ℕ) → Alike v n → loadSome base f shared v n ≡ loadSome base g shared v n
+  some-same shared v n a =
+      rw (others-same shared (chunks 2 (n - 3)) v (n - 3) (λ x l h. a x l (omega arith)), block-same shared false (freed base g v (n - 3)) (v + (n - 3)) (n - (n - 3)) (λ x l h. a x (omega arith) (omega arith)))
+
+  pub load-same : (v n : ℕ) → Alike v n → loadObject base f v n ≡ loadObject base g v n
+  load-same v n a = rw (some-same true v n a, some-same false v n a)
+
+module _ (words : ℕ → ℕ) {N m : ℕ} {values : Values} (ext ext′ : ℕ → Bool) (c : Config) (v : Placed N c) where
+  -- the variable e is the last, and loads as `own` says
+  pub load-does : (own : ℕ → Bool) (e tag : ℕ) (ws : Values) → m ≤ N → e < 133 → e + countOf ws ≤ 133 → ((x : ℕ) → x < e → ext′ x ≡ ext x) → ext e ≡ false
+      → ((x : ℕ) → e ≤ x → x < e + countOf ws → own x ≡ ext′ x) → valueAt e values ≡ object tag ws → Kinds ext′ e ws
+      → Represents objectSizes L (heapOf c) m (variables ext c 0 (suc e)) values
+      → Does words (loadObject base own e (countOf ws)) c (Performed N c (load (countOf ws)) ext ext′ (suc e) (e + countOf ws))
+  load-does own e tag ws mN h most agree linked alike is kinds rep =
+      let snoc : variables ext c 0 (suc e) ≡ variables ext c 0 e ++ (variable ext c e ∷ []) = variables-snoc ext c 0 e ∙ rw (zero-add e) in
+      rw (load-same own ext′ e (countOf ws) alike)
+      (so (load-order words ext ext′ c e tag v mN h agree linked (rw snoc at rep) ws most is kinds) (λ d x.
+        record { performs = rw snoc (x .0); placed = placed-keeps (omega (arith, location-fits (2 * e) (omega arith) .0)) (x .1) v; quiet = x .1 .calls-kept }))
