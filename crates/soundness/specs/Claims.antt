@@ -90,6 +90,13 @@ callsOf (Store n tag) vs = []
 callsOf (Load n) vs = []
 callsOf (Print newline a) vs = record { name = printName newline; number = integerOf (valueAt a vs) } ∷ []
 
+-- how an accepted order's run came out: it ended, in no more steps than it has records, and made the order's calls
+pub record Ran (ch : Channel) (vs : Values) (it : Item) : Type 0 where
+  pub steps : ℕ
+  pub within : steps ≤ recordCount ch it
+  pub ended : runOf ch it .answer ≡ Ended steps
+  pub calls : runOf ch it .last .calls ≡ callsOf (orderIs (it .asked)) vs
+
 -- whether an order can change variables or heap
 abbrev pub changes : Order → Bool
 changes (Put value) = true
@@ -99,6 +106,15 @@ changes Drop = true
 changes (Store n tag) = true
 changes (Load n) = true
 changes (Print newline a) = false
+
+-- the heap that a channel's words show, HEAP and FREE, and its variables as pairs of words, beside values
+abbrev pub stateOf : Channel → Values → State
+stateOf ch vs =
+    record {
+      memory = memoryOf 3 (ch .view .mem) (ch .view .reg HEAP) (ch .view .reg FREE);
+      variables = variablesIn (extAt (ch .context)) (ch .view .reg) (ch .view .stk) 0 (placesIn (ch .context));
+      values = vs;
+    }
 
 -- lists of items have the newest first
 module _ (blocks : ℕ) where
@@ -122,16 +138,8 @@ module _ (blocks : ℕ) where
   AllOwed [] = Unit {0}
   AllOwed (it ∷ its) = (isAccepted (reached its) it ≡ true → Owed (it .asked .bindings) (orderIs (it .asked)) (values its)) × AllOwed its
 
-  -- the heap that the words show, HEAP and FREE, the variables as pairs of words, and the plain machine's values
   abbrev pub stateAfter : List Item → State
-  stateAfter its =
-      let v = reached its .view in
-      let context = reached its .context in
-      record {
-        memory = memoryOf 3 (v .mem) (v .reg HEAP) (v .reg FREE);
-        variables = variablesIn (extAt context) (v .reg) (v .stk) 0 (placesIn context);
-        values = values its;
-      }
+  stateAfter its = stateOf (reached its) (values its)
 
   -- the states before, newest first; refused orders and prints leave the state as it was, so it stands once
   abbrev pub statesBefore : List Item → List State
@@ -149,18 +157,12 @@ module _ (blocks : ℕ) where
     -- and there is such a block
     pub frontier-there : heap .frontier < blocks
 
-  -- what holds of the last item's run, if it was accepted
-  pub record Ran (it : Item) (its : List Item) : Type 0 where
-    pub steps : ℕ
-    pub within : steps ≤ recordCount (reached its) it
-    pub ended : runOf (reached its) it .answer ≡ Ended steps
-    pub calls : runOf (reached its) it .last .calls ≡ callsOf (orderIs (it .asked)) (values its)
-
+  -- the last item's run, if it was accepted
   abbrev pub LastRan : List Item → Type 0
   LastRan [] = Unit {0}
-  LastRan (it ∷ its) = isAccepted (reached its) it ≡ true → Ran it its
+  LastRan (it ∷ its) = isAccepted (reached its) it ≡ true → Ran (reached its) (values its) it
 
-  -- and that a refused one changed nothing
+  -- and that it changed nothing, if it was refused
   abbrev pub LastRefused : List Item → Type 0
   LastRefused [] = Unit {0}
   LastRefused (it ∷ its) = isAccepted (reached its) it ≡ false → reached (it ∷ its) ≡ reached its
