@@ -101,7 +101,7 @@ same-variables ext d x v (suc n) f =
     rw (e, same-variables ext d x (suc v) n (λ i l. let z : v + suc i ≡ suc v + i = omega arith in rw z at (f (suc i) (omega arith))))
 
 -- the variable that is copied, those before it and those behind
-among : (ext : ℕ → Bool) (c : Config) (a k : ℕ) → a < k → variables ext c 0 k ≡ variables ext c 0 a ++ (variable ext c a ∷ variables ext c (suc a) (k - suc a))
+pub among : (ext : ℕ → Bool) (c : Config) (a k : ℕ) → a < k → variables ext c 0 k ≡ variables ext c 0 a ++ (variable ext c a ∷ variables ext c (suc a) (k - suc a))
 among ext c a k h =
     let n : k ≡ a + suc (k - suc a) = omega arith in
     ap (variables ext c 0) n ∙ variables-append ext c 0 a (suc (k - suc a)) ∙ ap (λ (x : ℕ). variables ext c 0 a ++ variables ext c x (suc (k - suc a))) (zero-add a)

@@ -1,0 +1,175 @@
+-- Each order that changes something, on a channel that carries what the induction carries, performs its abstract order.
+use mathlib.Core.Bool.{Bool, true, false, not, _&&_, cond}
+use mathlib.Core.List.{List, [], _∷_, _++_}
+use mathlib.Core.Path.{_≡_, refl, sym, _∙_, ap, fun-ext}
+use Prim.Native.Nat.{ℕ, zero, suc, _+_, _-_, _*_, _≤_, _<_}
+use native.Mathlib.Omega.{arith}
+use lib.Dec.{ltb, leb, eqb}
+use lib.ListN.{length, take}
+use lib.Seq.{length-take-le}
+use borrow.Author.Tests.{ltb-true, leb-true, ne-eqb}
+use Rattle.records.specs.declared.binding.Kind.the-variants.{Linked, Ext}
+use Rattle.records.specs.declared.order.Operation.{Operation}
+use Rattle.records.specs.declared.order.Order.{Order}
+use Rattle.records.specs.declared.order.Order.the-variants.{Put, Compute, Copy, Drop, Store, Load, Print}
+use Rattle.records.proofs.Conditions.{and-left, and-right}
+use Rattle.layout.specs.Config.{base}
+use Rattle.layout.specs.Positions.{location}
+use Rattle.memory.specs.Objects.{extIn, storeObject, loadObject}
+use Rattle.printing.specs.Registers.{extAt}
+use Rattle.instructions.specs.Step.{Config}
+use Rattle.heap.specs.ValueLemmas.{hold-at}
+use Rattle.heap.specs.Values.{Value, integer, object, Values, nil, cons, countOf, joined, firstOf, restOf, copies, valueAt, Holds}
+use Rattle.heap.specs.Orders as abstract
+use Rattle.heap.specs.Orders.{State}
+use Rattle.positions.specs.Held.{held}
+use Rattle.positions.specs.Runs.{Does, so}
+use Rattle.bridge.specs.LoadOrder.{Kinds}
+use Rattle.bridge.specs.Shown.{heapOf}
+use Rattle.bridge.specs.Sizes.{objectSizes}
+use Rattle.bridge.specs.Variables.{variable, variables, variables-length}
+use Rattle.contexts.specs.Bindings.{good-length}
+use Rattle.contexts.specs.Kinds.{ext-left, ext-right, ext-take, ext-made, ext-made-all, kind-at, ext-in, ext-in-whole}
+use Rattle.contexts.specs.ValueKinds.{count-joined, count-first, count-copies, integer-at, kinds-moved}
+use Rattle.orders.specs.Plain.{integerOf, listOf, result, resultDefined, plainly, KindsFrom, AsStored}
+use Rattle.orders.specs.Writes.{made, madeAll, kindAt, treeOf, contextAfter, present, kindsOk, asked}
+use Rattle.soundness.specs.Claims.{Channel, acquires, Owed}
+use Rattle.soundness.specs.Ending.{start}
+use Rattle.soundness.specs.Appending.{Performed, put-does, compute-does}
+use Rattle.soundness.specs.Copying.{among, copy-does}
+use Rattle.soundness.specs.Dropping.{drop-does, store-does}
+use Rattle.soundness.specs.Loading.{load-does}
+use Rattle.soundness.specs.Carried.{Carried, abstractly}
+
+-- the two ways to say that variables have values' kinds
+kinds-as : (ext : ℕ → Bool) (v : ℕ) (vs : Values) → KindsFrom ext v vs → Kinds ext v vs
+kinds-as ext v nil k = tt
+kinds-as ext v (cons (integer w) vs) k = (k .0, kinds-as ext (suc v) vs (k .1))
+kinds-as ext v (cons (object tag ws) vs) k = (k .0, kinds-as ext (suc v) vs (k .1))
+
+-- as many variables as the plain machine has values after the order
+recounted : {words : ℕ → ℕ} {blocks : ℕ} {c : Config} {o : _} {ext ext′ : ℕ → Bool} {k j n : ℕ} {t : _} → n ≡ j → Does words t c (Performed blocks c o ext ext′ k j) → Does words t c (Performed blocks c o ext ext′ k n)
+recounted e d = rw e d
+
+rebased : {words : ℕ → ℕ} {blocks : ℕ} {c : Config} {o : _} {ext ext′ : ℕ → Bool} {k j n : ℕ} {t : _} → k ≡ n → Does words t c (Performed blocks c o ext ext′ k j) → Does words t c (Performed blocks c o ext ext′ n j)
+rebased e d = rw (← e) d
+
+module _ (words : ℕ → ℕ) {blocks acquired : ℕ} {past : List State} {ch : Channel} {vs : Values} (f : Carried blocks acquired past ch vs) (bindings : List ℕ) where
+  abbrev K : ℕ
+  K = countOf vs
+
+  abbrev C : Config
+  C = start (ch .view)
+
+  abbrev E : ℕ → Bool
+  E = extAt (ch .context)
+
+  abbrev E′ : Order → ℕ → Bool
+  E′ o = extAt (contextAfter (ch .context) K bindings o)
+
+  abbrev Goal : Order → Type 0
+  Goal o = Does words (treeOf base (ch .context) K bindings o) C (Performed blocks C (abstractly o vs) E (E′ o) K (countOf (plainly o vs)))
+
+  long : length (ch .context) ≡ 8 * K
+  long = good-length (ch .context) (f .places) .0
+
+  -- an integer variable's Snd is the plain machine's integer
+  pub integer-held : (a : ℕ) → a < K → E a ≡ true → held C (location (2 * a + 1)) ≡ integerOf (valueAt a vs)
+  integer-held a h e =
+      let z : 0 + a ≡ a = omega arith in
+      let i = integer-at E 0 vs a (f .kinds) h (rw z e) in
+      let q = hold-at objectSizes (heapOf C .fields) (f .represents .linked) (variables E C 0 a) (variable E C a) (variables E C (suc a) (K - suc a)) vs (rw (among E C a K h) at (f .represents .holds)) in
+      let p : Holds objectSizes (heapOf C .fields) (f .represents .linked) (integer (i .0)) (variable E C a) = rw (variables-length E C 0 a, i .1) at q in
+      rw (i .1) (p .1)
+
+  -- one more integer variable
+  one-more : (w : ℕ) → countOf (joined vs (cons (integer w) nil)) ≡ suc K
+  one-more w = count-joined vs (cons (integer w) nil) ∙ more
+    where
+      more : K + 1 ≡ suc K
+      more = omega arith
+
+  new-integer : extAt (ch .context ++ made Ext K) K ≡ true
+  new-integer = let z : K + 0 ≡ K = omega arith in rw z at (ext-right (ch .context) (made Ext K) K long 0) ∙ ext-made Ext K
+
+  put-order : (value : ℕ) → 2 * K + 2 ≤ 267 → Goal (Put value)
+  unfolding treeOf contextAfter plainly
+  put-order value h =
+      recounted (one-more value) (put-does E (E′ (Put value)) C K (f .placed) (omega arith) (λ x l. ext-left (ch .context) (made Ext K) K long x l) new-integer words value)
+
+  compute-order : (o : Operation) (a b : ℕ) → a < K → b < K → E a ≡ true → E b ≡ true → 2 * K + 2 ≤ 267 → Owed bindings (Compute o a b) vs → Goal (Compute o a b)
+  unfolding treeOf contextAfter plainly
+  compute-order o a b ak bk ea eb h owed =
+      let x = integer-held a ak ea in
+      let y = integer-held b bk eb in
+      recounted (one-more (result o (integerOf (valueAt a vs)) (integerOf (valueAt b vs))))
+      (rw (x, y) at (compute-does E (E′ (Compute o a b)) C K (f .placed) (omega arith) (λ x l. ext-left (ch .context) (made Ext K) K long x l) new-integer words a b ak bk o (rw (x, y) owed)))
+
+  module _ (room : suc acquired < blocks) where
+    below : f .frontier ≤ blocks
+    below = omega (arith, f .low)
+
+    copy-order : (a n : ℕ) → a < K → K + n ≤ 133 → Goal (Copy a n)
+    unfolding treeOf contextAfter plainly
+    copy-order a n ak most =
+        recounted (count-joined vs (copies n (valueAt a vs)) ∙ ap (λ (m : ℕ). K + m) (count-copies n (valueAt a vs)))
+        (copy-does words E (E′ (Copy a n)) C K a n (f .placed) ak most (λ x l. ext-left (ch .context) new K long x l)
+          (λ i l. ext-right (ch .context) new K long i ∙ ext-made-all (kindAt (ch .context) a) K n i l ∙ kind-at (ch .context) a) below (f .represents))
+      where
+        new : List ℕ
+        new = madeAll (kindAt (ch .context) a) K n
+
+    drop-order : (e : ℕ) → K ≡ suc e → Goal Drop
+    unfolding treeOf contextAfter plainly
+    drop-order e q =
+        let z : K - 1 ≡ e = omega arith in
+        let few = f .few in
+        recounted (count-first (K - 1) vs (omega arith))
+        (rw (z, q) (drop-does words E (extAt (take (8 * e) (ch .context))) C (f .placed) e (omega arith) below (λ x l. ext-take (ch .context) e x l) (rw q at (f .represents))))
+
+    store-order : (n tag : ℕ) → n ≤ K → K - n < 133 → suc (acquired + length (objectSizes n)) < blocks → Goal (Store n tag)
+    unfolding treeOf contextAfter plainly
+    store-order n tag nk most space =
+        let r : ℕ = K - n in
+        let e : r + n ≡ K = omega arith in
+        let few = f .few in
+        let low = f .low in
+        let whole : length (take (8 * r) (ch .context)) ≡ 8 * r = length-take-le (8 * r) (ch .context) (omega (arith, long)) in
+        let z : r + 0 ≡ r = omega arith in
+        let kinds : extIn (ch .context) 0 ≡ E = fun-ext (ext-in-whole (ch .context)) in
+        recounted (count-joined (firstOf r vs) (cons (object tag (restOf r vs)) nil) ∙ ap (λ (m : ℕ). m + 1) (count-first r vs (omega arith)) ∙ plus-one r)
+        (rw kinds (rebased e (store-does words E (E′ (Store n tag)) C (f .placed) r n tag (omega arith) most
+          (λ x l. ext-left (take (8 * r) (ch .context)) (made Linked r) r whole x l ∙ ext-take (ch .context) r x l)
+          (rw z at (ext-right (take (8 * r) (ch .context)) (made Linked r) r whole 0) ∙ ext-made Linked r)
+          (omega arith) (rw (← e) at (f .represents)))))
+      where
+        plus-one : (m : ℕ) → m + 1 ≡ suc m
+        plus-one m = omega arith
+
+    load-order : (n e : ℕ) → K ≡ suc e → E e ≡ false → e + n ≤ 133 → Owed bindings (Load n) vs → Goal (Load n)
+    unfolding treeOf contextAfter plainly
+    load-order n e q linked most owed = by (valueAt (K - 1) vs) refl owed
+      where
+        z : K - 1 ≡ e
+        z = omega arith
+
+        front : List ℕ
+        front = take (8 * e) (ch .context)
+
+        whole : length front ≡ 8 * e
+        whole = length-take-le (8 * e) (ch .context) (omega (arith, long))
+
+        by : (v : Value) → valueAt (K - 1) vs ≡ v → AsStored bindings n v
+            → Does words (loadObject base (extIn bindings (K - 1)) (K - 1) n) C (Performed blocks C (abstract.load n) E (extAt (take (8 * (K - 1)) (ch .context) ++ bindings)) K (countOf (joined (firstOf (K - 1) vs) (listOf (valueAt (K - 1) vs)))))
+        by (integer w) is a = absurd a
+        by (object tag ws) is a =
+            let few = f .few in
+            let c : countOf (joined (firstOf (K - 1) vs) (listOf (valueAt (K - 1) vs))) ≡ e + countOf ws
+              = ap (λ (v : Value). countOf (joined (firstOf (K - 1) vs) (listOf v))) is ∙ count-joined (firstOf (K - 1) vs) ws ∙ ap (λ (m : ℕ). m + countOf ws) (count-first (K - 1) vs (omega arith) ∙ z) in
+            let d = load-does words E (extAt (front ++ bindings)) C (f .placed) (extIn bindings e) e tag ws below (omega arith) (omega (arith, a .0))
+                  (λ x l. ext-left front bindings e whole x l ∙ ext-take (ch .context) e x l) linked
+                  (λ x l h. let y : e + (x - e) ≡ x = omega arith in rw y at (ext-in bindings e (x - e) ∙ sym (ext-right front bindings e whole (x - e))))
+                  (ap (λ (m : ℕ). valueAt m vs) (sym z) ∙ is)
+                  (kinds-as (extAt (front ++ bindings)) e ws (kinds-moved (extAt bindings) (extAt (front ++ bindings)) 0 e ws (λ x l. let y : 0 + x ≡ x = omega arith in rw y (ext-right front bindings e whole x)) (a .1)))
+                  (rw q at (f .represents)) in
+            recounted c (rw (z, q, ← (a .0)) d)

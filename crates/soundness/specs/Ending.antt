@@ -1,0 +1,52 @@
+-- A tree that does something ends as a run of its records' bytes, with their number as the step limit.
+use mathlib.Core.Bool.{true, _&&_}
+use mathlib.Core.List.{[]}
+use mathlib.Core.Path.{_≡_, refl, sym, _∙_, ap}
+use Prim.Native.Nat.{ℕ, _+_, _*_, _%_, _≤_}
+use native.Mathlib.Nat.{add-zero}
+use native.Mathlib.Omega.{arith}
+use lib.Dec.{eqb, leb}
+use borrow.Author.Tests.{eq-eqb, le-leb}
+use Rattle.records.specs.ReadBack.{joined, codeBytes}
+use Rattle.trees.specs.Tree.{Tree, labels, size, flat}
+use Rattle.instructions.specs.declared.instruction.Compared.the-variants.{Absent}
+use Rattle.instructions.specs.Memory.{heapOk}
+use Rattle.instructions.specs.Step.{Config, config}
+use Rattle.instructions.specs.View.{View}
+use Rattle.machine.specs.declared.run.Answer.the-variants.{Ended}
+use Rattle.machine.specs.Run.{done, ran, started}
+use Rattle.structured.proofs.Trees.{tree-ends}
+use Rattle.positions.specs.Held.{Placed}
+use Rattle.positions.specs.Runs.{Does}
+use Rattle.formed.specs.Formed.{Formed}
+use Rattle.formed.specs.Bytes.{ran-started}
+
+-- no compare made, and no call
+abbrev pub start : View → Config
+start v = config v Absent []
+
+pub heap-ok : (blocks : ℕ) (v : View) → Placed blocks (start v) → 2 ≤ blocks → heapOk (v .size) ≡ true
+unfolding heapOk
+heap-ok blocks v p h =
+    let f = p .fits in
+    let a : (8 * blocks) % 8 ≡ 0 = omega arith in
+    rw (p .words, eq-eqb ((8 * blocks) % 8) 0 a, le-leb 16 (8 * blocks) (omega arith), le-leb (8 * blocks) 8388608 (omega arith))
+
+pub record Ends (words : ℕ → ℕ) (t : Tree) (counter : ℕ) (v : View) (Q : Config → Type 0) : Type 0 where
+  pub steps : ℕ
+  pub within : steps ≤ size t
+  pub last : Config
+  pub run : ran words (joined codeBytes (flat t counter)) (size t) v ≡ done (Ended steps) last
+  pub post : Q last
+
+pub ends : {words : ℕ → ℕ} {t : Tree} {v : View} {Q : Config → Type 0} (counter : ℕ) → Formed t → counter + labels t ≤ 2147483647 → size t ≤ 65536 → heapOk (v .size) ≡ true
+    → Does words t (start v) Q → Ends words t counter v Q
+ends {words} {t} {v} counter f l m h d =
+    let e = tree-ends words t counter 0 v (d .to) (d .run) in
+    record {
+      steps = e .0;
+      within = e .1;
+      last = d .to;
+      run = ran-started words t counter (size t) v f l m h ∙ ap (λ (n : ℕ). started words (flat t counter) n v) (sym (add-zero (size t))) ∙ e .2;
+      post = d .post;
+    }
