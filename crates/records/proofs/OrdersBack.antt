@@ -15,7 +15,7 @@ use Rattle.records.specs.Bytes.{le, number}
 use Rattle.records.specs.Orders.{orderFields, orderFieldsOf, orderReaders, orderOf, flags, usedByOrder, orderOperandsOk, orderOk, orderBytes, orderIn, orderStarts}
 use Rattle.records.specs.ReadBack.{Bytes, WellFormedOrder}
 use Rattle.records.proofs.Conditions.{both}
-use Rattle.records.proofs.Digits.{number-le, le-number, first-four}
+use Rattle.records.proofs.Digits.{number-le, le-number, number-below, first-four}
 use Rattle.records.proofs.Joined.{Laws}
 use Rattle.records.proofs.Kept.{kept, kept-whole, kept-last, read-at}
 use Rattle.records.proofs.OrdersRead.{ok-code}
@@ -115,6 +115,20 @@ module _ (s : List ℕ) (e : orderStarts s ≡ true) where
         le-number s bytes 4 4 (omega arith),
       )
       (rw (parts .1, parts .2) at (first-four s (omega arith)))
+
+  -- the order in bytes that start with one
+  pub order-well-formed : Bytes s → WellFormedOrder (orderOf (orderIn s))
+  unfolding orderIn
+  order-well-formed bytes =
+      let h = parts .0 in
+      let e = fields-order (orderIn s) (parts .3) in
+      record {
+        a-fits = rw e (number-below s bytes 4 4 (omega arith));
+        b-fits = rw e (number-below s bytes 4 8 (omega arith));
+        n-fits = rw e (number-below s bytes 4 12 (omega arith));
+        value-fits = rw e (number-below s bytes 8 16 (omega arith));
+        ok = rw e (parts .3);
+      }
 
 pub order-laws : Laws 24 (λ o. orderBytes (orderFieldsOf o)) orderStarts (λ s. orderOf (orderIn s)) WellFormedOrder
 unfolding orderBytes le
