@@ -33,7 +33,7 @@ use Rattle.contexts.specs.Kinds.{ext-left, ext-right, ext-take, ext-made, ext-m
 use Rattle.contexts.specs.ValueKinds.{count-joined, count-first, count-copies, integer-at, kinds-moved}
 use Rattle.orders.specs.Plain.{integerOf, listOf, result, resultDefined, plainly, KindsFrom, AsStored}
 use Rattle.orders.specs.Writes.{made, madeAll, kindAt, treeOf, contextAfter, present, kindsOk, asked}
-use Rattle.soundness.specs.Claims.{Channel, acquires, Owed}
+use Rattle.soundness.specs.Claims.{Channel, acquires, changes, Owed}
 use Rattle.soundness.specs.Ending.{start}
 use Rattle.soundness.specs.Appending.{Performed, put-does, compute-does}
 use Rattle.soundness.specs.Copying.{among, copy-does}
@@ -173,3 +173,34 @@ module _ (words : ℕ → ℕ) {blocks acquired : ℕ} {past : List State} {ch :
                   (kinds-as (extAt (front ++ bindings)) e ws (kinds-moved (extAt bindings) (extAt (front ++ bindings)) 0 e ws (λ x l. let y : 0 + x ≡ x = omega arith in rw y (ext-right front bindings e whole x)) (a .1)))
                   (rw q at (f .represents)) in
             recounted c (rw (z, q, ← (a .0)) d)
+
+    -- with what an accepted order says, and the room that the user gives
+    pub changing-does : (o : Order) → changes o ≡ true → present (ch .context) K bindings o ≡ true → kindsOk (ch .context) K bindings o ≡ true → asked (ch .context) K bindings o ≤ 267
+        → Owed bindings o vs → suc (acquires o + acquired) < blocks → Goal o
+    unfolding present kindsOk asked
+    changing-does (Put value) c p e a w s = put-order value a
+    changing-does (Compute o x y) c p e a w s =
+        compute-order o x y (ltb-true x K (and-left (ltb x K) (ltb y K) p)) (ltb-true y K (and-right (ltb x K) (ltb y K) p)) (and-left (E x) (E y) e) (and-right (E x) (E y) e) a w
+    changing-does (Copy x n) c p e a w s = copy-order x n (ltb-true x K p) (copied n a)
+      where
+        copied : (n : ℕ) → cond (eqb n 0) (cond (E x) 0 (2 * x + 1)) (2 * (K + n)) ≤ 267 → K + n ≤ 133
+        copied zero a = omega (arith, f .few)
+        copied (suc n) a = let b = rw (ne-eqb (suc n) 0 (λ z. omega arith)) at a in omega arith
+    changing-does Drop c p e a w s = let h = ltb-true 0 K p in drop-order (K - 1) (omega arith)
+    changing-does (Store n tag) c p e a w s = store-order n tag (leb-true n K p) (stored n (leb-true n K p) a) (omega arith)
+      where
+        stored : (n : ℕ) → n ≤ K → cond (eqb n 0) (2 * K + 2) (2 * K) ≤ 267 → K - n < 133
+        stored zero l a = omega arith
+        stored (suc n) l a = omega (arith, f .few)
+    changing-does (Load n) c p e a w s =
+        let h = ltb-true 0 K p in
+        load-order n (K - 1) (omega arith) (turned (E (K - 1)) e) (loaded n a h) w
+      where
+        turned : (b : Bool) → not b ≡ true → b ≡ false
+        turned false e = refl
+        turned true e = let z : _≡_ {A = ℕ} 0 1 = cc in absurd (omega arith)
+
+        loaded : (n : ℕ) → cond (eqb n 0) 0 (2 * (K - 1 + n)) ≤ 267 → 0 < K → K - 1 + n ≤ 133
+        loaded zero a h = omega (arith, f .few)
+        loaded (suc n) a h = let b = rw (ne-eqb (suc n) 0 (λ z. omega arith)) at a in omega arith
+    changing-does (Print newline x) c p e a w s = let z : _≡_ {A = ℕ} 0 1 = cc in absurd (omega arith)

@@ -1,0 +1,136 @@
+-- After each accepted order the context is accepted again, with a binding for each of the plain machine's values, of its kind.
+use Prim.Native.Nat.{ℕ, zero, suc, _+_, _*_, _-_, _≤_}
+use mathlib.Core.Path.{_≡_, refl, _∙_}
+use mathlib.Core.Bool.{true, cond}
+use mathlib.Core.List.{List, _++_}
+use native.Mathlib.Omega.{arith}
+use lib.Dec.{eqb}
+use lib.ListN.{take}
+use borrow.Author.Tests.{ltb-true, leb-true, ne-eqb}
+use Rattle.records.specs.declared.check.Checked.the-variants.{Good}
+use Rattle.records.specs.declared.binding.Kind.{Kind}
+use Rattle.records.specs.declared.binding.Kind.the-variants.{Linked, Ext}
+use Rattle.records.specs.declared.order.Order.{Order}
+use Rattle.records.specs.declared.order.Order.the-variants.{Put, Compute, Copy, Drop, Store, Load, Print}
+use Rattle.records.specs.Contexts.{checkedContext}
+use Rattle.heap.specs.Values.{Value, integer, object, Values, nil, cons, countOf, joined, firstOf, restOf, valueAt, copies}
+use Rattle.printing.specs.Registers.{extAt}
+use Rattle.orders.specs.Writes.{made, madeAll, wanted, kindAt, contextAfter, present, asked}
+use Rattle.orders.specs.Plain.{integerOf, listOf, result, plainly, KindsFrom, AsStored}
+use Rattle.contexts.specs.Bindings.{good-length, good-append, good-take, good-made, good-made-all}
+use Rattle.contexts.specs.Kinds.{ext-left, ext-right, ext-take, isExt, ext-made, ext-made-all, kind-at}
+use Rattle.contexts.specs.ValueKinds.{count-joined, count-first, count-copies, isInteger, kinds-at, kinds-joined, kinds-first, kinds-copies, kinds-cons, kinds-moved}
+
+-- an accepted context with a binding for each value, of its kind
+abbrev pub ContextOf : List ℕ → Values → Type 0
+ContextOf s vs = (checkedContext s ≡ Good (countOf vs)) × KindsFrom (extAt s) 0 vs
+
+-- ---- the parts of which contexts are made
+
+pub context-joined : (s t : List ℕ) (vs ws : Values) → ContextOf s vs → ContextOf t ws → countOf vs + countOf ws ≤ 4096 → ContextOf (s ++ t) (joined vs ws)
+context-joined s t vs ws a b h =
+    let long = good-length s (a .0) .0 in
+    let e : 0 + countOf vs ≡ countOf vs = omega arith in
+    let left : KindsFrom (extAt (s ++ t)) 0 vs =
+    kinds-moved (extAt s) (extAt (s ++ t)) 0 0 vs (λ x l. ext-left s t (countOf vs) long (0 + x) (omega arith)) (a .1) in
+    let right : KindsFrom (extAt (s ++ t)) (countOf vs) ws =
+    kinds-moved (extAt t) (extAt (s ++ t)) 0 (countOf vs) ws (λ x l. let z : 0 + x ≡ x = omega arith in rw z (ext-right s t (countOf vs) long x)) (b .1) in
+    (rw (count-joined vs ws) (good-append s t (a .0) (b .0) h), kinds-joined (extAt (s ++ t)) 0 vs ws left (rw e right))
+
+pub context-first : (s : List ℕ) (vs : Values) (n : ℕ) → ContextOf s vs → n ≤ countOf vs → ContextOf (take (8 * n) s) (firstOf n vs)
+context-first s vs n a h =
+    let c = count-first n vs h in (
+      rw c (good-take s n (a .0) h),
+      kinds-moved (extAt s) (extAt (take (8 * n) s)) 0 0 (firstOf n vs) (λ x l. ext-take s n (0 + x) (omega arith)) (kinds-first (extAt s) 0 n vs (a .1)),
+    )
+
+pub context-copies : (kind : Kind) (place n : ℕ) (v : Value) → isExt kind ≡ isInteger v → n ≤ 4096 → ContextOf (madeAll kind place n) (copies n v)
+context-copies kind place n v e h = (
+  rw (count-copies n v) (good-made-all kind place n h),
+  kinds-copies (extAt (madeAll kind place n)) 0 n v (λ x l. ext-made-all kind place n (0 + x) (omega arith) ∙ e),
+)
+
+pub context-one : (kind : Kind) (place : ℕ) (v : Value) → isExt kind ≡ isInteger v → ContextOf (made kind place) (cons v nil)
+context-one kind place v e = (good-made kind place, kinds-cons (extAt (made kind place)) 0 v nil (ext-made kind place ∙ e) tt)
+
+-- ---- each order
+
+-- what the user owes of an order's kinds: a load names those that its object was stored with
+abbrev pub OwedKinds : List ℕ → Order → Values → Type 0
+OwedKinds bindings (Put value) vs = Unit {0}
+OwedKinds bindings (Compute operation a b) vs = Unit {0}
+OwedKinds bindings (Copy a n) vs = Unit {0}
+OwedKinds bindings Drop vs = Unit {0}
+OwedKinds bindings (Store n tag) vs = Unit {0}
+OwedKinds bindings (Load n) vs = AsStored bindings n (valueAt (countOf vs - 1) vs)
+OwedKinds bindings (Print newline a) vs = Unit {0}
+
+as-stored : (bindings : List ℕ) (n : ℕ) (v : Value) → AsStored bindings n v → (countOf (listOf v) ≡ n) × KindsFrom (extAt bindings) 0 (listOf v)
+as-stored bindings n (integer w) a = absurd a
+as-stored bindings n (object tag ws) a = a
+
+-- variables that are copied or loaded, and one that is stored, stay below a limit
+module _ (limit k : ℕ) (h : 133 ≤ limit) (l : k ≤ limit) where
+  room-for : (n none : ℕ) → cond (eqb n 0) none (2 * (k + n)) ≤ 267 → k + n ≤ limit
+  room-for zero none a = omega arith
+  room-for (suc n) none a = let b = rw (ne-eqb (suc n) 0 (λ e. omega arith)) at a in omega arith
+
+  room-for-one : (n : ℕ) → cond (eqb n 0) (2 * k + 2) (2 * k) ≤ 267 → n ≤ k → (k - n) + 1 ≤ limit
+  room-for-one zero a m = omega arith
+  room-for-one (suc n) a m = omega arith
+
+module _ (context bindings : List ℕ) (k : ℕ) (vs : Values) (count : countOf vs ≡ k) where
+  -- how many values there are after it: within a limit of 133 or more where there were before
+  pub count-within : (limit : ℕ) (o : Order) → 133 ≤ limit → k ≤ limit → present context k bindings o ≡ true → asked context k bindings o ≤ 267 → OwedKinds bindings o vs
+      → countOf (plainly o vs) ≤ limit
+  unfolding plainly present asked
+  count-within limit (Put value) h l p a q = omega (arith, count-joined vs (cons (integer value) nil))
+  count-within limit (Compute operation x y) h l p a q = rw (count-joined vs) (omega arith)
+  count-within limit (Copy x n) h l p a q = rw (count-joined vs (copies n (valueAt x vs)), count-copies n, count) (room-for limit k h l n _ a)
+  count-within limit Drop h l p a q = omega (arith, count-first (countOf vs - 1) vs (omega arith))
+  count-within limit (Store n tag) h l p a q =
+      let m = leb-true n k p in
+      let r = room-for-one limit k h l n a m in
+      rw (count-joined (firstOf (countOf vs - n) vs), count-first (countOf vs - n) vs (omega arith)) (omega arith)
+  count-within limit (Load n) h l p a q =
+      let r = room-for limit (k - 1) h (omega arith) n 0 a in
+      let c = as-stored bindings n (valueAt (countOf vs - 1) vs) q .0 in
+      rw (count-joined (firstOf (countOf vs - 1) vs), count-first (countOf vs - 1) vs (omega arith), c) (omega arith)
+  count-within limit (Print newline x) h l p a q = omega arith
+
+  module _ (good : checkedContext context ≡ Good k) (kinds : KindsFrom (extAt context) 0 vs) where
+    before : ContextOf context vs
+    before = (rw count good, kinds)
+
+    -- the first n variables kept, and those of ws after them
+    kept-then : (n : ℕ) (t : List ℕ) (ws : Values) → n ≤ k → ContextOf t ws → n + countOf ws ≤ 4096 → ContextOf (take (8 * n) context ++ t) (joined (firstOf n vs) ws)
+    kept-then n t ws l b h =
+        context-joined (take (8 * n) context) t (firstOf n vs) ws (context-first context vs n before (omega arith)) b (omega (arith, count-first n vs (omega arith)))
+
+    pub context-after : (o : Order) → checkedContext bindings ≡ Good (wanted o) → present context k bindings o ≡ true
+        → asked context k bindings o ≤ 267 → OwedKinds bindings o vs
+        → ContextOf (contextAfter context k bindings o) (plainly o vs)
+    unfolding contextAfter plainly present asked
+    context-after (Put value) b p a q =
+        context-joined context (made Ext k) vs (cons (integer value) nil) before (context-one Ext k (integer value) refl) (omega arith)
+    context-after (Compute operation x y) b p a q =
+        let w = result operation (integerOf (valueAt x vs)) (integerOf (valueAt y vs)) in
+        context-joined context (made Ext k) vs (cons (integer w) nil) before (context-one Ext k (integer w) refl) (omega arith)
+    context-after (Copy x n) b p a q =
+        let r = room-for 4096 k (omega arith) (good-length context good .1) n _ a in
+        let z : 0 + x ≡ x = omega arith in
+        let s : isExt (kindAt context x) ≡ isInteger (valueAt x vs) =
+        kind-at context x ∙ (rw z at (kinds-at (extAt context) 0 vs x kinds (omega (arith, ltb-true x k p)))) in
+        context-joined context (madeAll (kindAt context x) k n) vs (copies n (valueAt x vs)) before (context-copies (kindAt context x) k n (valueAt x vs) s (omega arith))
+        (omega (arith, count-copies n (valueAt x vs)))
+    context-after Drop b p a q = rw (← count) (context-first context vs (countOf vs - 1) before (omega arith))
+    context-after (Store n tag) b p a q =
+        let r = room-for-one 4096 k (omega arith) (good-length context good .1) n a (leb-true n k p) in
+        let v = object tag (restOf (countOf vs - n) vs) in
+        rw (← count) (kept-then (countOf vs - n) (made Linked (countOf vs - n)) (cons v nil) (omega arith) (context-one Linked (countOf vs - n) v refl) (omega arith))
+    context-after (Load n) b p a q =
+        let w = good-length context good .1 in
+        let r = room-for 4096 (k - 1) (omega arith) (omega arith) n 0 a in
+        let s = as-stored bindings n (valueAt (countOf vs - 1) vs) q in
+        rw (← count) (kept-then (countOf vs - 1) bindings (listOf (valueAt (countOf vs - 1) vs)) (omega arith) (rw (s .0) b, s .1) (omega (arith, s .0)))
+    context-after (Print newline x) b p a q = before

@@ -1,0 +1,171 @@
+-- An instruction is well formed by the bounds of its operands alone: what its code does not use is zero in its record.
+use Prim.Native.Nat.{ℕ, _-_, _/_, _%_, _^_, _<_}
+use mathlib.Core.Path.{_≡_, refl, _∙_}
+use mathlib.Core.Bool.{Bool, true, false, _&&_}
+use native.Mathlib.Omega.{arith}
+use lib.Dec.{ltb, eqb}
+use lib.ListN.{getD}
+use borrow.Author.Tests.{lt-ltb, ne-eqb}
+use Rattle.records.specs.declared.code.Code.{Code}
+use Rattle.records.specs.declared.code.Code.the-variants.{ADD, ADDRM, ADDMR, ADDI, ADDIM, SUB, SUBRM, SUBMR, SUBI, IMUL, IMULRM, IMULMR, IDIV, IDIVM, CQO, JMP, JMPL, JMPLN, LEAL, MOV, MOVS, MOVL, MOVI, MOVIM, CMP, CMPRM, CMPMR, CMPI, CMPIM, JEL, JNEL, JLL, JLEL, JGL, JGEL, PUSH, POP, CALL, RET, LAB, NOEXECSTACK, TEXT, GLOBAL, EXTERN}
+use Rattle.records.specs.Codes.{fieldsOf, readers, codeOf}
+use Rattle.records.specs.Instructions.{used, labelOk, operandsOk, fieldsOk}
+use Rattle.records.specs.ReadBack.{WellFormedCode}
+use Rattle.records.proofs.Uses.{usesTable}
+
+-- whether a code uses a label
+abbrev labelled : Code → Bool
+labelled c = eqb (getD usesTable (fieldsOf c .code - 1) 0 / 4 % 2) 1
+
+ok-fields : (c : Code) → fieldsOk (fieldsOf c) ≡ ltb (fieldsOf c .a) 16 && ltb (fieldsOf c .b) 16 && labelOk (labelled c) (fieldsOf c .label) && true && true
+unfolding fieldsOk operandsOk used codeOf readers
+ok-fields (ADD a b) = refl
+ok-fields (ADDRM a b o) = refl
+ok-fields (ADDMR a o b) = refl
+ok-fields (ADDI a v) = refl
+ok-fields (ADDIM a o v) = refl
+ok-fields (SUB a b) = refl
+ok-fields (SUBRM a b o) = refl
+ok-fields (SUBMR a o b) = refl
+ok-fields (SUBI a v) = refl
+ok-fields (IMUL a b) = refl
+ok-fields (IMULRM a b o) = refl
+ok-fields (IMULMR a o b) = refl
+ok-fields (IDIV a) = refl
+ok-fields (IDIVM a o) = refl
+ok-fields CQO = refl
+ok-fields (JMP a) = refl
+ok-fields (JMPL l) = refl
+ok-fields (JMPLN l) = refl
+ok-fields (LEAL a l) = refl
+ok-fields (MOV a b) = refl
+ok-fields (MOVS a b o) = refl
+ok-fields (MOVL a b o) = refl
+ok-fields (MOVI a v) = refl
+ok-fields (MOVIM a o v) = refl
+ok-fields (CMP a b) = refl
+ok-fields (CMPRM a b o) = refl
+ok-fields (CMPMR a o b) = refl
+ok-fields (CMPI a v) = refl
+ok-fields (CMPIM a o v) = refl
+ok-fields (JEL l) = refl
+ok-fields (JNEL l) = refl
+ok-fields (JLL l) = refl
+ok-fields (JLEL l) = refl
+ok-fields (JGL l) = refl
+ok-fields (JGEL l) = refl
+ok-fields (PUSH a) = refl
+ok-fields (POP a) = refl
+ok-fields (CALL l) = refl
+ok-fields RET = refl
+ok-fields (LAB l) = refl
+ok-fields NOEXECSTACK = refl
+ok-fields TEXT = refl
+ok-fields (GLOBAL l) = refl
+ok-fields (EXTERN l) = refl
+
+module _ (c : Code) (a : fieldsOf c .a < 16) (b : fieldsOf c .b < 16) (o : fieldsOf c .offset < 2 ^ 64) (v : fieldsOf c .value < 2 ^ 64) where
+  general : fieldsOf c .label < 2 ^ 32 → labelOk (labelled c) (fieldsOf c .label) ≡ true → WellFormedCode c
+  general h e =
+      record { label-fits = h; offset-fits = o; value-fits = v; ok = ok-fields c ∙ rw (lt-ltb (fieldsOf c .a) 16 a, lt-ltb (fieldsOf c .b) 16 b, e) }
+
+  -- a code that uses no label
+  plain : labelled c ≡ false → fieldsOf c .label ≡ 0 → WellFormedCode c
+  plain n z = general (omega (arith, z)) (rw (n, z))
+
+  -- one that uses a label from 1 to 2^31 + 3: those that are drawn, and the names of print's functions
+  held : labelled c ≡ true → 0 < fieldsOf c .label → fieldsOf c .label < 2147483652 → WellFormedCode c
+  held n z h = general (omega arith) (rw (n, ne-eqb (fieldsOf c .label) 0 (omega arith), lt-ltb (fieldsOf c .label) 2147483652 h))
+
+module _ {l : ℕ} (z : 0 < l) (h : l < 2147483652) where
+  pub jel : WellFormedCode (JEL l)
+  jel = held (JEL l) (omega arith) (omega arith) (omega arith) (omega arith) refl z h
+
+  pub jmpl : WellFormedCode (JMPL l)
+  jmpl = held (JMPL l) (omega arith) (omega arith) (omega arith) (omega arith) refl z h
+
+  pub lab : WellFormedCode (LAB l)
+  lab = held (LAB l) (omega arith) (omega arith) (omega arith) (omega arith) refl z h
+
+  pub call : WellFormedCode (CALL l)
+  call = held (CALL l) (omega arith) (omega arith) (omega arith) (omega arith) refl z h
+
+-- register a, and with it an offset or a value
+module _ {a : ℕ} (h : a < 16) where
+  pub idiv : WellFormedCode (IDIV a)
+  idiv = plain (IDIV a) h (omega arith) (omega arith) (omega arith) refl refl
+
+  pub push : WellFormedCode (PUSH a)
+  push = plain (PUSH a) h (omega arith) (omega arith) (omega arith) refl refl
+
+  pub pop : WellFormedCode (POP a)
+  pop = plain (POP a) h (omega arith) (omega arith) (omega arith) refl refl
+
+  module _ {o : ℕ} (f : o < 2 ^ 64) where
+    pub idivm : WellFormedCode (IDIVM a o)
+    idivm = plain (IDIVM a o) h (omega arith) f (omega arith) refl refl
+
+    module _ {v : ℕ} (q : v < 2 ^ 64) where
+      pub addim : WellFormedCode (ADDIM a o v)
+      addim = plain (ADDIM a o v) h (omega arith) f q refl refl
+
+      pub movim : WellFormedCode (MOVIM a o v)
+      movim = plain (MOVIM a o v) h (omega arith) f q refl refl
+
+      pub cmpim : WellFormedCode (CMPIM a o v)
+      cmpim = plain (CMPIM a o v) h (omega arith) f q refl refl
+
+  module _ {v : ℕ} (q : v < 2 ^ 64) where
+    pub addi : WellFormedCode (ADDI a v)
+    addi = plain (ADDI a v) h (omega arith) (omega arith) q refl refl
+
+    pub subi : WellFormedCode (SUBI a v)
+    subi = plain (SUBI a v) h (omega arith) (omega arith) q refl refl
+
+    pub movi : WellFormedCode (MOVI a v)
+    movi = plain (MOVI a v) h (omega arith) (omega arith) q refl refl
+
+    pub cmpi : WellFormedCode (CMPI a v)
+    cmpi = plain (CMPI a v) h (omega arith) (omega arith) q refl refl
+
+-- registers a and b, and with them an offset
+module _ {a b : ℕ} (h : a < 16) (k : b < 16) where
+  pub add : WellFormedCode (ADD a b)
+  add = plain (ADD a b) h k (omega arith) (omega arith) refl refl
+
+  pub sub : WellFormedCode (SUB a b)
+  sub = plain (SUB a b) h k (omega arith) (omega arith) refl refl
+
+  pub imul : WellFormedCode (IMUL a b)
+  imul = plain (IMUL a b) h k (omega arith) (omega arith) refl refl
+
+  pub mov : WellFormedCode (MOV a b)
+  mov = plain (MOV a b) h k (omega arith) (omega arith) refl refl
+
+  module _ {o : ℕ} (f : o < 2 ^ 64) where
+    pub addrm : WellFormedCode (ADDRM a b o)
+    addrm = plain (ADDRM a b o) h k f (omega arith) refl refl
+
+    pub addmr : WellFormedCode (ADDMR a o b)
+    addmr = plain (ADDMR a o b) h k f (omega arith) refl refl
+
+    pub subrm : WellFormedCode (SUBRM a b o)
+    subrm = plain (SUBRM a b o) h k f (omega arith) refl refl
+
+    pub submr : WellFormedCode (SUBMR a o b)
+    submr = plain (SUBMR a o b) h k f (omega arith) refl refl
+
+    pub imulrm : WellFormedCode (IMULRM a b o)
+    imulrm = plain (IMULRM a b o) h k f (omega arith) refl refl
+
+    pub imulmr : WellFormedCode (IMULMR a o b)
+    imulmr = plain (IMULMR a o b) h k f (omega arith) refl refl
+
+    pub movs : WellFormedCode (MOVS a b o)
+    movs = plain (MOVS a b o) h k f (omega arith) refl refl
+
+    pub movl : WellFormedCode (MOVL a b o)
+    movl = plain (MOVL a b o) h k f (omega arith) refl refl
+
+pub cqo : WellFormedCode CQO
+cqo = plain CQO (omega arith) (omega arith) (omega arith) (omega arith) refl refl

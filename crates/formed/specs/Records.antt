@@ -1,0 +1,34 @@
+-- The records of a tree that is flattened are well formed: its own, and the jumps and labels that flattening adds.
+use Prim.Native.Nat.{ℕ, _+_, _^_, _<_}
+use mathlib.Core.List.{List, [], _∷_, _++_}
+use native.Mathlib.Omega.{arith}
+use Rattle.records.specs.ReadBack.{Each, WellFormedCode}
+use Rattle.trees.specs.Tree.{Tree, nop, leaf, seq, skip-if-zero, if-zero, labels, flatAt}
+use Rattle.formed.specs.Formed.{Formed, none, one, _then_, skipped, chosen}
+use Rattle.formed.specs.Codes.{jel, jmpl, lab}
+
+pub each-append : {A : Type 0} (P : A → Type 0) (xs ys : List A) → Each P xs → Each P ys → Each P (xs ++ ys)
+each-append P [] ys p q = q
+each-append P (x ∷ xs) ys p q = (p .0, each-append P xs ys (p .1) q)
+
+-- where n labels above the counter c are drawn already, and the last that the tree draws is below 2^31
+pub formed-records : (t : Tree) (c n : ℕ) → Formed t → c + (n + labels t) < 2 ^ 31 → Each WellFormedCode (flatAt t c n)
+formed-records nop c n none h = tt
+formed-records (leaf x p) c n (one w) h = (w, tt)
+formed-records (seq t u) c n (f then g) h =
+    each-append WellFormedCode (flatAt t c n) (flatAt u c (n + labels t)) (formed-records t c n f (omega arith)) (formed-records u c (n + labels t) g (omega arith))
+formed-records (skip-if-zero x p t) c n (skipped w f) h =
+    (w, (jel (omega arith) (omega arith), each-append WellFormedCode (flatAt t c n) _ (formed-records t c n f (omega arith)) (lab (omega arith) (omega arith), tt)))
+formed-records (if-zero x p t e) c n (chosen w f g) h = (
+  w,
+  (
+    jel (omega arith) (omega arith),
+    each-append WellFormedCode (flatAt e c (n + labels t)) _ (formed-records e c (n + labels t) g (omega arith)) (
+      jmpl (omega arith) (omega arith),
+      (
+        lab (omega arith) (omega arith),
+        each-append WellFormedCode (flatAt t c n) _ (formed-records t c n f (omega arith)) (lab (omega arith) (omega arith), tt),
+      ),
+    ),
+  ),
+)
