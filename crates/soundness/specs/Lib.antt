@@ -8,3 +8,4 @@ pub mod Dropping  -- drop and store
 pub mod Loading  -- load
 pub mod Carried  -- what the induction carries
 pub mod Changing  -- each order that changes something
+pub mod Stepping  -- one accepted order
