@@ -9,3 +9,4 @@ pub mod Loading  -- load
 pub mod Carried  -- what the induction carries
 pub mod Changing  -- each order that changes something
 pub mod Stepping  -- one accepted order
+pub mod Induction  -- the claim, by induction over the list

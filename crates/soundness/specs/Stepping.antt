@@ -1,7 +1,7 @@
 -- One accepted order, on from a channel: its run ends within its records, and what the induction carries is carried on.
 use mathlib.Core.Bool.{Bool, true, false, cond}
 use mathlib.Core.List.{List, [], _∷_, _++_}
-use mathlib.Core.Path.{_≡_, refl, sym, _∙_, ap, subst}
+use mathlib.Core.Path.{_≡_, refl, sym, _∙_, ap}
 use Prim.Native.Nat.{ℕ, suc, _+_, _*_, _≤_, _<_}
 use native.Mathlib.Nat.{zero-add}
 use native.Mathlib.Omega.{arith}
@@ -13,34 +13,28 @@ use Rattle.records.proofs.OrdersBack.{order-well-formed}
 use Rattle.trees.specs.Tree.{Tree, size, flat}
 use Rattle.layout.specs.Config.{base}
 use Rattle.layout.specs.Positions.{location}
-use Rattle.printing.specs.Print.{printName, printI64}
+use Rattle.printing.specs.Print.{printName}
 use Rattle.printing.specs.Registers.{extAt}
-use Rattle.instructions.specs.Step.{Call, Config}
-use Rattle.instructions.specs.View.{View}
+use Rattle.instructions.specs.Step.{Config}
 use Rattle.machine.specs.declared.run.Answer.the-variants.{Ended}
 use Rattle.machine.specs.Run.{Done, ran}
 use Rattle.heap.specs.Orders.{State}
-use Rattle.heap.specs.Values.{Values, countOf, valueAt}
+use Rattle.heap.specs.Values.{Values, countOf}
 use Rattle.positions.specs.Held.{held, Placed}
-use Rattle.positions.specs.Runs.{Does, so}
+use Rattle.positions.specs.Runs.{Does}
 use Rattle.bridge.specs.Shown.{heapOf}
 use Rattle.bridge.specs.Variables.{variables}
 use Rattle.formed.specs.Orders.{order-formed, order-size}
 use Rattle.contexts.specs.After.{OwedKinds, count-within, context-after}
-use Rattle.orders.specs.Plain.{integerOf, plainly}
+use Rattle.printed.proofs.Printing.{print-does}
+use Rattle.orders.specs.Plain.{plainly}
 use Rattle.orders.specs.Writes.{treeOf, contextAfter, present, kindsOk, asked}
-use Rattle.orders.specs.Answered.{Asked, orderIs, placesIn}
-use Rattle.soundness.specs.Claims.{Item, Channel, stateOf, isAccepted, recordCount, runOf, Owed, acquires, callsOf, changes, Ran}
-use Rattle.soundness.specs.Accepting.{Taken, taken}
+use Rattle.orders.specs.Answered.{orderIs}
+use Rattle.soundness.specs.Claims.{Item, Channel, stateOf, Owed, acquires, callsOf, changes}
+use Rattle.soundness.specs.Accepting.{Taken}
 use Rattle.soundness.specs.Ending.{start, heap-ok, Ends, ends}
-use Rattle.soundness.specs.Appending.{Performed}
-use Rattle.soundness.specs.Carried.{Carried, places-are, carried-on, carried-same}
+use Rattle.soundness.specs.Carried.{Carried, carried-on, carried-same}
 use Rattle.soundness.specs.Changing.{integer-held, changing-does}
-
-abbrev PrintDoes : Type 0
-PrintDoes = (words : ℕ → ℕ) (N : ℕ) (ext : ℕ → Bool) (newline : Bool) (c : Config) (k a : ℕ) → Placed N c → a < k → k ≤ 133 → ext a ≡ true
-     → Does words (printI64 base newline (location (2 * a + 1)) ext k) c
-         (λ d. (variables ext d 0 k ≡ variables ext c 0 k) × (heapOf d ≡ heapOf c) × Placed N d × (d .calls ≡ c .calls ++ (record { name = printName newline; number = held c (location (2 * a + 1)) } ∷ [])))
 
 -- what is owed of kinds alone
 owed-kinds : (bindings : List ℕ) (o : Order) (vs : Values) → Owed bindings o vs → OwedKinds bindings o vs
@@ -83,7 +77,7 @@ module _ (blocks acquired : ℕ) (past : List State) (ch : Channel) (vs : Values
     pub calls : runAt k .last .calls ≡ callsOf O vs
     pub carried : Carried blocks (acquires O + acquired) (pastOf O (stateOf ch vs) past) (record { context = contextAfter (ch .context) k (it .asked .bindings) O; view = runAt k .last .state }) (plainly O vs)
 
-  module _ (print-does : PrintDoes) (f : Carried blocks acquired past ch vs) (w : Taken (ch .context) (it .asked) (countOf vs)) (owed : Owed (it .asked .bindings) O vs) (room : suc (acquires O + acquired) < blocks) where
+  module _ (f : Carried blocks acquired past ch vs) (w : Taken (ch .context) (it .asked) (countOf vs)) (owed : Owed (it .asked .bindings) O vs) (room : suc (acquires O + acquired) < blocks) where
     -- the tree's run, from what the tree does
     ended-by : {Q : Config → Type 0} → Does (it .words) (treeAt (countOf vs)) (start (ch .view)) Q → Ends (it .words) (treeAt (countOf vs)) (it .asked .counter) (ch .view) Q
     ended-by d =
@@ -115,7 +109,7 @@ module _ (blocks acquired : ℕ) (past : List State) (ch : Channel) (vs : Values
         let h : a < countOf vs = ltb-true a (countOf vs) (rw e at (w .there)) in
         let x : extAt (ch .context) a ≡ true = rw e at (w .of-kind) in
         let d : Does (it .words) (treeAt (countOf vs)) (start (ch .view)) (Prints newline a)
-          = rw e (print-does (it .words) blocks (extAt (ch .context)) newline (start (ch .view)) (countOf vs) a (f .placed) h (f .few) x) in
+          = rw e (print-does (it .words) (extAt (ch .context)) newline (start (ch .view)) (countOf vs) a (f .placed) h (f .few) x) in
         let r = ended-by d in
         let q = r .post in
         record {
@@ -126,7 +120,7 @@ module _ (blocks acquired : ℕ) (past : List State) (ch : Channel) (vs : Values
           carried = rw (r .run, e, zero-add acquired) (carried-same f (r .last) (q .0) (q .1) (q .2));
         }
 
-    stepped : SteppedAt (countOf vs)
+    pub stepped : SteppedAt (countOf vs)
     stepped = by O refl
       where
         by : (o : Order) → O ≡ o → SteppedAt (countOf vs)

@@ -1,0 +1,133 @@
+-- STACK brought to a multiple of 16 and back, and the call between.
+use Prim.Native.Nat.{ℕ, suc, _+_, _-_, _%_, _≤_, _<_}
+use mathlib.Core.Path.{_≡_, refl, ap, _∙_}
+use mathlib.Core.Logic.{_≢_}
+use mathlib.Core.Bool.{Bool, true, false, cond}
+use mathlib.Core.List.{List, [], _∷_, _++_}
+use native.Mathlib.Omega.{arith}
+use lib.Dec.{eqb}
+use borrow.Author.Tests.{ne-eqb, eqb-true, eqb-false}
+use Rattle.records.specs.declared.code.Code.the-variants.{ADDI, SUBI, MOV, CALL}
+use Rattle.trees.specs.Tree.{nop, leaf, seq}
+use Rattle.word.specs.Words.{choose}
+use Rattle.layout.specs.Config.{STACK}
+use Rattle.instructions.specs.declared.instruction.Compared.the-variants.{Absent}
+use Rattle.instructions.specs.View.{View, putReg}
+use Rattle.instructions.specs.Step.{Call, Config, config, changed, printed, step}
+use Rattle.printing.specs.Print.{printName}
+use Rattle.structured.specs.Evaluation.{evaluate, done}
+use Rattle.positions.specs.Held.{withRegister}
+use Rattle.positions.specs.HeldLemmas.{upd-same, upd-other}
+use Rattle.positions.specs.RecordLemmas.{register-MOV}
+use Rattle.positions.specs.Runs.{Does, one, go}
+use Rattle.printed.proofs.Stack.{stackAddress, lowered, raised, aligned}
+use Rattle.printed.proofs.Saved.{Beside}
+
+-- only STACK and the compare changed
+pub record Shifted (n : ℕ) (d e : Config) : Type 0 where
+  pub stack-at : e .state .reg 0 ≡ stackAddress n
+  pub others : (j : ℕ) → j ≢ 0 → e .state .reg j ≡ d .state .reg j
+  pub stack-kept : e .state .stk ≡ d .state .stk
+  pub beside : (o : View) (z : List Call) → Beside o z d → Beside o z e
+
+-- the stack's word at a call, where STACK was at word n
+abbrev pub atCall : Bool → ℕ → ℕ
+atCall even n = choose even (n - 1) n
+
+shifted : (d : Config) (n : ℕ) → Shifted n d (changed d (putReg (d .state) 0 (stackAddress n)))
+shifted d n = record {
+  stack-at = upd-same (d .state .reg) 0 (stackAddress n);
+  others = λ j k. upd-other (d .state .reg) 0 (stackAddress n) j k;
+  stack-kept = refl;
+  beside = λ o z b. b;
+}
+
+unshifted : (d : Config) (n : ℕ) → d .state .reg 0 ≡ stackAddress n → Shifted n d d
+unshifted d n e = record { stack-at = e; others = λ j k. refl; stack-kept = refl; beside = λ o z b. b }
+
+module _ (words : ℕ → ℕ) (d : Config) (n : ℕ) (h : 0 < n) (k : n < 320) where
+  pub lowers : (even : Bool) → d .state .reg 0 ≡ stackAddress n → Does words (cond even (leaf (SUBI STACK 8) refl) nop) d (Shifted (atCall even n) d)
+  unfolding step
+  lowers true s =
+      let e : n ≡ suc (n - 1) = omega arith in
+      one {d = changed d (putReg (d .state) 0 (stackAddress (n - 1)))} (rw (s ∙ ap stackAddress e, lowered (n - 1) (omega arith))) (shifted d (n - 1))
+  lowers false s = one refl (unshifted d n s)
+
+  pub raises : (even : Bool) → d .state .reg 0 ≡ stackAddress (atCall even n) → Does words (cond even (leaf (ADDI STACK 8) refl) nop) d (Shifted n d)
+  unfolding step
+  raises true s =
+      let e : suc (n - 1) ≡ n = omega arith in
+      one {d = changed d (putReg (d .state) 0 (stackAddress n))} (rw (s, raised (n - 1) (omega arith), e)) (shifted d n)
+  raises false s = one refl (unshifted d n s)
+
+-- after m pushes from word 57 on
+pub aligned-at : (m : ℕ) → m ≤ 8 → stackAddress (atCall (eqb (m % 2) 0) (57 - m)) % 16 ≡ 0
+aligned-at m h = by (eqb (m % 2) 0) refl
+  where
+    by : (even : Bool) → eqb (m % 2) 0 ≡ even → stackAddress (atCall even (57 - m)) % 16 ≡ 0
+    by true e = let q : m % 2 ≡ 0 = eqb-true (m % 2) 0 e in aligned (57 - m - 1) (omega arith)
+    by false e = let q : m % 2 ≢ 0 = eqb-false (m % 2) 0 e in aligned (57 - m) (omega arith)
+
+abbrev pub callOf : Bool → ℕ → Call
+callOf newline w = record { name = printName newline; number = w }
+
+pub record Called (o : View) (z : List Call) (newline : Bool) (w : ℕ) (registers stack : ℕ → ℕ) (e : Config) : Type 0 where
+  pub reserved : (j : ℕ) → j ≢ 1 → j < 4 → e .state .reg j ≡ registers j
+  pub high : (j : ℕ) → 12 ≤ j → e .state .reg j ≡ registers j
+  pub stack-kept : e .state .stk ≡ stack
+  pub beside : Beside o (z ++ (callOf newline w ∷ [])) e
+
+-- what the call leaves, where STACK is a multiple of 16
+call-is : (words : ℕ → ℕ) (newline : Bool) (c : Config) → c .state .reg 0 % 16 ≡ 0
+    → evaluate words (leaf (CALL (printName newline)) refl) c ≡ done (config (printed words (c .state)) Absent (c .calls ++ (callOf newline (c .state .reg 7) ∷ [])))
+unfolding step
+call-is words true c e = rw e
+call-is words false c e = rw e
+
+module _ (words : ℕ → ℕ) (s : View) where
+  printed-reserved : (j : ℕ) → j ≢ 1 → j < 4 → printed words s .reg j ≡ s .reg j
+  printed-reserved j n h =
+      rw (
+        ne-eqb j 11 (omega arith),
+        ne-eqb j 10 (omega arith),
+        ne-eqb j 9 (omega arith),
+        ne-eqb j 8 (omega arith),
+        ne-eqb j 7 (omega arith),
+        ne-eqb j 6 (omega arith),
+        ne-eqb j 5 (omega arith),
+        ne-eqb j 4 (omega arith),
+        ne-eqb j 1 n,
+      )
+
+  printed-high : (j : ℕ) → 12 ≤ j → printed words s .reg j ≡ s .reg j
+  printed-high j h =
+      rw (
+        ne-eqb j 11 (omega arith),
+        ne-eqb j 10 (omega arith),
+        ne-eqb j 9 (omega arith),
+        ne-eqb j 8 (omega arith),
+        ne-eqb j 7 (omega arith),
+        ne-eqb j 6 (omega arith),
+        ne-eqb j 5 (omega arith),
+        ne-eqb j 4 (omega arith),
+        ne-eqb j 1 (omega arith),
+      )
+
+-- the word w in register x
+pub call-does : (words : ℕ → ℕ) (o : View) (z : List Call) (newline : Bool) (x w : ℕ) (d : Config) → d .state .reg 0 % 16 ≡ 0 → d .state .reg x ≡ w → Beside o z d
+    → Does words (seq (leaf (MOV 7 x) refl) (leaf (CALL (printName newline)) refl)) d (Called o z newline w (d .state .reg) (d .state .stk))
+call-does words o z newline x w d e q b =
+    let y : ℕ = d .state .reg x in
+    let c : Config = withRegister d 7 y in
+    go (register-MOV words d 7 x)
+    (one (call-is words newline c e) (record {
+      reserved = λ j n h. printed-reserved words (c .state) j n h ∙ upd-other (d .state .reg) 7 y j (omega arith);
+      high = λ j h. printed-high words (c .state) j h ∙ upd-other (d .state .reg) 7 y j (omega arith);
+      stack-kept = refl;
+      beside = record {
+        spills = b .spills;
+        heap-kept = b .heap-kept;
+        size-kept = b .size-kept;
+        calls-are = ap (λ (l : List Call). l ++ (callOf newline y ∷ [])) (b .calls-are) ∙ ap (λ (v : ℕ). z ++ (callOf newline v ∷ [])) q;
+      };
+    }))

@@ -1,0 +1,50 @@
+-- What the crate promises of print_i64, from document 01: '`print_i64` has its source in register 7 at the CALL and keeps all variables, if the source is a position
+-- of its context', with STACK where the routine's setup leaves it. Variable v has its Fst at position 2v and its Snd at 2v+1; an integer's Fst is no part of it.
+-- A call is told by its name and by the word in register 7; the nine words that a print leaves in registers 1 and 4..11 are any.
+use Prim.Native.Nat.{ℕ, _+_, _*_, _≤_, _<_}
+use mathlib.Core.Path.{_≡_}
+use mathlib.Core.Bool.{Bool, false}
+use mathlib.Core.List.{List, [], _∷_, _++_}
+use lib.ListN.{length}
+use Rattle.records.specs.declared.check.Checked.the-variants.{Good}
+use Rattle.records.specs.declared.code.Code.{Code}
+use Rattle.records.specs.Contexts.{checkedContext}
+use Rattle.layout.specs.Config.{base, STACK, HEAP, FREE}
+use Rattle.layout.specs.Positions.{location, positions}
+use Rattle.printing.specs.Registers.{extAt}
+use Rattle.printing.specs.Print.{printName, printRecords}
+use Rattle.instructions.specs.declared.instruction.Compared.the-variants.{Absent}
+use Rattle.instructions.specs.View.{View}
+use Rattle.instructions.specs.Step.{Config, config}
+use Rattle.machine.specs.Run.{started}
+use Rattle.structured.specs.Evaluation.{done}
+use Rattle.structured.specs.Claims.{Answers}
+use Rattle.positions.specs.Held.{held, Placed}
+
+-- from c to d a word was printed, and the n variables of these kinds and the heap are as they were
+pub record Prints (newline : Bool) (word : ℕ) (ext : ℕ → Bool) (n : ℕ) (c d : Config) : Type 0 where
+  -- one call more, of the print asked for
+  pub called : d .calls ≡ c .calls ++ (record { name = printName newline; number = word } ∷ [])
+  pub snd-kept : (v : ℕ) → v < n → 2 * v + 1 < positions base → held d (location (2 * v + 1)) ≡ held c (location (2 * v + 1))
+  pub fst-kept : (v : ℕ) → v < n → 2 * v < positions base → ext v ≡ false → held d (location (2 * v)) ≡ held c (location (2 * v))
+  -- spills 0..255, of variables or not
+  pub spills-kept : (l : ℕ) → 16 ≤ l → l < 272 → held d l ≡ held c l
+  pub stack-kept : d .state .reg STACK ≡ c .state .reg STACK
+  pub HEAP-kept : d .state .reg HEAP ≡ c .state .reg HEAP
+  pub FREE-kept : d .state .reg FREE ≡ c .state .reg FREE
+  pub heap-kept : d .state .mem ≡ c .state .mem
+  pub size-kept : d .state .size ≡ c .state .size
+
+-- the records run alone, from the first and with their number as step limit, to their end
+pub record RunsTo (words : ℕ → ℕ) (records : List Code) (v : View) (Q : Config → Type 0) : Type 0 where
+  pub last : Config
+  pub run : Answers (length records) (started words records (length records) v) (done last)
+  pub post : Q last
+
+-- print_i64 of any position of a context of n variables
+unfoldable pub PrintKeepsAllVariables : Type 0
+PrintKeepsAllVariables =
+    (words : ℕ → ℕ) (blocks : ℕ) (v : View) (context : List ℕ) (n p : ℕ) (newline : Bool) → Placed blocks (config v Absent [])
+    → checkedContext context ≡ Good n → p < 2 * n → p < positions base
+    → RunsTo words (printRecords base newline (location p) context (Good n)) v
+    (Prints newline (held (config v Absent []) (location p)) (extAt context) n (config v Absent []))
