@@ -114,4 +114,4 @@ module _ (words : ℕ → ℕ) where
       room nz =
           let p : variable ext s a .fst ≡ held s (location (2 * a)) = rw linked in
           let b = reachable-block s (rep .consistent) mN (en .fits) (omega (arith, variables-pointers ext s 0 e)) (variable ext s a .fst) (start (λ z. nz (sym p ∙ z)) among) in
-          (b .i, b .lt, sym p ∙ b .is, omega (arith, b .small))
+          (b .number, b .inside, sym p ∙ b .address, omega (arith, b .small))

@@ -31,10 +31,10 @@ use Rattle.bridge.specs.Shown.{L, SameFields, head-same, head-off, head-
 
 -- a block of the heap, whose count is far from 2^64
 pub record Block (N : ℕ) (m : ℕ → ℕ) (p : ℕ) : Type 0 where
-  pub i : ℕ
-  pub is : p ≡ blockAddress i
-  pub lt : i < N
-  pub small : m (8 * i + 0) < 4294967296
+  pub number : ℕ
+  pub address : p ≡ blockAddress number
+  pub inside : number < N
+  pub small : m (8 * number + 0) < 4294967296
 
 -- a pointer that the code may follow
 abbrev pub Pointer : ℕ → (ℕ → ℕ) → ℕ → Type 0
@@ -57,7 +57,7 @@ module _ {N n : ℕ} {m : ℕ → ℕ} {heap free : ℕ} {rest lazy live roots :
           let y = named-held p nz (omega (arith, same-self p)) v in
           let r = block-number L n p (omega (arith, v .parts p, y .is-live)) in
           let q : refs (children (blockFields 3 m)) p live ≤ 3 * length live = refs-length (children (blockFields 3 m)) 3 p live (λ x d. size x d) in
-          inr (record { i = r .0; is = r .2; lt = omega (arith, r .1); small = rw (← (header-at 3 m (r .0)), ← (r .2)) (omega (arith, occ-length p (p ∷ roots), y .count, v .size)) })
+          inr (record { number = r .0; address = r .2; inside = omega (arith, r .1); small = rw (← (header-at 3 m (r .0)), ← (r .2)) (omega (arith, occ-length p (p ∷ roots), y .count, v .size)) })
         where
           size : (x : ℕ) → occ x live ≢ 0 → length (children (blockFields 3 m) x) ≤ 3
           size x d = let e = block-number L n x (omega (arith, v .parts x)) in rw (e .2, fields-at 3 m (e .0)) (omega (arith, cells-pointers m (e .0) 0 3))
@@ -72,34 +72,34 @@ module _ (words : ℕ → ℕ) where
       → Does words (eraseRegister r) s (λ t. Erased (s .state .reg r) (s .state .mem) (s .state .reg 3) (t .state .mem) (t .state .reg 3) × Keeps (λ l. l ≢ 3) s t)
   erase-does s r v n (inl z) =
       skip-yes (register-compared words s r 0) (eq-eqb (s .state .reg r) 0 z) (record { did = null z refl; fields = λ x w a b. refl }, keeps-refl)
-  erase-does s r v n (inr b) = skip-no (register-compared words s r 0) (ne-eqb (s .state .reg r) 0 nz) (by (ℕ-discrete (s .state .mem (8 * b .i + 0)) 0))
+  erase-does s r v n (inr b) = skip-no (register-compared words s r 0) (ne-eqb (s .state .reg r) 0 nz) (by (ℕ-discrete (s .state .mem (8 * b .number + 0)) 0))
     where
       nz : s .state .reg r ≢ 0
-      nz z = omega (arith, b .is)
+      nz z = omega (arith, b .address)
 
-      off : (x y : ℕ) → x ≢ s .state .reg r → headers 3 (upd (s .state .mem) (8 * b .i + 0) y) x ≡ headers 3 (s .state .mem) x
-      off x y d = head-off (s .state .mem) (b .i) y x (λ q. d (q ∙ sym (b .is)))
+      off : (x y : ℕ) → x ≢ s .state .reg r → headers 3 (upd (s .state .mem) (8 * b .number + 0) y) x ≡ headers 3 (s .state .mem) x
+      off x y d = head-off (s .state .mem) (b .number) y x (λ q. d (q ∙ sym (b .address)))
 
-      by : Dec (s .state .mem (8 * b .i + 0) ≡ 0) → Does words (if-zero (CMPIM r 0 0) refl (seq (leaf (MOVS 3 r 0) refl) (leaf (MOV 3 r) refl)) (leaf (ADDIM r 0 18446744073709551615) refl)) (dropped s)
+      by : Dec (s .state .mem (8 * b .number + 0) ≡ 0) → Does words (if-zero (CMPIM r 0 0) refl (seq (leaf (MOVS 3 r 0) refl) (leaf (MOV 3 r) refl)) (leaf (ADDIM r 0 18446744073709551615) refl)) (dropped s)
           (λ t. Erased (s .state .reg r) (s .state .mem) (s .state .reg 3) (t .state .mem) (t .state .reg 3) × Keeps (λ l. l ≢ 3) s t)
       by (yes e) =
-          if-yes (block-compared words (dropped s) v r (b .i) 0 0 (b .is) (b .lt) refl (omega arith) 0) (eq-eqb (s .state .mem (8 * b .i + 0)) 0 e)
-          (go (block-MOVS words (dropped s) v r (b .i) 0 0 (b .is) (b .lt) refl (omega arith) 3)
-          (one (register-MOV words (withHeap (dropped s) (8 * b .i + 0) (s .state .reg 3)) 3 r) (
+          if-yes (block-compared words (dropped s) v r (b .number) 0 0 (b .address) (b .inside) refl (omega arith) 0) (eq-eqb (s .state .mem (8 * b .number + 0)) 0 e)
+          (go (block-MOVS words (dropped s) v r (b .number) 0 0 (b .address) (b .inside) refl (omega arith) 3)
+          (one (register-MOV words (withHeap (dropped s) (8 * b .number + 0) (s .state .reg 3)) 3 r) (
             record {
-              did = last-pointer nz (rw (b .is) (header-at 3 (s .state .mem) (b .i) ∙ e)) (rw (b .is) (head-same (s .state .mem) (b .i) (s .state .reg 3))) (λ x d. off x (s .state .reg 3) d);
-              fields = head-fields (s .state .mem) (b .i) (s .state .reg 3);
+              did = last-pointer nz (rw (b .address) (header-at 3 (s .state .mem) (b .number) ∙ e)) (rw (b .address) (head-same (s .state .mem) (b .number) (s .state .reg 3))) (λ x d. off x (s .state .reg 3) d);
+              fields = head-fields (s .state .mem) (b .number) (s .state .reg 3);
             },
             keeps-put 3 (s .state .reg r) (λ l d. d) keeps-refl,
           )))
       by (no e) =
-          let y : ℕ = sum (s .state .mem (8 * b .i + 0)) 18446744073709551615 in
-          let w : suc y ≡ s .state .mem (8 * b .i + 0) = minus-one (s .state .mem (8 * b .i + 0)) e (omega (arith, b .small)) in
-          if-no (block-compared words (dropped s) v r (b .i) 0 0 (b .is) (b .lt) refl (omega arith) 0) (ne-eqb (s .state .mem (8 * b .i + 0)) 0 e)
-          (one (block-ADDIM words (dropped s) v r (b .i) 0 0 (b .is) (b .lt) refl (omega arith) 18446744073709551615) (
+          let y : ℕ = sum (s .state .mem (8 * b .number + 0)) 18446744073709551615 in
+          let w : suc y ≡ s .state .mem (8 * b .number + 0) = minus-one (s .state .mem (8 * b .number + 0)) e (omega (arith, b .small)) in
+          if-no (block-compared words (dropped s) v r (b .number) 0 0 (b .address) (b .inside) refl (omega arith) 0) (ne-eqb (s .state .mem (8 * b .number + 0)) 0 e)
+          (one (block-ADDIM words (dropped s) v r (b .number) 0 0 (b .address) (b .inside) refl (omega arith) 18446744073709551615) (
             record {
-              did = one-less nz (rw (b .is) (ap suc (head-same (s .state .mem) (b .i) y) ∙ w ∙ sym (header-at 3 (s .state .mem) (b .i)))) (λ x d. off x y d);
-              fields = head-fields (s .state .mem) (b .i) y;
+              did = one-less nz (rw (b .address) (ap suc (head-same (s .state .mem) (b .number) y) ∙ w ∙ sym (header-at 3 (s .state .mem) (b .number)))) (λ x d. off x y d);
+              fields = head-fields (s .state .mem) (b .number) y;
             },
             keeps-refl,
           ))

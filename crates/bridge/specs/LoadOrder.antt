@@ -34,16 +34,16 @@ use Rattle.bridge.specs.Variables.{variable, variables, variables-append
 
 module _ {N n : ℕ} {i : ℕ → ℕ} {roots : List ℕ} (s : Config) (g : Consistent L (heapOf s) i n roots) (fits : n ≤ N) (most : N ≤ 1048576) (few : length roots ≤ 1048576) where
   pub object-lies : (c : List Cell) (ch : List (List Cell)) (p : ℕ) → (p ≢ 0 → ReachableFrom (blockFields 3 (s .state .mem)) roots p) → Object (blockFields 3 (s .state .mem)) i p (c ∷ ch) → Lies N (blockFields 3 (s .state .mem)) p (c ∷ ch)
-  object-lies c [] p r o = let b = reachable-block s g fits most few p (r (o .0)) in (b .i, b .lt, b .is, o .1, o .3)
+  object-lies c [] p r o = let b = reachable-block s g fits most few p (r (o .0)) in (b .number, b .inside, b .address, o .1, o .3)
   object-lies c (d ∷ ch) p r o =
       let b = reachable-block s g fits most few p (r (o .0)) in
-      (b .i, b .lt, b .is, o .1, o .3, o .4, object-lies d ch (o .3 .fst) (λ nz. follow p (r (o .0)) nz (rw (o .4) (omega (arith, occ-pointers (o .3 .fst) (o .1) (c ++ (o .3 ∷ [])), occ-pointers (o .3 .fst) c (o .3 ∷ []), same-self (o .3 .fst))))) (o .6))
+      (b .number, b .inside, b .address, o .1, o .3, o .4, object-lies d ch (o .3 .fst) (λ nz. follow p (r (o .0)) nz (rw (o .4) (omega (arith, occ-pointers (o .3 .fst) (o .1) (c ++ (o .3 ∷ [])), occ-pointers (o .3 .fst) c (o .3 ∷ []), same-self (o .3 .fst))))) (o .6))
 
   pub object-may-share : (ch : List (List Cell)) (p k : ℕ) → k ≤ 1048576 → (p ≢ 0 → ReachableFrom (blockFields 3 (s .state .mem)) roots p) → Object (blockFields 3 (s .state .mem)) i p ch → MayShare true N k (s .state .mem) (pointers (concat ch))
   object-may-share ch p k h r o = record {
     each = λ e q m nz.
         let b = reachable-block s g fits most few q (object-pointers {fields′ = blockFields 3 (s .state .mem)} {linked′ = i} (ReachableFrom (blockFields 3 (s .state .mem)) roots) (λ b r. refl) (λ b r. refl) (λ y b r nz m. follow y r nz m) ch p r o q nz m) in
-        (b .i, b .lt, b .is, omega (arith, b .small));
+        (b .number, b .inside, b .address, omega (arith, b .small));
   }
 
 -- the kinds of variables from v on fit the values: an integer variable for an integer, a linked one for an object
@@ -101,7 +101,7 @@ module _ (words : ℕ → ℕ) where
             let b = reachable-block s (rep .consistent) mN (en .fits) few q (r nz) in
             let sn : asVariables ext′ e (concat (d ∷ ch)) ≡ concat (d ∷ ch) = as-variables-all ext′ objectSizes (blockFields 3 (s .state .mem)) (rep .linked) e (cons v ws) (concat (d ∷ ch)) ks a in
             let pt : MayShare true N (countOf (cons v ws)) (s .state .mem) (pointers (asVariables ext′ e (concat (d ∷ ch)))) = rw sn (object-may-share s (rep .consistent) mN (en .fits) few (d ∷ ch) q (countOf (cons v ws)) (omega arith) r o) in
-            so (load-does words ext′ s e (countOf (cons v ws)) q (b .i) (d ∷ ch) en (sym fst-held) (b .is) (b .lt) (omega (arith, b .small)) (object-lies s (rep .consistent) mN (en .fits) few d ch q r o) sz pt (omega arith) vN) (λ u x.
+            so (load-does words ext′ s e (countOf (cons v ws)) q (b .number) (d ∷ ch) en (sym fst-held) (b .address) (b .inside) (omega (arith, b .small)) (object-lies s (rep .consistent) mN (en .fits) few d ch q r o) sz pt (omega arith) vN) (λ u x.
             let vv : variables ext′ u 0 (e + countOf (cons v ws)) ≡ variables ext s 0 e ++ concat (d ∷ ch) = variables-front ext ext′ s u e (countOf (cons v ws)) vN agree (x .2) ∙ ap (λ (y : List Cell). variables ext s 0 e ++ y) (x .0 ∙ sn) in
             (rw vv (taken-performs (variables ext s 0 e) (variable ext s e) d ch (ap pointers sn) sz (object-reads (blockFields 3 (s .state .mem)) (rep .linked) q d ch o) (x .1)), x .2))
 

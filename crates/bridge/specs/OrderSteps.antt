@@ -40,31 +40,31 @@ module _ (words : ℕ → ℕ) where
       → ((count : ℕ) → ReachableCount (blockFields 3 (s .state .mem)) (pointers (variables ext s 0 (r + n))) count → count + length (objectSizes n) < N) → m < N
       → Represents objectSizes L (heapOf s) m (variables ext s 0 (r + n)) values
       → Does words (seq (storeObject base ext r n) t) s
-        (λ z. Advanced objectSizes L m (heapOf z) (variables ext′ z 0 (suc r)) (plain (store n tag) values) × Keeps (λ x. Low x × (x < location (2 * r))) s z × Placed N z)
+      (λ z. Advanced objectSizes L m (heapOf z) (variables ext′ z 0 (suc r)) (plain (store n tag) values) × Keeps (λ x. Low x × (x < location (2 * r))) s z × Placed N z)
   unfolding Legal
   store-advances ext ext′ s r n tag t en h r1 agree linked does room lt rep =
       so (store-order words ext ext′ s r n tag t en h r1 agree linked does room lt rep) (λ z x.
-        (represents-order refl (x .0) tt rep, x .1, placed-keeps (omega (arith, location-free (2 * r) .0)) (x .1) en))
+      (represents-order refl (x .0) tt rep, x .1, placed-keeps (omega (arith, location-free (2 * r) .0)) (x .1) en))
 
   -- the object in the last variable e loaded into variables e and on
   pub load-advances : {N m : ℕ} {values : Values} (ext ext′ : ℕ → Bool) (s : Config) (e tag : ℕ) → Placed N s → m ≤ N → e < 133 → ((x : ℕ) → x < e → ext′ x ≡ ext x) → ext e ≡ false
       → Represents objectSizes L (heapOf s) m (variables ext s 0 e ++ (variable ext s e ∷ [])) values
       → (ws : Values) → e + countOf ws ≤ 133 → valueAt e values ≡ object tag ws → Kinds ext′ e ws
       → Does words (loadObject base ext′ e (countOf ws)) s
-        (λ u. Advanced objectSizes L m (heapOf u) (variables ext′ u 0 (e + countOf ws)) (plain (load (countOf ws)) values) × Keeps (Under e) s u × Placed N u)
+      (λ u. Advanced objectSizes L m (heapOf u) (variables ext′ u 0 (e + countOf ws)) (plain (load (countOf ws)) values) × Keeps (Under e) s u × Placed N u)
   unfolding Legal
   load-advances {values = values} ext ext′ s e tag en mN e1 agree linked rep ws vN is ks =
       let n : countOf values ≡ length (variables ext s 0 e ++ (variable ext s e ∷ []))
-        = hold-count objectSizes (blockFields 3 (s .state .mem)) (rep .linked) values (variables ext s 0 e ++ (variable ext s e ∷ [])) (rep .holds) in
+      = hold-count objectSizes (blockFields 3 (s .state .mem)) (rep .linked) values (variables ext s 0 e ++ (variable ext s e ∷ [])) (rep .holds) in
       let q : countOf values - 1 ≡ e = omega (arith, n, length-append (variables ext s 0 e) (variable ext s e ∷ []), variables-length ext s 0 e) in
       so (load-order words ext ext′ s e tag en mN e1 agree linked rep ws vN is ks) (λ u x.
-        (represents-order refl (x .0) (tag, ws, ap (λ (y : ℕ). valueAt y values) q ∙ is, refl) rep, x .1, placed-keeps (omega (arith, location-free (2 * e) .0)) (x .1) en))
+      (represents-order refl (x .0) (tag, ws, ap (λ (y : ℕ). valueAt y values) q ∙ is, refl) rep, x .1, placed-keeps (omega (arith, location-free (2 * e) .0)) (x .1) en))
 
   -- the last variable's pointer erased
   pub drop-advances : {N m : ℕ} {values : Values} (ext : ℕ → Bool) (s : Config) (e : ℕ) → Placed N s → m ≤ N → e < 133 → ext e ≡ false
       → Represents objectSizes L (heapOf s) m (variables ext s 0 e ++ (variable ext s e ∷ [])) values
       → Does words (eraseBlock base (location (2 * e))) s
-        (λ u. Advanced objectSizes L m (heapOf u) (variables ext u 0 e) (plain drop values) × Keeps (λ x. (x ≢ 1) × (x ≢ 3)) s u × Placed N u)
+      (λ u. Advanced objectSizes L m (heapOf u) (variables ext u 0 e) (plain drop values) × Keeps (λ x. (x ≢ 1) × (x ≢ 3)) s u × Placed N u)
   unfolding Legal
   drop-advances ext s e en mN e1 linked rep =
       so (drop-order words ext s e en mN e1 linked rep) (λ u x. (represents-order refl (x .0) tt rep, x .1, placed-keeps (omega arith) (x .1) en))

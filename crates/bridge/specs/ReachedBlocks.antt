@@ -26,7 +26,7 @@ module _ {N n : ℕ} {i : ℕ → ℕ} {roots : List ℕ} (s : Config) (g : Cons
       let b = block-number L n q (omega (arith, g .invariant .parts q, y .is-live)) in
       let e : refs (children (blockFields 3 (s .state .mem))) q (g .live) ≤ 3 * length (g .live) = refs-length (children (blockFields 3 (s .state .mem))) 3 q (g .live) (λ x d. size x d) in
       let h : headers 3 (s .state .mem) q ≡ s .state .mem (8 * b .0 + 0) = ap (headers 3 (s .state .mem)) (b .2) ∙ header-at 3 (s .state .mem) (b .0) in
-      record { i = b .0; is = b .2; lt = omega (arith, b .1); small = omega (arith, occ-length q roots, y .count, g .invariant .size) }
+      record { number = b .0; address = b .2; inside = omega (arith, b .1); small = omega (arith, occ-length q roots, y .count, g .invariant .size) }
     where
       size : (x : ℕ) → occ x (g .live) ≢ 0 → length (children (blockFields 3 (s .state .mem)) x) ≤ 3
       size x d = let e = block-number L n x (omega (arith, g .invariant .parts x)) in rw (e .2, fields-at 3 (s .state .mem) (e .0)) (omega (arith, cells-pointers (s .state .mem) (e .0) 0 3))
