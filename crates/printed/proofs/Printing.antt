@@ -178,4 +178,4 @@ module _ (words : ℕ → ℕ) (v : View) (u : Tree) where
 pub print-keeps-all-variables : PrintKeepsAllVariables
 unfolding PrintKeepsAllVariables
 print-keeps-all-variables words N v s n p newline h q l k =
-    runs-to words v (printI64 base newline (location p) (extAt s) n) (position-printed words (extAt s) newline (config v Absent []) n h p l k)
+    rw q (runs-to words v (printI64 base newline (location p) (extAt s) n) (position-printed words (extAt s) newline (config v Absent []) n h p l k))

@@ -46,5 +46,5 @@ unfoldable pub PrintKeepsAllVariables : Type 0
 PrintKeepsAllVariables =
     (words : ℕ → ℕ) (blocks : ℕ) (v : View) (context : List ℕ) (n p : ℕ) (newline : Bool) → Placed blocks (config v Absent [])
     → checkedContext context ≡ Good n → p < 2 * n → p < positions base
-    → RunsTo words (printRecords base newline (location p) context (Good n)) v
+    → RunsTo words (printRecords base newline (location p) context (checkedContext context)) v
     (Prints newline (held (config v Absent []) (location p)) (extAt context) n (config v Absent []))

@@ -1,8 +1,9 @@
 -- The claim speaks of something: a list of orders that meets its premises, and what it then says.
 -- put 7; store 1 with tag 5; copy 0; load (shared); drop; an order of no bytes, refused; load (released); print; put 120; store 2 with tag 9.
 use mathlib.Core.Bool.{Bool, true, false, _&&_}
-use mathlib.Core.List.{List, [], _∷_}
-use mathlib.Core.Path.{_≡_, refl}
+use mathlib.Core.List.{List, [], _∷_, _++_, append-nil}
+use mathlib.Core.Logic.{_≢_}
+use mathlib.Core.Path.{_≡_, refl, sym, _∙_, ap}
 use Prim.Native.Nat.{ℕ, _+_, _*_, _≤_, _<_}
 use native.Mathlib.Omega.{arith}
 use lib.Dec.{ltb}
@@ -18,11 +19,13 @@ use Rattle.records.specs.ReadBack.{Bytes}
 use Rattle.records.proofs.Conditions.{and-left, and-right}
 use Rattle.layout.specs.Config.{stackOffset}
 use Rattle.layout.specs.Positions.{location}
-use Rattle.heap.specs.Values.{integer, object, Values, nil, cons}
+use Rattle.heap.specs.Blocks.{Cell, cell}
+use Rattle.heap.specs.Values.{integer, object, Values, nil, cons, concat, lengths, Object, HoldAll}
+use Rattle.bridge.specs.Sizes.{objectSizes}
 use Rattle.orders.specs.Answered.{Asked, answerTo}
 use Rattle.orders.specs.Plain.{plainly}
 use Rattle.orders.specs.Writes.{made, treeOf, contextAfter, present, kindsOk, asked}
-use Rattle.soundness.specs.Claims.{Item, isAccepted, reached, values, acquired, AllOwed, After, HeapStaysSound}
+use Rattle.soundness.specs.Claims.{Item, values, acquired, AllOwed, stateAfter, After, HeapStaysSound}
 use Rattle.soundness.specs.Induction.{heap-stays-sound}
 
 -- a list of bytes, by a test of each
@@ -97,6 +100,9 @@ pub record WorkedListIsSound : Type 0 where
   pub acquires-two : acquired 4 workedList ≡ 2
   pub plain-values : values 4 workedList ≡ workedValues
   pub after : After 4 workedList
+  -- what it says of the variables: one, linked, with tag 9, whose block holds 7 and 120 in its last two fields
+  pub shown : (c : Cell) × (stateAfter 4 workedList .variables ≡ c ∷ []) × (c .snd ≡ 9) × (c .fst ≢ 0)
+      × (unused : List Cell) × (stateAfter 4 workedList .memory .fields (c .fst) ≡ unused ++ (cell 0 7 ∷ cell 0 120 ∷ []))
 
 two : acquired 4 workedList ≡ 2
 unfolding answerTo orderBytes le number checked firstBad bindingStarts bindingBytes orderIn orderOf orderReaders orderOk orderOperandsOk usedByOrder orderStarts treeOf contextAfter present kindsOk asked plainly location stackOffset putSeven storeOne copyIt loadShared dropIt nothing loadReleased printIt putMore storeTwo
@@ -114,6 +120,25 @@ owed =
     no : false ≡ true → ⊥
     no e = let z : _≡_ {A = ℕ} 0 1 = cc in omega arith
 
+-- an object of two integers has one block
+two-held : (fields : ℕ → List Cell) (linked : ℕ → ℕ) (c : Cell) (chunks : List (List Cell)) → Object fields linked (c .fst) chunks → lengths chunks ≡ 2 ∷ []
+    → HoldAll objectSizes fields linked (cons (integer 7) (cons (integer 120) nil)) (concat chunks) → (c .fst ≢ 0) × (unused : List Cell) × (fields (c .fst) ≡ unused ++ (cell 0 7 ∷ cell 0 120 ∷ []))
+two-held fields linked c [] o l h = let z : _≡_ {A = ℕ} 0 1 = cc in absurd (omega arith)
+two-held fields linked c (d ∷ e ∷ chunks) o l h = let z : _≡_ {A = ℕ} 0 1 = cc in absurd (omega arith)
+two-held fields linked c (d ∷ []) o l h =
+    let first = h .0 in
+    let second = h .4 .0 in
+    let is : d ≡ cell 0 7 ∷ cell 0 120 ∷ []
+      = sym (append-nil d) ∙ h .2 ∙ ap (λ (r : List Cell). first ∷ r) (h .4 .2 ∙ ap (λ (r : List Cell). second ∷ r) (h .4 .4))
+        ∙ rw (h .3 .0, h .3 .1, h .4 .3 .0, h .4 .3 .1) in
+    (o .0, o .1, o .3 ∙ ap (λ (x : List Cell). o .1 ++ x) is)
+
 pub worked-list-is-sound : WorkedListIsSound
 unfolding HeapStaysSound
-worked-list-is-sound = record { acquires-two = two; plain-values = plain; after = heap-stays-sound 4 workedList (rw two (omega arith)) (omega arith) owed }
+worked-list-is-sound =
+    let a = heap-stays-sound 4 workedList (rw two (omega arith)) (omega arith) owed in
+    let s = a .sound .heap in
+    let h : HoldAll objectSizes (stateAfter 4 workedList .memory .fields) (s .linked) workedValues (stateAfter 4 workedList .variables) = rw plain at (s .holds) in
+    let o = h .3 in
+    let t = two-held (stateAfter 4 workedList .memory .fields) (s .linked) (h .0) (o .2) (o .3) (o .5) (o .4) in
+    record { acquires-two = two; plain-values = plain; after = a; shown = (h .0, h .2 ∙ ap (λ (r : List Cell). h .0 ∷ r) (h .4), o .0, t .0, t .1, t .2) }

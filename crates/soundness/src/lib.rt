@@ -1,6 +1,12 @@
 // Demand 3: the heap stays sound for every list of orders. The claim is in specs/Claims.antt; its proof cites the theorem.
 ghost use Rattle.soundness.specs.Claims.{HeapStaysSound};
+ghost use Rattle.soundness.specs.Example.{WorkedListIsSound};
 
 pub fn heap_stays_sound()
     ensures { λ r. ⌜ HeapStaysSound ⌝ }
+{}
+
+// that it speaks of something
+pub fn worked_list_is_sound()
+    ensures { λ r. ⌜ WorkedListIsSound ⌝ }
 {}
