@@ -2,3 +2,4 @@ pub mod Puts  -- one operand changed, and what that leaves
 pub mod Records  -- the trees of one record, by what their operands are
 pub mod Computed  -- load_immediate, mov, add, sub and mul
 pub mod Divided  -- div and rem
+pub mod Jumped  -- jumps and compares

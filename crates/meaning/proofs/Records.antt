@@ -91,7 +91,7 @@ module _ (words : ℕ → ℕ) (c : Config) where
 -- ---- what it does
 
 module _ (c : Config) (r : ℕ) (h : r < 16) where
-  register-read : valueOf (c .state) (register r) ≡ Word (held c r)
+  pub register-read : valueOf (c .state) (register r) ≡ Word (held c r)
   register-read = ap Word (sym (held-register (c .state .reg) (c .state .stk) r h))
 
   register-written : (x : ℕ) → assigned (c .state) (register r) x ≡ some (withOperand (c .state) r x)

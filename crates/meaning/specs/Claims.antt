@@ -2,19 +2,28 @@
 -- (registers 4..15 and spills 1..255, the target equal to a source included) and STACK where the routine's setup leaves it.
 -- An operand is a word, register r is r and spill p is 16 + p; `held c l` is the word at operand l. Words are any numbers: sums, differences and
 -- products are taken modulo 2^64 whatever the operands hold.
-use Prim.Native.Nat.{ℕ, _-_, _^_, _≤_, _<_}
+use Prim.Native.Nat.{ℕ, _+_, _-_, _^_, _≤_, _<_}
 use mathlib.Core.Path.{_≡_}
 use mathlib.Core.Logic.{_≢_}
-use mathlib.Core.Bool.{Bool, true, false, _&&_, _||_}
+use mathlib.Core.Bool.{Bool, true, false, not, _&&_, _||_}
+use mathlib.Core.List.{List, [], _∷_, _++_}
 use lib.Dec.{eqb}
+use lib.ListN.{length, drop}
+use Rattle.records.specs.declared.code.Code.{Code}
 use Rattle.records.specs.declared.order.Operation.the-variants.{Add, Sub, Mul, Div, Rem}
 use Rattle.trees.specs.Tree.{Tree}
 use Rattle.layout.specs.Config.{base, TEMP, RETURN1, RETURN2}
 use Rattle.layout.specs.Positions.{operandOk}
-use Rattle.code.specs.Code.{loadImmediate, moved, arithmetic}
-use Rattle.word.specs.Words.{sum, difference, product, quotient, remainder}
+use Rattle.code.specs.declared.emitters.Condition.{Condition}
+use Rattle.code.specs.declared.emitters.Condition.the-variants.{Equal, NotEqual, Less, LessOrEqual, Greater, GreaterOrEqual}
+use Rattle.code.specs.Code.{jumpIf, loadImmediate, moved, arithmetic}
+use Rattle.operations.specs.declared.operation.Operation.the-variants.{JumpLabel, JumpLabelFixed, JumpLabelIf, JumpLabelIfZero, Compare, CompareImmediate}
+use Rattle.operations.specs.Operations.{recordsOf}
+use Rattle.word.specs.Words.{sum, difference, product, quotient, remainder, choose, less}
 use Rattle.instructions.specs.Step.{Config}
+use Rattle.machine.specs.Run.{placesOf}
 use Rattle.structured.specs.Evaluation.{faulted, evaluate}
+use Rattle.structured.specs.Claims.{Reaches}
 use Rattle.positions.specs.Held.{stackWord, held, Keeps, Placed}
 use Rattle.positions.specs.Runs.{Does}
 
@@ -72,3 +81,44 @@ unfoldable pub DividesWhatItNames : Type 0
 DividesWhatItNames =
     (words : ℕ → ℕ) (blocks : ℕ) (c : Config) → Placed blocks c
     → (t x y : ℕ) → operandOk base t ≡ true → operandOk base x ≡ true → operandOk base y ≡ true → DivisionOperands t x y → Divides words c t x y
+
+-- the relation that a condition names, of words as signed numbers
+abbrev pub relation : Condition → ℕ → ℕ → Bool
+relation Equal x y = eqb x y
+relation NotEqual x y = not (eqb x y)
+relation Less x y = less x y
+relation LessOrEqual x y = not (less y x)
+relation Greater x y = less y x
+relation GreaterOrEqual x y = not (less x y)
+
+-- at most `most` steps of the list p lead from place `from` to place `to`, and nothing but TEMP changed
+pub record Goes (words : ℕ → ℕ) (p : List Code) (most from to : ℕ) (c : Config) : Type 0 where
+  pub at : Config
+  pub run : Reaches words p most from to c at
+  pub rest : Unchanged (λ l. l ≢ TEMP) c at
+
+-- records that stand at place i of p go to place j if b, else to the place past them
+abbrev pub GoesIf : Bool → (ℕ → ℕ) → List Code → ℕ → ℕ → List Code → Config → Type 0
+GoesIf b words p i j records c =
+    (rest : List Code) → drop i p ≡ records ++ rest → Goes words p (length records) i (choose b j (i + length records)) c
+
+-- the jumps to a label at place j, from place i
+pub record Jumps (words : ℕ → ℕ) (p : List Code) (label i j : ℕ) (c : Config) : Type 0 where
+  pub jump-label : GoesIf true words p i j (recordsOf base (JumpLabel label)) c
+  pub jump-label-fixed : GoesIf true words p i j (recordsOf base (JumpLabelFixed label)) c
+  -- jump_label_if_equal and the five others: two operands
+  pub jump-label-if : (k : Condition) (x y : ℕ) → operandOk base x ≡ true → operandOk base y ≡ true
+      → GoesIf (relation k (held c x) (held c y)) words p i j (recordsOf base (JumpLabelIf k x y label)) c
+  -- jump_label_if_zero and the five others: an operand and zero
+  pub jump-label-if-zero : (k : Condition) (x : ℕ) → operandOk base x ≡ true
+      → GoesIf (relation k (held c x) 0) words p i j (recordsOf base (JumpLabelIfZero k x label)) c
+  -- compare and compare_immediate, and a conditional jump after them
+  pub compare : (k : Condition) (x y : ℕ) → operandOk base x ≡ true → operandOk base y ≡ true
+      → GoesIf (relation k (held c x) (held c y)) words p i j (recordsOf base (Compare x y) ++ (jumpIf k label ∷ [])) c
+  pub compare-immediate : (k : Condition) (x value : ℕ) → operandOk base x ≡ true
+      → GoesIf (relation k (held c x) value) words p i j (recordsOf base (CompareImmediate x value) ++ (jumpIf k label ∷ [])) c
+
+-- in a list that holds the label once
+unfoldable pub JumpsWhereItNames : Type 0
+JumpsWhereItNames =
+    (words : ℕ → ℕ) (p : List Code) (label i j blocks : ℕ) (c : Config) → placesOf label p 0 ≡ j ∷ [] → Placed blocks c → Jumps words p label i j c

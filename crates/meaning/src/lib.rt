@@ -1,6 +1,6 @@
 // What the records of code.rs's operations do on document 01's machine.
 // Each promise is the claim of a function that does nothing: its statement is in specs/Claims.antt, and its proof cites the theorem.
-ghost use Rattle.meaning.specs.Claims.{ComputesWhatItNames, DividesWhatItNames};
+ghost use Rattle.meaning.specs.Claims.{ComputesWhatItNames, DividesWhatItNames, JumpsWhereItNames};
 
 // load_immediate, mov, add, sub and mul
 pub fn computes_what_it_names()
@@ -10,4 +10,9 @@ pub fn computes_what_it_names()
 // div and rem, where the target differs from both sources and from registers 4 and 5, and the divisor is not register 4
 pub fn divides_what_it_names()
     ensures { λ r. ⌜ DividesWhatItNames ⌝ }
+{}
+
+// jump_label, jump_label_fixed, the twelve conditional jumps, and compare and compare_immediate before one
+pub fn jumps_where_it_names()
+    ensures { λ r. ⌜ JumpsWhereItNames ⌝ }
 {}
