@@ -3,3 +3,4 @@ pub mod Records  -- the trees of one record, by what their operands are
 pub mod Computed  -- load_immediate, mov, add, sub and mul
 pub mod Divided  -- div and rem
 pub mod Jumped  -- jumps and compares
+pub mod Ran  -- the records run alone

@@ -17,11 +17,14 @@ use Rattle.layout.specs.Positions.{operandOk}
 use Rattle.code.specs.declared.emitters.Condition.{Condition}
 use Rattle.code.specs.declared.emitters.Condition.the-variants.{Equal, NotEqual, Less, LessOrEqual, Greater, GreaterOrEqual}
 use Rattle.code.specs.Code.{jumpIf, loadImmediate, moved, arithmetic}
-use Rattle.operations.specs.declared.operation.Operation.the-variants.{JumpLabel, JumpLabelFixed, JumpLabelIf, JumpLabelIfZero, Compare, CompareImmediate}
+use Rattle.operations.specs.declared.operation.Operation.the-variants.{JumpLabel, JumpLabelFixed, JumpLabelIf, JumpLabelIfZero, LoadImmediate, Arithmetic, Mov, Compare, CompareImmediate}
 use Rattle.operations.specs.Operations.{recordsOf}
 use Rattle.word.specs.Words.{sum, difference, product, quotient, remainder, choose, less}
-use Rattle.instructions.specs.Step.{Config}
-use Rattle.machine.specs.Run.{placesOf}
+use Rattle.instructions.specs.declared.instruction.Compared.the-variants.{Absent}
+use Rattle.instructions.specs.View.{View}
+use Rattle.instructions.specs.Step.{Config, config}
+use Rattle.machine.specs.declared.run.Answer.the-variants.{Ended, Fault}
+use Rattle.machine.specs.Run.{placesOf, done, started}
 use Rattle.structured.specs.Evaluation.{faulted, evaluate}
 use Rattle.structured.specs.Claims.{Reaches}
 use Rattle.positions.specs.Held.{stackWord, held, Keeps, Placed}
@@ -122,3 +125,45 @@ pub record Jumps (words : ℕ → ℕ) (p : List Code) (label i j : ℕ) (c : Co
 unfoldable pub JumpsWhereItNames : Type 0
 JumpsWhereItNames =
     (words : ℕ → ℕ) (p : List Code) (label i j blocks : ℕ) (c : Config) → placesOf label p 0 ≡ j ∷ [] → Placed blocks c → Jumps words p label i j c
+
+-- no compare and no call made
+abbrev pub fresh : View → Config
+fresh v = config v Absent []
+
+-- the records alone, from the first and with their number as step limit, run to the end
+pub record EndsWith (words : ℕ → ℕ) (records : List Code) (v : View) (Q : Config → Type 0) : Type 0 where
+  pub steps : ℕ
+  pub within : steps ≤ length records
+  pub last : Config
+  pub run : started words records (length records) v ≡ done (Ended steps) last
+  pub post : Q last
+
+-- they run to a fault, at one of them; a division's, with target t
+pub record FaultsWith (words : ℕ → ℕ) (records : List Code) (v : View) (t : ℕ) : Type 0 where
+  pub steps : ℕ
+  pub within : steps < length records
+  pub place : ℕ
+  pub above : 0 < place
+  pub below : place ≤ length records
+  pub last : Config
+  pub run : started words records (length records) v ≡ done (Fault steps place) last
+  pub rest : Unchanged (λ l. (l ≢ t) × (l ≢ TEMP) × (l ≢ RETURN1) × (l ≢ RETURN2)) (fresh v) last
+
+-- what the records that the operations write do when they are run
+pub record Runs (words : ℕ → ℕ) (v : View) (t x y value : ℕ) : Type 0 where
+  pub load-immediate : EndsWith words (recordsOf base (LoadImmediate t value)) v (Sets t value (fresh v))
+  pub mov : EndsWith words (recordsOf base (Mov t x)) v (Sets t (held (fresh v) x) (fresh v))
+  pub add : EndsWith words (recordsOf base (Arithmetic Add t x y)) v (Sets t (sum (held (fresh v) x) (held (fresh v) y)) (fresh v))
+  pub sub : EndsWith words (recordsOf base (Arithmetic Sub t x y)) v (Sets t (difference (held (fresh v) x) (held (fresh v) y)) (fresh v))
+  pub mul : EndsWith words (recordsOf base (Arithmetic Mul t x y)) v (Sets t (product (held (fresh v) x) (held (fresh v) y)) (fresh v))
+  pub div : DivisionOperands t x y → divisionFaults (held (fresh v) x) (held (fresh v) y) ≡ false
+      → EndsWith words (recordsOf base (Arithmetic Div t x y)) v (Sets t (quotient (held (fresh v) x) (held (fresh v) y)) (fresh v))
+  pub rem : DivisionOperands t x y → divisionFaults (held (fresh v) x) (held (fresh v) y) ≡ false
+      → EndsWith words (recordsOf base (Arithmetic Rem t x y)) v (Sets t (remainder (held (fresh v) x) (held (fresh v) y)) (fresh v))
+  pub div-faults : DivisionOperands t x y → divisionFaults (held (fresh v) x) (held (fresh v) y) ≡ true → FaultsWith words (recordsOf base (Arithmetic Div t x y)) v t
+  pub rem-faults : DivisionOperands t x y → divisionFaults (held (fresh v) x) (held (fresh v) y) ≡ true → FaultsWith words (recordsOf base (Arithmetic Rem t x y)) v t
+
+unfoldable pub RunsAsItNames : Type 0
+RunsAsItNames =
+    (words : ℕ → ℕ) (blocks : ℕ) (v : View) → Placed blocks (fresh v)
+    → (t x y value : ℕ) → operandOk base t ≡ true → operandOk base x ≡ true → operandOk base y ≡ true → Runs words v t x y value

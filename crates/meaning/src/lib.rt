@@ -1,6 +1,6 @@
 // What the records of code.rs's operations do on document 01's machine.
 // Each promise is the claim of a function that does nothing: its statement is in specs/Claims.antt, and its proof cites the theorem.
-ghost use Rattle.meaning.specs.Claims.{ComputesWhatItNames, DividesWhatItNames, JumpsWhereItNames};
+ghost use Rattle.meaning.specs.Claims.{ComputesWhatItNames, DividesWhatItNames, JumpsWhereItNames, RunsAsItNames};
 
 // load_immediate, mov, add, sub and mul
 pub fn computes_what_it_names()
@@ -15,4 +15,9 @@ pub fn divides_what_it_names()
 // jump_label, jump_label_fixed, the twelve conditional jumps, and compare and compare_immediate before one
 pub fn jumps_where_it_names()
     ensures { λ r. ⌜ JumpsWhereItNames ⌝ }
+{}
+
+// the records that the operations without jumps write, run from the first with their number as step limit
+pub fn runs_as_it_names()
+    ensures { λ r. ⌜ RunsAsItNames ⌝ }
 {}
