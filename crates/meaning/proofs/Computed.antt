@@ -1,5 +1,5 @@
 -- load_immediate, mov, add, sub and mul do what they name: one lemma over the operation, for every mixture of registers and spills.
-use Prim.Native.Nat.{ℕ, _+_, _*_, _%_, _^_, _≤_, _<_}
+use Prim.Native.Nat.{ℕ, _%_, _^_, _≤_, _<_}
 use mathlib.Core.Path.{_≡_, refl, sym, ap, _∙_}
 use mathlib.Core.Logic.{_≢_}
 use mathlib.Core.Bool.{Bool, true, false, cond}
@@ -11,7 +11,7 @@ use Rattle.records.specs.declared.code.Code.the-variants.{MOVL}
 use Rattle.trees.specs.Tree.{Tree, leaf, seq}
 use Rattle.layout.specs.Config.{base, STACK, TEMP, stackOffset}
 use Rattle.code.specs.Code.{spillRegister, moveFrom, moveTo, toRegister, toSpill, intoRegister, throughTemp, commutative, subtraction, moved}
-use Rattle.word.specs.Words.{sum, difference, product}
+use Rattle.word.specs.Words.{sum, product}
 use Rattle.instructions.specs.Step.{Config}
 use Rattle.positions.specs.Held.{held, Placed}
 use Rattle.positions.specs.Runs.{Does, then, so}

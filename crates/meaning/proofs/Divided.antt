@@ -1,11 +1,11 @@
 -- div and rem do what they name, or fault: RETURN2 waits in TEMP and RETURN1 in the target while the division uses both.
 use Prim.Native.Nat.{ℕ, _-_, _^_, _≤_, _<_}
-use mathlib.Core.Path.{_≡_, refl, sym, ap, subst, _∙_}
+use mathlib.Core.Path.{_≡_, refl, sym, ap, _∙_}
 use mathlib.Core.Logic.{_≢_}
 use mathlib.Core.Bool.{Bool, true, false, not, cond, _&&_, _||_}
 use native.Mathlib.Omega.{arith}
 use lib.Dec.{ltb, eqb}
-use borrow.Author.Tests.{ltb-true, ltb-false, eq-eqb, ne-eqb, eqb-true, eqb-false}
+use borrow.Author.Tests.{ltb-true, ltb-false, eq-eqb, eqb-true, eqb-false}
 use Rattle.records.specs.declared.code.Code.the-variants.{IDIV, IDIVM, CQO, MOV}
 use Rattle.trees.specs.Tree.{Tree, leaf, seq}
 use Rattle.layout.specs.Config.{base, STACK, TEMP, RETURN1, RETURN2, stackOffset}
@@ -15,12 +15,12 @@ use Rattle.instructions.specs.declared.instruction.Compared.the-variants.{Absen
 use Rattle.instructions.specs.declared.memory.Loaded.the-variants.{Word}
 use Rattle.instructions.specs.View.{putReg}
 use Rattle.instructions.specs.Memory.{Operand, register, memory, valueOf}
-use Rattle.instructions.specs.Step.{Config, config, changed, next, fault, divide, step}
+use Rattle.instructions.specs.Step.{Config, changed, next, fault, divide, step}
 use Rattle.structured.specs.Evaluation.{Evaluated, done, faulted, evaluate, evaluated}
 use Rattle.positions.specs.Held.{held, Placed}
 use Rattle.positions.specs.HeldLemmas.{held-register, placed-keeps}
 use Rattle.positions.specs.PlaceLemmas.{spill-read}
-use Rattle.positions.specs.Runs.{Does, one, then, go, so}
+use Rattle.positions.specs.Runs.{Does, then, go, so}
 use Rattle.meaning.specs.Claims.{Unchanged, Sets, divisionFaults, Stops, DivisionOperands, Divides, DividesWhatItNames}
 use Rattle.meaning.proofs.Puts.{Given, given, unchanged-trans, unchanged-sub, Puts, put, placed-after, puts-other}
 use Rattle.meaning.proofs.Records.{to-does, from-does}

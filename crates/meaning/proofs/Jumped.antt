@@ -1,11 +1,11 @@
 -- Jumps go where they name: a compare leaves the pair of words, and the conditional jump after it goes by their relation.
-use Prim.Native.Nat.{ℕ, suc, _+_, _≤_, _<_}
-use mathlib.Core.Path.{_≡_, refl, sym, ap, subst, _∙_}
+use Prim.Native.Nat.{ℕ, suc, _+_}
+use mathlib.Core.Path.{_≡_, refl, ap, subst, _∙_}
 use mathlib.Core.Logic.{_≢_}
 use mathlib.Core.Bool.{Bool, true, false, cond}
 use mathlib.Core.List.{List, [], _∷_, _++_, append-assoc}
 use native.Mathlib.Omega.{arith}
-use native.Mathlib.Nat.{add-assoc}
+use native.Mathlib.Numerals.{add-one}
 use lib.Dec.{ltb}
 use lib.ListN.{length, length-append, drop}
 use borrow.Author.Tests.{ltb-true, ltb-false}
@@ -24,17 +24,17 @@ use Rattle.instructions.specs.declared.instruction.Compared.the-variants.{Of}
 use Rattle.instructions.specs.Memory.{register, memory, immediate}
 use Rattle.instructions.specs.Step.{Config, dropped, jump, next, step}
 use Rattle.machine.specs.declared.run.Found.the-variants.{At}
-use Rattle.machine.specs.Run.{placesOf, theOne, find}
-use Rattle.structured.specs.Evaluation.{evaluate, evaluated, done}
+use Rattle.machine.specs.Run.{theOne, find}
+use Rattle.structured.specs.Evaluation.{evaluated, done}
 use Rattle.structured.specs.Claims.{Reaches, RunsAs}
-use Rattle.structured.proofs.Steps.{drop-part, after, stepped, jumped}
+use Rattle.structured.proofs.Steps.{drop-part, after, stepped, jumped, mark-does}
 use Rattle.structured.proofs.Trees.{does}
 use Rattle.positions.specs.Held.{held, withPair, Placed}
 use Rattle.positions.specs.HeldLemmas.{keeps-refl}
 use Rattle.positions.specs.PlaceLemmas.{spill-read}
 use Rattle.positions.specs.RecordLemmas.{compares}
 use Rattle.positions.specs.Runs.{Does, one, then}
-use Rattle.meaning.specs.Claims.{Unchanged, relation, Goes, GoesIf, Jumps, JumpsWhereItNames}
+use Rattle.meaning.specs.Claims.{Unchanged, relation, GoesIf, Jumps, JumpsWhereItNames}
 use Rattle.meaning.proofs.Puts.{Given, given, Puts, placed-after, puts-other}
 use Rattle.meaning.proofs.Records.{register-read, to-does}
 
@@ -148,6 +148,7 @@ module _ (words : ℕ → ℕ) (p : List Code) (label i j : ℕ) (c : Config) (f
         record {
           jump-label = always-goes (JMPL label) refl;
           jump-label-fixed = always-goes (JMPLN label) refl;
+          mark = λ name rest e. record { at = dropped c; run = rw (add-one i) (mark-does words p i e c); rest = unpaired (same c) };
           jump-label-if = λ k x y a b. words-go k x y a b;
           jump-label-if-zero = λ k x a. value-goes k x 0 a;
           compare = λ k x y a b. words-go k x y a b;

@@ -1,6 +1,6 @@
 -- One operand changed: what it holds, what stays, and two such changes one after the other.
 use Prim.Native.Nat.{ℕ, _≤_, _<_}
-use mathlib.Core.Path.{_≡_, refl, sym, ap, _∙_}
+use mathlib.Core.Path.{_≡_, refl, _∙_}
 use mathlib.Core.Logic.{_≢_}
 use mathlib.Core.Bool.{Bool, true, false, cond, _&&_, _||_}
 use native.Mathlib.Omega.{arith}
@@ -9,9 +9,9 @@ use borrow.Author.Tests.{ltb-true, ltb-false, leb-true}
 use Rattle.layout.specs.Config.{base, TEMP}
 use Rattle.layout.specs.Positions.{operandOk}
 use Rattle.instructions.specs.declared.instruction.Compared.{Compared}
-use Rattle.instructions.specs.View.{View, putReg, putStk}
+use Rattle.instructions.specs.View.{putReg, putStk}
 use Rattle.instructions.specs.Step.{Config, config}
-use Rattle.positions.specs.Held.{stackWord, held, withOperand, Keeps, Placed}
+use Rattle.positions.specs.Held.{stackWord, held, withOperand, Placed}
 use Rattle.positions.specs.HeldLemmas.{upd-other, operand-same, operand-other, operand-heap, keeps-trans, keeps-sub, placed-keeps}
 use Rattle.meaning.specs.Claims.{Unchanged, Sets}
 

@@ -16,7 +16,7 @@ use Rattle.structured.specs.Evaluation.{Evaluated, evaluate}
 use Rattle.structured.specs.Claims.{Answers, TreeRunsWhole}
 use Rattle.structured.proofs.Trees.{tree-runs-whole}
 use Rattle.positions.specs.Runs.{Does}
-use Rattle.meaning.specs.Claims.{Stops, DividesWhatItNames, ComputesWhatItNames, fresh, EndsWith, FaultsWith, Runs, RunsAsItNames}
+use Rattle.meaning.specs.Claims.{Stops, DividesWhatItNames, ComputesWhatItNames, fresh, EndsWith, FaultsWith, RunsAsItNames}
 use Rattle.meaning.proofs.Computed.{computes-what-it-names}
 use Rattle.meaning.proofs.Divided.{divides-what-it-names}
 

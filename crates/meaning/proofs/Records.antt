@@ -7,16 +7,15 @@ use native.Mathlib.Omega.{arith}
 use lib.Dec.{ltb}
 use borrow.Author.Tests.{lt-ltb, le-ltb}
 use Rattle.records.specs.declared.code.Code.the-variants.{MOV, MOVS, MOVL, MOVI, MOVIM}
-use Rattle.trees.specs.Tree.{Tree, leaf}
-use Rattle.layout.specs.Config.{base, STACK, TEMP, stackOffset}
+use Rattle.trees.specs.Tree.{leaf}
+use Rattle.layout.specs.Config.{base, STACK, stackOffset}
 use Rattle.code.specs.Code.{registerRegister, registerSpill, spillRegister, moveFrom, moveTo, toRegister, loadImmediate}
 use Rattle.word.specs.Words.{sum, difference, product}
 use Rattle.instructions.specs.declared.memory.Loaded.the-variants.{Word}
-use Rattle.instructions.specs.View.{putReg, putStk}
-use Rattle.instructions.specs.Memory.{Operand, register, memory, immediate, valueOf, assigned}
+use Rattle.instructions.specs.Memory.{register, memory, immediate, valueOf, assigned}
 use Rattle.instructions.specs.Step.{Config, move, arithmetic, step}
 use Rattle.structured.specs.Evaluation.{evaluate, evaluated}
-use Rattle.positions.specs.Held.{stackWord, held, operandAt, withOperand, Placed}
+use Rattle.positions.specs.Held.{held, operandAt, withOperand, Placed}
 use Rattle.positions.specs.HeldLemmas.{held-register}
 use Rattle.positions.specs.PlaceLemmas.{operand-read, operand-written, spill-read, spill-written}
 use Rattle.positions.specs.RecordLemmas.{moves, computes}

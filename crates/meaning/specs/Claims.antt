@@ -17,7 +17,7 @@ use Rattle.layout.specs.Positions.{operandOk}
 use Rattle.code.specs.declared.emitters.Condition.{Condition}
 use Rattle.code.specs.declared.emitters.Condition.the-variants.{Equal, NotEqual, Less, LessOrEqual, Greater, GreaterOrEqual}
 use Rattle.code.specs.Code.{jumpIf, loadImmediate, moved, arithmetic}
-use Rattle.operations.specs.declared.operation.Operation.the-variants.{JumpLabel, JumpLabelFixed, JumpLabelIf, JumpLabelIfZero, LoadImmediate, Arithmetic, Mov, Compare, CompareImmediate}
+use Rattle.operations.specs.declared.operation.Operation.the-variants.{Label, JumpLabel, JumpLabelFixed, JumpLabelIf, JumpLabelIfZero, LoadImmediate, Arithmetic, Mov, Compare, CompareImmediate}
 use Rattle.operations.specs.Operations.{recordsOf}
 use Rattle.word.specs.Words.{sum, difference, product, quotient, remainder, choose, less}
 use Rattle.instructions.specs.declared.instruction.Compared.the-variants.{Absent}
@@ -105,10 +105,11 @@ abbrev pub GoesIf : Bool → (ℕ → ℕ) → List Code → ℕ → ℕ → Lis
 GoesIf b words p i j records c =
     (rest : List Code) → drop i p ≡ records ++ rest → Goes words p (length records) i (choose b j (i + length records)) c
 
--- the jumps to a label at place j, from place i
+-- the jumps to a label at place j, from place i; and a label, which does nothing
 pub record Jumps (words : ℕ → ℕ) (p : List Code) (label i j : ℕ) (c : Config) : Type 0 where
   pub jump-label : GoesIf true words p i j (recordsOf base (JumpLabel label)) c
   pub jump-label-fixed : GoesIf true words p i j (recordsOf base (JumpLabelFixed label)) c
+  pub mark : (name : ℕ) → GoesIf false words p i j (recordsOf base (Label name)) c
   -- jump_label_if_equal and the five others: two operands
   pub jump-label-if : (k : Condition) (x y : ℕ) → operandOk base x ≡ true → operandOk base y ≡ true
       → GoesIf (relation k (held c x) (held c y)) words p i j (recordsOf base (JumpLabelIf k x y label)) c

@@ -12,7 +12,7 @@ pub fn divides_what_it_names()
     ensures { λ r. ⌜ DividesWhatItNames ⌝ }
 {}
 
-// jump_label, jump_label_fixed, the twelve conditional jumps, and compare and compare_immediate before one
+// label, jump_label, jump_label_fixed, the twelve conditional jumps, and compare and compare_immediate before one
 pub fn jumps_where_it_names()
     ensures { λ r. ⌜ JumpsWhereItNames ⌝ }
 {}
