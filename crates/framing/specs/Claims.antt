@@ -1,0 +1,89 @@
+-- What the crate promises: a routine entered with STACK at 2^40 − 8 sets up the frame, the free lists and the arguments for its body; and where the body comes
+-- to the cleanup with STACK and the six saved words as they were, the routine returns to its caller with the caller's registers and what the body left in the others.
+-- From into_routine.rs, document 01, 'Machine', and the System V AMD64 ABI: rbx, rbp and r12..r15 are registers 2, 3 and 12..15.
+use Prim.Native.Nat.{ℕ, suc, _+_, _*_, _≤_, _<_}
+use mathlib.Core.Path.{_≡_}
+use mathlib.Core.Logic.{_≢_}
+use mathlib.Core.List.{List, [], _++_}
+use lib.ListN.{length}
+use Rattle.records.specs.declared.code.Code.{Code}
+use Rattle.layout.specs.Config.{base, STACK, HEAP, FREE}
+use Rattle.word.specs.Words.{sum}
+use Rattle.instructions.specs.declared.instruction.Compared.the-variants.{Absent}
+use Rattle.instructions.specs.View.{View}
+use Rattle.instructions.specs.Step.{Config, config}
+use Rattle.machine.specs.declared.run.Answer.the-variants.{Ended}
+use Rattle.machine.specs.Run.{done, started}
+use Rattle.structured.specs.Claims.{Reaches}
+use Rattle.routine.specs.Routine.{argument, head, cleanup}
+
+-- the registers that a function keeps for its caller, in words 313..318 of the stack
+pub record SavedIn (stack registers : ℕ → ℕ) : Type 0 where
+  pub rbx : stack 318 ≡ registers 2
+  pub rbp : stack 317 ≡ registers 3
+  pub r12 : stack 316 ≡ registers 12
+  pub r13 : stack 315 ≡ registers 13
+  pub r14 : stack 314 ≡ registers 14
+  pub r15 : stack 313 ≡ registers 15
+
+-- what the records before the body leave of the state v, with n arguments after the heap's address
+pub record SetUp (n : ℕ) (v : View) (d : Config) : Type 0 where
+  -- 256 spills below the six words
+  pub stack : d .state .reg STACK ≡ 1099511625672
+  -- the heap's first two blocks
+  pub heap : d .state .reg HEAP ≡ v .reg (argument 0)
+  pub free : d .state .reg FREE ≡ sum (v .reg (argument 0)) 64
+  -- argument k + 1 in the Snd of variable k
+  pub arguments : (k : ℕ) → k < n → d .state .reg (5 + 2 * k) ≡ v .reg (argument (suc k))
+  pub saved : SavedIn (d .state .stk) (v .reg)
+  -- the spills and the words below them, and the word that STACK enters at
+  pub below : (i : ℕ) → i < 313 → d .state .stk i ≡ v .stk i
+  pub entry : d .state .stk 319 ≡ v .stk 319
+  pub memory : d .state .mem ≡ v .mem
+  pub size : d .state .size ≡ v .size
+  pub calls : d .calls ≡ []
+
+-- what the cleanup leaves of the configuration b, to a caller with such registers
+pub record Returned (registers : ℕ → ℕ) (b d : Config) : Type 0 where
+  -- 8 more than at entry
+  pub stack : d .state .reg STACK ≡ 1099511627776
+  pub rbx : d .state .reg 2 ≡ registers 2
+  pub rbp : d .state .reg 3 ≡ registers 3
+  pub r12 : d .state .reg 12 ≡ registers 12
+  pub r13 : d .state .reg 13 ≡ registers 13
+  pub r14 : d .state .reg 14 ≡ registers 14
+  pub r15 : d .state .reg 15 ≡ registers 15
+  -- registers 1 and 4..11, with the result in 4
+  pub others : (r : ℕ) → r < 12 → r ≢ STACK → r ≢ 2 → r ≢ 3 → d .state .reg r ≡ b .state .reg r
+  pub words : d .state .stk ≡ b .state .stk
+  pub memory : d .state .mem ≡ b .state .mem
+  pub size : d .state .size ≡ b .state .size
+  pub calls : d .calls ≡ b .calls
+
+abbrev pub routine : ℕ → List Code → List Code
+routine n body = head base n ++ (body ++ cleanup base)
+
+abbrev pub fresh : View → Config
+fresh v = config v Absent []
+
+-- a run of the whole that ends at RET
+pub record Returns (words : ℕ → ℕ) (p : List Code) (limit : ℕ) (v : View) (b : Config) : Type 0 where
+  pub steps : ℕ
+  pub within : steps ≤ limit
+  pub last : Config
+  pub run : started words p limit v ≡ done (Ended steps) last
+  pub state : Returned (v .reg) b last
+
+-- a routine with n arguments around a body, entered in the state v
+pub record Frames (words : ℕ → ℕ) (n : ℕ) (body : List Code) (v : View) : Type 0 where
+  -- the configuration that the body starts from, at place 16 + n
+  pub entered : Config
+  pub enters : Reaches words (routine n body) (16 + n) 0 (16 + n) (fresh v) entered
+  pub state : SetUp n v entered
+  -- if the body comes to the cleanup's place, by its end or by a jump, with STACK and the saved words as they were
+  pub returns : (most : ℕ) (b : Config) → Reaches words (routine n body) most (16 + n) (16 + n + length body) entered b
+      → b .state .reg STACK ≡ 1099511625672 → SavedIn (b .state .stk) (v .reg)
+      → (limit : ℕ) → 16 + n + most + 9 ≤ limit → Returns words (routine n body) limit v b
+
+unfoldable pub RoutineReturns : Type 0
+RoutineReturns = (words : ℕ → ℕ) (n : ℕ) (body : List Code) (v : View) → n ≤ 5 → v .reg STACK ≡ 1099511627768 → Frames words n body v
