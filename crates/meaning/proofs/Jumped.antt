@@ -34,7 +34,7 @@ use Rattle.positions.specs.HeldLemmas.{keeps-refl}
 use Rattle.positions.specs.PlaceLemmas.{spill-read}
 use Rattle.positions.specs.RecordLemmas.{compares}
 use Rattle.positions.specs.Runs.{Does, one, then}
-use Rattle.meaning.specs.Claims.{Unchanged, relation, GoesIf, Jumps, JumpsWhereItNames}
+use Rattle.meaning.specs.Claims.{Unchanged, relation, GoesIf, Jumps, JumpsWhereItNames, LabelDoesNothing}
 use Rattle.meaning.proofs.Puts.{Given, given, Puts, placed-after, puts-other}
 use Rattle.meaning.proofs.Records.{register-read, to-does}
 
@@ -148,7 +148,6 @@ module _ (words : ℕ → ℕ) (p : List Code) (label i j : ℕ) (c : Config) (f
         record {
           jump-label = always-goes (JMPL label) refl;
           jump-label-fixed = always-goes (JMPLN label) refl;
-          mark = λ name rest e. record { at = dropped c; run = rw (add-one i) (mark-does words p i e c); rest = unpaired (same c) };
           jump-label-if = λ k x y a b. words-go k x y a b;
           jump-label-if-zero = λ k x a. value-goes k x 0 a;
           compare = λ k x y a b. words-go k x y a b;
@@ -166,3 +165,7 @@ module _ (words : ℕ → ℕ) (p : List Code) (label i j : ℕ) (c : Config) (f
 pub jumps-where-it-names : JumpsWhereItNames
 unfolding JumpsWhereItNames
 jumps-where-it-names words p label i j N c e v = jumps words p label i j c (ap theOne e) v
+
+pub label-does-nothing : LabelDoesNothing
+unfolding LabelDoesNothing recordsOf
+label-does-nothing words p label i c rest e = record { at = dropped c; run = rw (add-one i) (mark-does words p i e c); rest = unpaired (same c) }

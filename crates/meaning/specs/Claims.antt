@@ -105,11 +105,10 @@ abbrev pub GoesIf : Bool → (ℕ → ℕ) → List Code → ℕ → ℕ → Lis
 GoesIf b words p i j records c =
     (rest : List Code) → drop i p ≡ records ++ rest → Goes words p (length records) i (choose b j (i + length records)) c
 
--- the jumps to a label at place j, from place i; and a label, which does nothing
+-- the jumps to a label at place j, from place i
 pub record Jumps (words : ℕ → ℕ) (p : List Code) (label i j : ℕ) (c : Config) : Type 0 where
   pub jump-label : GoesIf true words p i j (recordsOf base (JumpLabel label)) c
   pub jump-label-fixed : GoesIf true words p i j (recordsOf base (JumpLabelFixed label)) c
-  pub mark : (name : ℕ) → GoesIf false words p i j (recordsOf base (Label name)) c
   -- jump_label_if_equal and the five others: two operands
   pub jump-label-if : (k : Condition) (x y : ℕ) → operandOk base x ≡ true → operandOk base y ≡ true
       → GoesIf (relation k (held c x) (held c y)) words p i j (recordsOf base (JumpLabelIf k x y label)) c
@@ -126,6 +125,10 @@ pub record Jumps (words : ℕ → ℕ) (p : List Code) (label i j : ℕ) (c : Co
 unfoldable pub JumpsWhereItNames : Type 0
 JumpsWhereItNames =
     (words : ℕ → ℕ) (p : List Code) (label i j blocks : ℕ) (c : Config) → placesOf label p 0 ≡ j ∷ [] → Placed blocks c → Jumps words p label i j c
+
+-- a label goes on to the next record, whatever list it stands in
+unfoldable pub LabelDoesNothing : Type 0
+LabelDoesNothing = (words : ℕ → ℕ) (p : List Code) (label i : ℕ) (c : Config) → GoesIf false words p i i (recordsOf base (Label label)) c
 
 -- no compare and no call made
 abbrev pub fresh : View → Config
