@@ -17,4 +17,3 @@ pub mod LoadingOthers  -- the blocks before the last
 pub mod LoadingObject  -- all blocks of an object
 pub mod LoadedObject  -- a load of one value or more
 pub mod LoadOrder  -- a load of any number of values performs the order
-pub mod OrderSteps  -- store, load and drop take the plain machine's step

@@ -18,7 +18,7 @@ use Rattle.heap.specs.Operations.{withHeaders, ReadObject}
 use Rattle.heap.specs.Orders.{load, Performs, loads-none, loads-last, loads-shared}
 use Rattle.heap.specs.Reachability.{start, follow, ReachableFrom}
 use Rattle.heap.specs.ValueLemmas.{object-nonzero, object-pointers, hold-at}
-use Rattle.heap.specs.Values.{Value, integer, object, Values, nil, cons, countOf, valueAt, concat, lengths, Object, Holds, HoldAll}
+use Rattle.heap.specs.Values.{KindsFrom, Value, integer, object, Values, nil, cons, countOf, valueAt, concat, lengths, Object, Holds, HoldAll}
 use Rattle.heap.specs.Words.{blockFields}
 use Rattle.positions.specs.Held.{held, Keeps, Placed}
 use Rattle.positions.specs.HeldLemmas.{keeps-refl, location-grows}
@@ -46,13 +46,7 @@ module _ {N n : ℕ} {i : ℕ → ℕ} {roots : List ℕ} (s : Config) (g : Cons
         (b .number, b .inside, b .address, omega (arith, b .small));
   }
 
--- the kinds of variables from v on fit the values: an integer variable for an integer, a linked one for an object
-abbrev pub Kinds : (ℕ → Bool) → ℕ → Values → Type 0
-Kinds ext v nil = Unit {0}
-Kinds ext v (cons (integer w) vs) = (ext v ≡ true) × Kinds ext (suc v) vs
-Kinds ext v (cons (object t us) vs) = (ext v ≡ false) × Kinds ext (suc v) vs
-
-as-variables-all : (ext : ℕ → Bool) (sh : ℕ → List ℕ) (f : ℕ → List Cell) (i : ℕ → ℕ) (v : ℕ) (vs : Values) (cs : List Cell) → Kinds ext v vs → HoldAll sh f i vs cs → asVariables ext v cs ≡ cs
+as-variables-all : (ext : ℕ → Bool) (sh : ℕ → List ℕ) (f : ℕ → List Cell) (i : ℕ → ℕ) (v : ℕ) (vs : Values) (cs : List Cell) → KindsFrom ext v vs → HoldAll sh f i vs cs → asVariables ext v cs ≡ cs
 as-variables-all ext sh f i v nil cs k a = rw a
 as-variables-all ext sh f i v (cons (integer w) vs) cs k a = rw (a .2, k .0, as-variables-all ext sh f i (suc v) vs (a .1) (k .1) (a .4)) (ap (λ (x : ℕ). cell x (a .0 .snd) ∷ a .1) (sym (a .3 .0)))
 as-variables-all ext sh f i v (cons (object t us) vs) cs k a = rw (a .2, k .0, as-variables-all ext sh f i (suc v) vs (a .1) (k .1) (a .4))
@@ -78,7 +72,7 @@ taken-performs {n = n} {M = M} {M′ = M′} xs c d ch e sz rd (was-shared z w t
 module _ (words : ℕ → ℕ) where
   module _ {N m : ℕ} {values : Values} (ext ext′ : ℕ → Bool) (s : Config) (e tag : ℕ) (en : Placed N s) (mN : m ≤ N) (e1 : e < 133) (agree : (x : ℕ) → x < e → ext′ x ≡ ext x) (linked : ext e ≡ false)
       (rep : Represents objectSizes L (heapOf s) m (variables ext s 0 e ++ (variable ext s e ∷ [])) values) where
-    load-some : (v : Value) (ws : Values) → e + countOf (cons v ws) ≤ 133 → valueAt e values ≡ object tag (cons v ws) → Kinds ext′ e (cons v ws)
+    load-some : (v : Value) (ws : Values) → e + countOf (cons v ws) ≤ 133 → valueAt e values ≡ object tag (cons v ws) → KindsFrom ext′ e (cons v ws)
         → Does words (loadObject base ext′ e (countOf (cons v ws))) s
         (λ u. Performs objectSizes L (heapOf s) (load (countOf (cons v ws))) (variables ext s 0 e ++ (variable ext s e ∷ [])) (heapOf u) (variables ext′ u 0 (e + countOf (cons v ws))) × Keeps (Under e) s u)
     load-some v ws vN is ks = by (H .2) (H .3) (H .4) (H .5)
@@ -106,7 +100,7 @@ module _ (words : ℕ → ℕ) where
             (rw vv (taken-performs (variables ext s 0 e) (variable ext s e) d ch (ap pointers sn) sz (object-reads (blockFields 3 (s .state .mem)) (rep .linked) q d ch o) (x .1)), x .2))
 
     -- the object in variable e loaded into variables e and on, whatever registers and spills they have
-    pub load-order : (ws : Values) → e + countOf ws ≤ 133 → valueAt e values ≡ object tag ws → Kinds ext′ e ws
+    pub load-order : (ws : Values) → e + countOf ws ≤ 133 → valueAt e values ≡ object tag ws → KindsFrom ext′ e ws
         → Does words (loadObject base ext′ e (countOf ws)) s
         (λ u. Performs objectSizes L (heapOf s) (load (countOf ws)) (variables ext s 0 e ++ (variable ext s e ∷ [])) (heapOf u) (variables ext′ u 0 (e + countOf ws)) × Keeps (Under e) s u)
     load-order nil vN is ks =

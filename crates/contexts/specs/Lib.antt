@@ -3,4 +3,3 @@ pub mod Bindings  -- a list is accepted where it is whole bindings
 pub mod Kinds  -- which variables are integers
 pub mod ValueKinds  -- the kinds of values joined, split and copied
 pub mod After  -- the context after each order
-pub mod Kept  -- which variables each order keeps, and the kinds of those that it makes

@@ -3,8 +3,7 @@ use Prim.Native.Nat.{ℕ, zero, suc, _+_, _-_, _≤_, _<_}
 use mathlib.Core.Path.{_≡_, refl, sym, ap, _∙_}
 use mathlib.Core.Bool.{Bool, true, false}
 use native.Mathlib.Omega.{arith}
-use Rattle.heap.specs.Values.{Value, integer, object, Values, nil, cons, countOf, joined, firstOf, restOf, valueAt, copies}
-use Rattle.orders.specs.Plain.{KindsFrom}
+use Rattle.heap.specs.Values.{Value, integer, object, Values, nil, cons, countOf, joined, firstOf, restOf, valueAt, copies, KindsFrom}
 
 -- ---- how many
 
@@ -16,11 +15,6 @@ pub count-first : (n : ℕ) (vs : Values) → n ≤ countOf vs → countOf (firs
 count-first zero vs h = refl
 count-first (suc n) nil h = absurd (omega arith)
 count-first (suc n) (cons v vs) h = ap suc (count-first n vs (omega arith))
-
-pub count-rest : (n : ℕ) (vs : Values) → countOf (restOf n vs) ≡ countOf vs - n
-count-rest zero vs = omega arith
-count-rest (suc n) nil = omega arith
-count-rest (suc n) (cons v vs) = omega (arith, count-rest n vs)
 
 pub count-copies : (n : ℕ) (v : Value) → countOf (copies n v) ≡ n
 count-copies zero v = refl
@@ -59,31 +53,19 @@ module _ (ext : ℕ → Bool) where
   kinds-first v (suc n) nil k = tt
   kinds-first v (suc n) (cons w vs) k = let p = kinds-head v w vs k in kinds-cons v w (firstOf n vs) (p .0) (kinds-first (suc v) n vs (p .1))
 
-  pub kinds-rest : (v n : ℕ) (vs : Values) → KindsFrom ext v vs → KindsFrom ext (v + n) (restOf n vs)
-  kinds-rest v zero vs k = let e : v + 0 ≡ v = omega arith in rw e k
-  kinds-rest v (suc n) nil k = tt
-  kinds-rest v (suc n) (cons w vs) k = let e : v + suc n ≡ suc v + n = omega arith in rw e (kinds-rest (suc v) n vs (kinds-head v w vs k .1))
-
   pub kinds-copies : (v n : ℕ) (w : Value) → ((x : ℕ) → x < n → ext (v + x) ≡ isInteger w) → KindsFrom ext v (copies n w)
   kinds-copies v zero w f = tt
   kinds-copies v (suc n) w f =
       let e : v + 0 ≡ v = omega arith in
       kinds-cons v w (copies n w) (rw e at (f 0 (omega arith))) (kinds-copies (suc v) n w (λ x h. let q : v + suc x ≡ suc v + x = omega arith in rw q at (f (suc x) (omega arith))))
 
-  -- a variable that is an integer has one for its value, and any other an object
+  -- a variable that is an integer has one for its value
   pub integer-at : (v : ℕ) (vs : Values) (a : ℕ) → KindsFrom ext v vs → a < countOf vs → ext (v + a) ≡ true → (w : ℕ) × (valueAt a vs ≡ integer w)
   integer-at v vs a k h e = by (valueAt a vs) refl (sym e ∙ kinds-at v vs a k h)
     where
       by : (w : Value) → valueAt a vs ≡ w → true ≡ isInteger (valueAt a vs) → (n : ℕ) × (valueAt a vs ≡ integer n)
       by (integer w) q t = (w, q)
       by (object tag ws) q t = let f : true ≡ false = rw q at t in let z : _≡_ {A = ℕ} 0 1 = cc in absurd (omega arith)
-
-  pub object-at : (v : ℕ) (vs : Values) (a : ℕ) → KindsFrom ext v vs → a < countOf vs → ext (v + a) ≡ false → (tag : ℕ) × (ws : Values) × (valueAt a vs ≡ object tag ws)
-  object-at v vs a k h e = by (valueAt a vs) refl (sym e ∙ kinds-at v vs a k h)
-    where
-      by : (w : Value) → valueAt a vs ≡ w → false ≡ isInteger (valueAt a vs) → (tag : ℕ) × (ws : Values) × (valueAt a vs ≡ object tag ws)
-      by (integer w) q t = let f : false ≡ true = rw q at t in let z : _≡_ {A = ℕ} 0 1 = cc in absurd (omega arith)
-      by (object tag ws) q t = (tag, ws, q)
 
 -- the same values from another variable on, where the kinds are the same
 pub kinds-moved : (ext ext′ : ℕ → Bool) (v v′ : ℕ) (vs : Values) → ((x : ℕ) → x < countOf vs → ext′ (v′ + x) ≡ ext (v + x)) → KindsFrom ext v vs → KindsFrom ext′ v′ vs
@@ -99,6 +81,3 @@ kinds-moved ext ext′ v v′ (cons w vs) f k =
         let e : v + suc x ≡ suc v + x = omega arith in
         let e′ : v′ + suc x ≡ suc v′ + x = omega arith in
         rw (e, e′) at q
-
-pub kinds-agree : (ext ext′ : ℕ → Bool) (v : ℕ) (vs : Values) → ((x : ℕ) → v ≤ x → x < v + countOf vs → ext′ x ≡ ext x) → KindsFrom ext v vs → KindsFrom ext′ v vs
-kinds-agree ext ext′ v vs f k = kinds-moved ext ext′ v v vs (λ x h. f (v + x) (omega arith) (omega arith)) k

@@ -1,5 +1,6 @@
 -- The plain machine's values, and what it means that a variable or a field holds one.
 -- From document 01, 'Plain machine of demand 3': linked holds its tag in Snd and its list by Fst, 0 if empty, else the object.
+use mathlib.Core.Bool.{Bool, true, false}
 use mathlib.Core.Path.{_≡_}
 use mathlib.Core.Logic.{_≢_}
 use mathlib.Core.List.{List, [], _∷_, _++_}
@@ -43,6 +44,12 @@ valueAt (suc n) (cons v vs) = valueAt n vs
 abbrev pub copies : ℕ → Value → Values
 copies zero v = nil
 copies (suc n) v = cons v (copies n v)
+
+-- a variable for each value, of its kind: `ext v` says that variable v is an integer
+abbrev pub KindsFrom : (ℕ → Bool) → ℕ → Values → Type 0
+KindsFrom ext v nil = Unit {0}
+KindsFrom ext v (cons (integer w) vs) = (ext v ≡ true) × KindsFrom ext (suc v) vs
+KindsFrom ext v (cons (object tag ws) vs) = (ext v ≡ false) × KindsFrom ext (suc v) vs
 
 -- an object's values in chunks, one to a block
 abbrev pub concat : List (List Cell) → List Cell

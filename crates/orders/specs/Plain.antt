@@ -10,7 +10,7 @@ use Rattle.records.specs.declared.order.Order.{Order}
 use Rattle.records.specs.declared.order.Order.the-variants.{Put, Compute, Copy, Drop, Store, Load, Print}
 use Rattle.word.specs.Words.{sum, difference, product, quotient, remainder}
 use Rattle.printing.specs.Registers.{extAt}
-use Rattle.heap.specs.Values.{Value, integer, object, Values, nil, cons, countOf, joined, firstOf, restOf, valueAt, copies}
+use Rattle.heap.specs.Values.{Value, integer, object, Values, nil, cons, countOf, joined, firstOf, restOf, valueAt, copies, KindsFrom}
 
 -- a value's integer, and its list
 abbrev pub integerOf : Value → ℕ
@@ -48,12 +48,6 @@ plainly Drop vs = firstOf (countOf vs - 1) vs
 plainly (Store n tag) vs = joined (firstOf (countOf vs - n) vs) (cons (object tag (restOf (countOf vs - n) vs)) nil)
 plainly (Load n) vs = joined (firstOf (countOf vs - 1) vs) (listOf (valueAt (countOf vs - 1) vs))
 plainly (Print newline a) vs = vs
-
--- a variable for each value, of its kind: `ext v` says that variable v is an integer
-abbrev pub KindsFrom : (ℕ → Bool) → ℕ → Values → Type 0
-KindsFrom ext v nil = Unit {0}
-KindsFrom ext v (cons (integer w) vs) = (ext v ≡ true) × KindsFrom ext (suc v) vs
-KindsFrom ext v (cons (object tag ws) vs) = (ext v ≡ false) × KindsFrom ext (suc v) vs
 
 -- n bindings name the kinds that an object was stored with
 abbrev pub AsStored : List ℕ → ℕ → Value → Type 0

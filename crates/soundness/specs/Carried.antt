@@ -18,13 +18,13 @@ use Rattle.heap.specs.Invariant.{Represents}
 use Rattle.heap.specs.OrderLemmas.{storedBy}
 use Rattle.heap.specs.Orders as abstract
 use Rattle.heap.specs.Orders.{State, Run, Performs, plain, Legal}
-use Rattle.heap.specs.Values.{integer, object, Value, Values, countOf, joined, firstOf, valueAt}
+use Rattle.heap.specs.Values.{integer, object, Value, Values, countOf, joined, firstOf, valueAt, KindsFrom}
 use Rattle.positions.specs.Held.{Placed}
 use Rattle.bridge.specs.Shown.{L, heapOf}
 use Rattle.bridge.specs.Sizes.{objectSizes}
 use Rattle.bridge.specs.Variables.{variables}
 use Rattle.orders.specs.Answered.{placesIn}
-use Rattle.orders.specs.Plain.{integerOf, listOf, result, plainly, KindsFrom, AsStored}
+use Rattle.orders.specs.Plain.{integerOf, listOf, result, plainly, AsStored}
 use Rattle.soundness.specs.Claims.{Channel, stateOf, acquires, changes, Owed}
 use Rattle.soundness.specs.Ending.{start}
 use Rattle.soundness.specs.Appending.{Performed}

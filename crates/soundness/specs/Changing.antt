@@ -19,19 +19,18 @@ use Rattle.memory.specs.Objects.{extIn, storeObject, loadObject}
 use Rattle.printing.specs.Registers.{extAt}
 use Rattle.instructions.specs.Step.{Config}
 use Rattle.heap.specs.ValueLemmas.{hold-at}
-use Rattle.heap.specs.Values.{Value, integer, object, Values, nil, cons, countOf, joined, firstOf, restOf, copies, valueAt, Holds}
+use Rattle.heap.specs.Values.{Value, integer, object, Values, nil, cons, countOf, joined, firstOf, restOf, copies, valueAt, Holds, KindsFrom}
 use Rattle.heap.specs.Orders as abstract
 use Rattle.heap.specs.Orders.{State}
 use Rattle.positions.specs.Held.{held}
 use Rattle.positions.specs.Runs.{Does, so}
-use Rattle.bridge.specs.LoadOrder.{Kinds}
 use Rattle.bridge.specs.Shown.{heapOf}
 use Rattle.bridge.specs.Sizes.{objectSizes}
 use Rattle.bridge.specs.Variables.{variable, variables, variables-length}
 use Rattle.contexts.specs.Bindings.{good-length}
 use Rattle.contexts.specs.Kinds.{ext-left, ext-right, ext-take, ext-made, ext-made-all, kind-at, ext-in, ext-in-whole}
 use Rattle.contexts.specs.ValueKinds.{count-joined, count-first, count-copies, integer-at, kinds-moved}
-use Rattle.orders.specs.Plain.{integerOf, listOf, result, resultDefined, plainly, KindsFrom, AsStored}
+use Rattle.orders.specs.Plain.{integerOf, listOf, result, resultDefined, plainly, AsStored}
 use Rattle.orders.specs.Writes.{made, madeAll, kindAt, treeOf, contextAfter, present, kindsOk, asked}
 use Rattle.soundness.specs.Claims.{Channel, acquires, changes, Owed}
 use Rattle.soundness.specs.Ending.{start}
@@ -40,12 +39,6 @@ use Rattle.soundness.specs.Copying.{among, copy-does}
 use Rattle.soundness.specs.Dropping.{drop-does, store-does}
 use Rattle.soundness.specs.Loading.{load-does}
 use Rattle.soundness.specs.Carried.{Carried, abstractly}
-
--- the two ways to say that variables have values' kinds
-kinds-as : (ext : ℕ → Bool) (v : ℕ) (vs : Values) → KindsFrom ext v vs → Kinds ext v vs
-kinds-as ext v nil k = tt
-kinds-as ext v (cons (integer w) vs) k = (k .0, kinds-as ext (suc v) vs (k .1))
-kinds-as ext v (cons (object tag ws) vs) k = (k .0, kinds-as ext (suc v) vs (k .1))
 
 -- as many variables as the plain machine has values after the order
 recounted : {words : ℕ → ℕ} {blocks : ℕ} {c : Config} {o : _} {ext ext′ : ℕ → Bool} {k j n : ℕ} {t : _} → n ≡ j → Does words t c (Performed blocks c o ext ext′ k j) → Does words t c (Performed blocks c o ext ext′ k n)
@@ -170,7 +163,7 @@ module _ (words : ℕ → ℕ) {blocks acquired : ℕ} {past : List State} {ch :
                   (λ x l. ext-left front bindings e whole x l ∙ ext-take (ch .context) e x l) linked
                   (λ x l h. let y : e + (x - e) ≡ x = omega arith in rw y at (ext-in bindings e (x - e) ∙ sym (ext-right front bindings e whole (x - e))))
                   (ap (λ (m : ℕ). valueAt m vs) (sym z) ∙ is)
-                  (kinds-as (extAt (front ++ bindings)) e ws (kinds-moved (extAt bindings) (extAt (front ++ bindings)) 0 e ws (λ x l. let y : 0 + x ≡ x = omega arith in rw y (ext-right front bindings e whole x)) (a .1)))
+                  (kinds-moved (extAt bindings) (extAt (front ++ bindings)) 0 e ws (λ x l. let y : 0 + x ≡ x = omega arith in rw y (ext-right front bindings e whole x)) (a .1))
                   (rw q at (f .represents)) in
             recounted c (rw (z, q, ← (a .0)) d)
 

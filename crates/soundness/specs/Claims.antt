@@ -20,7 +20,7 @@ use Rattle.instructions.specs.Step.{Call}
 use Rattle.machine.specs.declared.run.Answer.the-variants.{Ended}
 use Rattle.machine.specs.State.{see, freshState}
 use Rattle.machine.specs.Run.{Done, ran}
-use Rattle.heap.specs.Values.{Values, nil, countOf, valueAt}
+use Rattle.heap.specs.Values.{Values, nil, countOf, valueAt, KindsFrom}
 use Rattle.heap.specs.Words.{memoryOf}
 use Rattle.heap.specs.WordLemmas.{layout}
 use Rattle.heap.specs.Orders.{State}
@@ -28,7 +28,7 @@ use Rattle.heap.specs.Claims.{HeapAfter}
 use Rattle.bridge.specs.Sizes.{objectSizes}
 use Rattle.bridge.specs.Variables.{variablesIn}
 use Rattle.orders.specs.Answered.{Asked, accepted, orderIs, placesIn, orderTree, orderContext, answerTo, recordsOf}
-use Rattle.orders.specs.Plain.{integerOf, resultDefined, plainly, KindsFrom, AsStored}
+use Rattle.orders.specs.Plain.{integerOf, resultDefined, plainly, AsStored}
 
 -- one item of a list: any bytes as order and bindings, any counter and output lengths, any nine words
 pub record Item : Type 0 where

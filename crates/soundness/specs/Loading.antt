@@ -14,11 +14,11 @@ use Rattle.instructions.specs.Step.{Config}
 use Rattle.memory.specs.Objects.{fst, chunks, capacity, freed, loadValue, loadValues, loadBody, loadSpilled, loadBlock, loadOthers, loadSome, loadObject}
 use Rattle.heap.specs.Invariant.{Represents}
 use Rattle.heap.specs.Orders.{load, Performs}
-use Rattle.heap.specs.Values.{object, Values, countOf, valueAt}
+use Rattle.heap.specs.Values.{object, Values, countOf, valueAt, KindsFrom}
 use Rattle.positions.specs.Held.{Keeps, Placed}
 use Rattle.positions.specs.HeldLemmas.{placed-keeps, location-fits}
 use Rattle.positions.specs.Runs.{Does, so}
-use Rattle.bridge.specs.LoadOrder.{Kinds, load-order}
+use Rattle.bridge.specs.LoadOrder.{load-order}
 use Rattle.bridge.specs.Shown.{L, heapOf}
 use Rattle.bridge.specs.Sizes.{objectSizes}
 use Rattle.bridge.specs.Variables.{variable, variables, variables-snoc}
@@ -52,7 +52,7 @@ module _ (f g : ℕ → Bool) where
 module _ (words : ℕ → ℕ) {N m : ℕ} {values : Values} (ext ext′ : ℕ → Bool) (c : Config) (v : Placed N c) where
   -- the variable e is the last, and loads as `own` says
   pub load-does : (own : ℕ → Bool) (e tag : ℕ) (ws : Values) → m ≤ N → e < 133 → e + countOf ws ≤ 133 → ((x : ℕ) → x < e → ext′ x ≡ ext x) → ext e ≡ false
-      → ((x : ℕ) → e ≤ x → x < e + countOf ws → own x ≡ ext′ x) → valueAt e values ≡ object tag ws → Kinds ext′ e ws
+      → ((x : ℕ) → e ≤ x → x < e + countOf ws → own x ≡ ext′ x) → valueAt e values ≡ object tag ws → KindsFrom ext′ e ws
       → Represents objectSizes L (heapOf c) m (variables ext c 0 (suc e)) values
       → Does words (loadObject base own e (countOf ws)) c (Performed N c (load (countOf ws)) ext ext′ (suc e) (e + countOf ws))
   load-does own e tag ws mN h most agree linked alike is kinds rep =
