@@ -1,0 +1,6 @@
+// Document 01's worked numbers on operations, those that it asks to be proved: one table, one theorem.
+ghost use Rattle.worked.specs.Worked.{WorkedNumbers};
+
+pub fn worked_numbers()
+    ensures { λ r. ⌜ WorkedNumbers ⌝ }
+{}
