@@ -22,6 +22,7 @@ mod programs;
 mod random;
 mod reading;
 mod record;
+mod replay_file;
 mod request;
 mod rust_side;
 mod well_formed;
@@ -35,6 +36,7 @@ const USAGE: &str = "\
 oracle compare rust|port                           answers requests on standard input
 oracle differ                                      puts them to both and counts differences
 oracle generate emission|sample|checks [OPTIONS]   writes requests (--count 1000, --seed 1)
+oracle replay-file                                 writes requests with the Rust's answers for the program replay
 oracle agree [OPTIONS]                             holds the port against document 01
                                                    (--count 100000, --seed 1)
 oracle machine-agree [OPTIONS]                     holds the port's machine against document 01
@@ -84,6 +86,13 @@ fn run(words: &[&str]) -> Result<bool, Failure> {
             let (count, seed) = options_of(options, 1_000)?;
             let list = generate::list(kind, count, seed).ok_or(Failure::Usage)?;
             write_lines(&list).map_err(Failure::Files)?;
+        }
+        ["replay-file"] => {
+            let mut output = std::io::BufWriter::new(std::io::stdout().lock());
+            let (written, left) =
+                replay_file::write(requests(input), &mut output).map_err(Failure::Files)?;
+            output.flush().map_err(Failure::Files)?;
+            eprintln!("{written} requests written, {left} left out");
         }
         ["agree", options @ ..] => {
             let (count, seed) = options_of(options, 100_000)?;

@@ -1,12 +1,17 @@
-//! Runs `compare rust` on requests.
+//! Runs the oracle on requests.
 
 use std::io::Write;
 use std::process::{Command, Stdio};
 
 /// What `compare rust` writes for a list of requests.
 pub fn compare_rust(requests: &str) -> String {
+    String::from_utf8(run(&["compare", "rust"], requests)).unwrap()
+}
+
+/// What the oracle writes for a list of requests, by the command that the words give.
+pub fn run(words: &[&str], requests: &str) -> Vec<u8> {
     let mut command = Command::new(env!("CARGO_BIN_EXE_oracle"));
-    command.args(["compare", "rust"]);
+    command.args(words);
     command.stdin(Stdio::piped()).stdout(Stdio::piped());
     let mut child = command.spawn().unwrap();
     let mut input = child.stdin.take().unwrap();
@@ -15,5 +20,5 @@ pub fn compare_rust(requests: &str) -> String {
     let output = child.wait_with_output().unwrap();
     writer.join().unwrap();
     assert!(output.status.success());
-    String::from_utf8(output.stdout).unwrap()
+    output.stdout
 }

@@ -1,0 +1,73 @@
+// The port's answer to a request against the Rust's.
+use crate::checksum;
+use crate::perform;
+use crate::perform::Answered;
+use crate::request::Request;
+
+pub enum Agreed {
+    Yes,
+    No,
+    // nothing to read
+    Ended,
+}
+
+// The Rust has no numbers for its failures: where it panics, 255 is stored, and 4, 6 and 8 agree with that.
+fn numbers_agree(rust: u8, port: u8) -> bool {
+    if rust == 255 {
+        return port == 4 || port == 6 || port == 8;
+    }
+    rust == port
+}
+
+// Queries write no records.
+fn records_agree(out: &[u8], r: Request) -> bool {
+    if 19 < r.operation {
+        return true;
+    }
+    let n = r.value as usize;
+    if out.len() / 24 < n {
+        return false;
+    }
+    checksum::checksum(out, 24 * n) == r.sum
+}
+
+fn agrees(out: &[u8], r: Request, answered: Answered) -> bool {
+    if numbers_agree(r.number, answered.number) {} else {
+        return false;
+    }
+    if 0 < answered.number {
+        return true;
+    }
+    if answered.value == r.value {} else {
+        return false;
+    }
+    if answered.counter == r.after {} else {
+        return false;
+    }
+    records_agree(out, r)
+}
+
+pub fn replay(out: &mut [u8], r: Request, first: &[u8], second: &[u8]) -> Agreed {
+    let answered = perform::perform(out, r, first, second);
+    if agrees(out, r, answered) {
+        Agreed::Yes
+    } else {
+        Agreed::No
+    }
+}
+
+pub fn is_no(agreed: Agreed) -> bool {
+    match agreed {
+        Agreed::Yes => false,
+        Agreed::No => true,
+        Agreed::Ended => false,
+    }
+}
+
+pub fn is_ended(agreed: Agreed) -> bool {
+    match agreed {
+        Agreed::Yes => false,
+        Agreed::No => false,
+        Agreed::Ended => true,
+    }
+}

@@ -1,0 +1,158 @@
+// A request put to the port.
+use crate::request::Request;
+use code::emitters::Condition;
+use emit::answer::Answer;
+use layout::utils::Temporary;
+use layout::utils::TemporaryNumber;
+use operations::operation::Operation;
+use records::order;
+
+// What the port answers: document 01's number, 0 where it is not refused; records or another number; the counter after.
+pub struct Answered {
+    pub number: u8,
+    pub value: u64,
+    pub counter: u64,
+}
+
+fn refused(number: u8) -> Answered {
+    Answered {
+        number,
+        value: 0,
+        counter: 0,
+    }
+}
+
+fn found(value: u64) -> Answered {
+    Answered {
+        number: 0,
+        value,
+        counter: 0,
+    }
+}
+
+fn of_answer(answer: Answer) -> Answered {
+    match answer {
+        Answer::Written(n, counter) => Answered {
+            number: 0,
+            value: n as u64,
+            counter,
+        },
+        Answer::Context => refused(1),
+        Answer::Body(_) => refused(2),
+        Answer::Operand => refused(3),
+        Answer::Missing => refused(4),
+        Answer::Arguments => refused(6),
+        Answer::Count => refused(7),
+        Answer::Position => refused(8),
+        Answer::Labels => refused(9),
+        Answer::Room(_) => refused(10),
+    }
+}
+
+fn of_temporary(temporary: Temporary) -> Answered {
+    match temporary {
+        Temporary::Operand(w) => found(w),
+        Temporary::Malformed => refused(1),
+        Temporary::Missing => refused(4),
+        Temporary::OutOfTemporaries => refused(8),
+    }
+}
+
+fn condition(kind: u8) -> Condition {
+    match kind {
+        0 => Condition::Equal,
+        1 => Condition::NotEqual,
+        2 => Condition::Less,
+        3 => Condition::LessOrEqual,
+        4 => Condition::Greater,
+        _ => Condition::GreaterOrEqual,
+    }
+}
+
+fn arithmetic(kind: u8) -> order::Operation {
+    match kind {
+        0 => order::Operation::Add,
+        1 => order::Operation::Sub,
+        2 => order::Operation::Mul,
+        3 => order::Operation::Div,
+        _ => order::Operation::Rem,
+    }
+}
+
+fn half(kind: u8) -> TemporaryNumber {
+    if kind == 0 {
+        TemporaryNumber::Fst
+    } else {
+        TemporaryNumber::Snd
+    }
+}
+
+// Operations 1 to 13.
+fn operation(r: Request) -> Operation {
+    let number = r.operation;
+    match number {
+        1 => Operation::Label(r.label),
+        2 => Operation::Jump(r.x),
+        3 => Operation::JumpLabel(r.label),
+        4 => Operation::JumpLabelFixed(r.label),
+        5 => Operation::JumpLabelIf(condition(r.kind), r.x, r.y, r.label),
+        6 => Operation::JumpLabelIfZero(condition(r.kind), r.x, r.label),
+        7 => Operation::LoadImmediate(r.x, r.z),
+        8 => Operation::LoadLabel(r.x, r.label),
+        9 => Operation::AddAndJump(r.x, r.z),
+        10 => Operation::Arithmetic(arithmetic(r.kind), r.x, r.y, r.z),
+        11 => Operation::Mov(r.x, r.y),
+        12 => Operation::Compare(r.x, r.y),
+        _ => Operation::CompareImmediate(r.x, r.z),
+    }
+}
+
+fn stack_offset(spill: u64) -> Answered {
+    if spill < 256 {
+        found(layout::config::stack_offset(16 + spill))
+    } else {
+        refused(3)
+    }
+}
+
+fn field_offset(kind: u8, field: u64) -> Answered {
+    if field < 3 {
+        if kind == 0 {
+            found(layout::config::fst_offset(field))
+        } else {
+            found(layout::config::snd_offset(field))
+        }
+    } else {
+        refused(3)
+    }
+}
+
+// Queries 20 to 24; any other number is no request.
+fn ask(r: Request, context: &[u8]) -> Answered {
+    let number = r.operation;
+    match number {
+        20 => of_temporary(layout::utils::position(r.x)),
+        21 => of_temporary(layout::utils::fresh_temporary(half(r.kind), context)),
+        22 => of_temporary(layout::utils::variable_temporary(half(r.kind), context, r.label)),
+        23 => stack_offset(r.x),
+        24 => field_offset(r.kind, r.x),
+        _ => refused(2),
+    }
+}
+
+// The second context is that which a load's variables come after.
+pub fn perform(out: &mut [u8], r: Request, first: &[u8], second: &[u8]) -> Answered {
+    if r.operation < 14 {
+        return of_answer(operations::operation::operate(out, operation(r)));
+    }
+    let number = r.operation;
+    match number {
+        14 => of_answer(printing::code::print_i64(out, r.kind == 1, r.x, first)),
+        15 => of_answer(memory::block::erase_block(out, r.counter, r.x)),
+        16 => of_answer(memory::block::share_block_n(out, r.counter, r.x, r.z)),
+        17 => of_answer(storing::store::store(out, r.counter, first, r.z)),
+        18 => of_answer(loading::load::load(out, r.counter, first, second)),
+        19 => of_answer(routine::into_routine::into_x86_64_routine(out, first, r.z as usize)),
+        _ => ask(r, first),
+    }
+}
