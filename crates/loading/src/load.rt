@@ -138,7 +138,7 @@ fn load_present(
 }
 
 // n variables after v, out of the object in the Fst past those.
-fn load_object(
+pub fn load_object(
     out: &mut [u8],
     p: Cursor,
     table: &[u64; 267],

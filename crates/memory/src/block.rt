@@ -63,7 +63,7 @@ pub fn erase_register(out: &mut [u8], p: Cursor, r: u8) -> Cursor
     emit::cursor::draw(t, 3)
 }
 
-fn erase(out: &mut [u8], p: Cursor, w: u64) -> Cursor
+pub fn erase(out: &mut [u8], p: Cursor, w: u64) -> Cursor
     requires { ⌜ (p .at + 288 < 2 ^ 64) × (p .counter + 3 < 2 ^ 32) × (w < 272) ⌝ }
     ensures { λ q. ⌜ Emits (now (out .entry)) p (now (out .exit)) q (eraseBlock base w) ⌝ }
 {

@@ -108,7 +108,7 @@ pub fn order_fields_of(o: Order) -> OrderFields
 }
 
 // The order of a record's fields.
-fn order_of(f: OrderFields) -> Order
+pub fn order_of(f: OrderFields) -> Order
     requires { ⌜ (1 ≤ f .code) × (f .code ≤ 7) ⌝ }
     ensures { λ r. ⌜ r ≡ orderOf f ⌝ }
 {
@@ -163,7 +163,7 @@ fn order_ok(f: OrderFields) -> bool
 }
 
 // The fields of the order that starts `s`.
-fn order_in(s: &[u8]) -> OrderFields
+pub fn order_in(s: &[u8]) -> OrderFields
     requires { ⌜ 24 ≤ length (now s) ⌝ }
     ensures { λ r. ⌜ r ≡ orderIn (now (s .entry)) ⌝ }
 {
@@ -182,7 +182,7 @@ fn order_in(s: &[u8]) -> OrderFields
 }
 
 // Whether a whole, well-formed order starts `s`.
-fn order_starts(s: &[u8]) -> bool
+pub fn order_starts(s: &[u8]) -> bool
     ensures { λ r. ⌜ r ≡ orderStarts (now (s .entry)) ⌝ }
 {
     if s.len() < 24 {

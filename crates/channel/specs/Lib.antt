@@ -1,0 +1,3 @@
+-- What the order function ensures, and what its parts do.
+pub mod Answers  -- its answer and its two outputs, on every input
+pub mod Decided  -- the answer by an order that is read

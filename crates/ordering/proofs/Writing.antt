@@ -1,0 +1,51 @@
+-- The tree of an order, by what the order is.
+use Prim.Native.Nat.{ℕ, _-_}
+use mathlib.Core.Path.{_≡_, refl, subst}
+use mathlib.Core.Bool.{Bool, cond}
+use mathlib.Core.List.{List}
+use Rattle.records.specs.declared.order.Operation.{Operation}
+use Rattle.records.specs.declared.order.Order.{Order}
+use Rattle.records.specs.declared.order.Order.the-variants.{Put, Compute, Copy, Drop, Store, Load, Print}
+use Rattle.trees.specs.Tree.{Tree, nop, seq}
+use Rattle.emit.specs.declared.cursor.Cursor.{Cursor}
+use Rattle.emit.specs.Emitted.{Emits}
+use Rattle.layout.specs.Config.{base}
+use Rattle.code.specs.Code.{loadImmediate, arithmetic}
+use Rattle.memory.specs.Blocks.{eraseBlock, shareBlock}
+use Rattle.memory.specs.Objects.{fst, snd, extIn, storeObject, loadObject}
+use Rattle.printing.specs.Print.{printI64}
+use Rattle.printing.specs.Registers.{extAt}
+use Rattle.orders.specs.Writes.{copyTo, treeOf}
+
+-- the same records under another name
+pub as-tree : {o o′ : List ℕ} {p q : Cursor} {t u : Tree} → Emits o p o′ q t → t ≡ u → Emits o p o′ q u
+as-tree {o} {o′} {p} {q} d e = subst (λ (x : Tree). Emits o p o′ q x) e d
+
+module _ (c : List ℕ) (k : ℕ) (b : List ℕ) {o : Order} where
+  pub put-tree : (value : ℕ) → o ≡ Put value → loadImmediate base (snd k) value ≡ treeOf base c k b o
+  unfolding treeOf
+  put-tree value e = rw e
+
+  pub compute-tree : (operation : Operation) (x y : ℕ) → o ≡ Compute operation x y → arithmetic base operation (snd k) (snd x) (snd y) ≡ treeOf base c k b o
+  unfolding treeOf
+  compute-tree operation x y e = rw e
+
+  pub copy-tree : {ext : Bool} (a n : ℕ) → o ≡ Copy a n → ext ≡ extAt c a → seq (cond ext nop (shareBlock base (fst a) n)) (copyTo base ext a k n) ≡ treeOf base c k b o
+  unfolding treeOf
+  copy-tree a n e f = rw (e, f)
+
+  pub drop-tree : {ext : Bool} → o ≡ Drop → ext ≡ extAt c (k - 1) → cond ext nop (eraseBlock base (fst (k - 1))) ≡ treeOf base c k b o
+  unfolding treeOf
+  drop-tree e f = rw (e, f)
+
+  pub store-tree : (n tag : ℕ) → o ≡ Store n tag → seq (storeObject base (extIn c 0) (k - n) n) (loadImmediate base (snd (k - n)) tag) ≡ treeOf base c k b o
+  unfolding treeOf
+  store-tree n tag e = rw e
+
+  pub load-tree : (n : ℕ) → o ≡ Load n → loadObject base (extIn b (k - 1)) (k - 1) n ≡ treeOf base c k b o
+  unfolding treeOf
+  load-tree n e = rw e
+
+  pub print-tree : (newline : Bool) (a : ℕ) → o ≡ Print newline a → printI64 base newline (snd a) (extAt c) k ≡ treeOf base c k b o
+  unfolding treeOf
+  print-tree newline a e = rw e

@@ -1,0 +1,29 @@
+use borrow.Author.Needs.{needs}
+use native.Mathlib.Omega.{arith}
+use Rattle.emit.specs.Laws.{_⨟_}
+use Rattle.layout.specs.Config.{base}
+use Rattle.code.specs.Sizes.{plain-mov}
+use Rattle.ordering.proofs.emitters.copy_variable.Statement.{statement}
+use Rattle.ordering.proofs.emitters.copy_variable.Tie as tie
+
+pub copy-variable-spec : {M : Type 1} → statement M
+copy-variable-spec =
+    tie.close
+    (tie.spec
+    (λ c. search needs)
+    (λ c. search needs)
+    (λ c κs. search needs)
+    (λ c. search needs)
+    (λ c. search needs)
+    (λ c κs. search needs)
+    (λ c κs. search needs)
+    (λ c. search needs)
+    (λ c. rw (c .before .before .before .before .if1 .taken, ← (c .before .before .before .before .before .before .location-at .ensures .0), ← (c .before .before .before .before .before .location-at2 .ensures .0)) (c .before .before .emit-mov .ensures))
+    (λ c. search needs)
+    (λ c κs. search needs)
+    (λ c. search needs)
+    (λ c κs. search needs)
+    (λ c κs. search needs)
+    (λ c κs. let d = c .before .before .before .emit-mov2 .ensures in let z = plain-mov base (c .before .before .before .before .before .before .location-at3 .result) (c .before .before .before .before .before .location-at4 .result) in (omega (arith, d .place, z .most, c .before .before .before .before .before .before .before .before .before .before .before .pre .3), c .before .before .before .before .before .before .before .before .before .location-at .ensures .1, c .before .before .before .before .before .before .before .before .location-at2 .ensures .1))
+    (λ c. search needs)
+    (λ c. rw (c .before .before .before .before .before .before .before .before .before .before .if1 .left, ← (c .before .before .before .before .before .before .before .before .before .before .before .before .location-at .ensures .0), ← (c .before .before .before .before .before .before .before .before .before .before .before .location-at2 .ensures .0), ← (c .before .before .before .before .before .before .before .before .before .location-at3 .ensures .0), ← (c .before .before .before .before .before .before .before .before .location-at4 .ensures .0)) (c .before .before .before .before .before .before .emit-mov2 .ensures ⨟ c .before .before .emit-mov3 .ensures)))

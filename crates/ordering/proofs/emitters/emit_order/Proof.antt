@@ -1,0 +1,56 @@
+use borrow.Author.Needs.{needs}
+use native.Mathlib.Omega.{arith}
+use mathlib.Core.Path.{refl}
+use Rattle.ordering.proofs.Asking.{put-fits, compute-fits, compute-there, copy-there, copy-asks, drop-there, drop-asks, store-there, store-fits, load-there, load-fits, print-there, print-fits}
+use Rattle.ordering.proofs.Leaving.{enough}
+use Rattle.ordering.proofs.Writing.{as-tree, put-tree, compute-tree, copy-tree, drop-tree, store-tree, load-tree, print-tree}
+use Rattle.ordering.proofs.emitters.emit_order.Statement.{statement}
+use Rattle.ordering.proofs.emitters.emit_order.Tie as tie
+
+pub emit-order-spec : {M : Type 1} → statement M
+emit-order-spec =
+    tie.close
+    (tie.spec
+    (λ c. search needs)
+    (λ c κs. let a = c .before .before .before .before .before .before .before .args in let w = c .before .before .before .before .before .before .before .pre in let s = a .context .now in let b = a .bindings .now in (w .0, put-fits s (a .k) b _ (c .before .before .order .given .1) (w .5), omega (arith, w .6)))
+    (λ c. search needs)
+    (λ c. search needs)
+    (λ c. search needs)
+    (λ c κs. let a = c .before .before .before .before .before .before .before .args in let w = c .before .before .before .before .before .before .before .pre in let s = a .context .now in let b = a .bindings .now in let t = compute-there s (a .k) b _ _ _ (c .before .before .order2 .given .1) (w .4) in (w .0, compute-fits s (a .k) b _ _ _ (c .before .before .order2 .given .1) (w .5), t .0, t .1, omega (arith, w .6)))
+    (λ c. search needs)
+    (λ c. search needs)
+    (λ c κs. let a = c .before .before .before .before .before .before .args in let w = c .before .before .before .before .before .before .pre in let s = a .context .now in let b = a .bindings .now in omega (arith, copy-there s (a .k) b _ _ (c .before .order3 .given .1) (w .4), w .1))
+    (λ c. search needs)
+    (λ c. search needs)
+    (λ c κs. let a = c .before .before .before .before .before .before .before .before .args in let w = c .before .before .before .before .before .before .before .before .pre in let s = a .context .now in let b = a .bindings .now in (w .0, copy-there s (a .k) b _ _ (c .before .before .before .order3 .given .1) (w .4), rw (c .before .is-ext .ensures) (copy-asks s (a .k) b _ _ (c .before .before .before .order3 .given .1) (w .5)), w .6, omega (arith, w .7)))
+    (λ c. search needs)
+    (λ c. let a = c .before .before .before .before .before .args in let w = c .before .before .before .before .before .pre in let s = a .context .now in let b = a .bindings .now in omega (arith, drop-there s (a .k) b (c .enum-told .given .1) (w .4)))
+    (λ c κs. let a = c .before .before .before .before .before .args in let w = c .before .before .before .before .before .pre in let s = a .context .now in let b = a .bindings .now in omega (arith, drop-there s (a .k) b (c .enum-told .given .1) (w .4), w .1))
+    (λ c. let a = c .before .before .before .before .before .before .before .args in let w = c .before .before .before .before .before .before .before .pre in let s = a .context .now in let b = a .bindings .now in omega (arith, drop-there s (a .k) b (c .before .before .enum-told .given .1) (w .4)))
+    (λ c κs. let a = c .before .before .before .before .before .before .before .args in let w = c .before .before .before .before .before .before .before .pre in let s = a .context .now in let b = a .bindings .now in (w .0, rw (c .before .is-ext2 .ensures) (drop-asks s (a .k) b (c .before .before .enum-told .given .1) (w .5)), omega (arith, w .6), omega (arith, w .7)))
+    (λ c. search needs)
+    (λ c. search needs)
+    (λ c. let a = c .before .before .before .before .before .before .before .args in let w = c .before .before .before .before .before .before .before .pre in let s = a .context .now in let b = a .bindings .now in omega (arith, store-there s (a .k) b _ _ (c .before .before .order4 .given .1) (w .4)))
+    (λ c. search needs)
+    (λ c κs. let a = c .before .before .before .before .before .before .before .args in let w = c .before .before .before .before .before .before .before .pre in let s = a .context .now in let b = a .bindings .now in let l = store-there s (a .k) b _ _ (c .before .before .order4 .given .1) (w .4) in let f = store-fits s (a .k) b _ _ (c .before .before .order4 .given .1) l (w .5) in (w .0, omega (arith, l, w .1), omega (arith, l, f .0), f .1, w .6, w .7))
+    (λ c. search needs)
+    (λ c. let a = c .before .before .before .before .before .before .before .args in let w = c .before .before .before .before .before .before .before .pre in let s = a .context .now in let b = a .bindings .now in omega (arith, load-there s (a .k) b _ (c .before .before .order5 .given .1) (w .4)))
+    (λ c. search needs)
+    (λ c κs. let a = c .before .before .before .before .before .before .before .args in let w = c .before .before .before .before .before .before .before .pre in let s = a .context .now in let b = a .bindings .now in (w .0, enough (a .k) (c .before .before .order5 .given .1) _ (w .3), load-fits s (a .k) b _ (c .before .before .order5 .given .1) (w .5), omega (arith, w .6), omega (arith, w .7)))
+    (λ c. search needs)
+    (λ c. search needs)
+    (λ c κs. let a = c .before .before .before .before .before .before .before .args in let w = c .before .before .before .before .before .before .before .pre in let s = a .context .now in let b = a .bindings .now in (w .0, print-fits s (a .k) b _ _ (c .before .before .order6 .given .1) (w .5), w .1, w .2, omega (arith, w .6)))
+    (λ c. search needs)
+    (λ c. let a = c .before .before .before .before .before .before .before .before .before .before .args in as-tree (c .before .before .put .ensures) (put-tree (a .context .now) (a .k) (a .bindings .now) _ (c .before .before .before .before .before .order .given .1)))
+    (λ c. search needs)
+    (λ c. let a = c .before .before .before .before .before .before .before .before .before .before .args in as-tree (c .before .before .compute .ensures) (compute-tree (a .context .now) (a .k) (a .bindings .now) _ _ _ (c .before .before .before .before .before .order2 .given .1)))
+    (λ c. search needs)
+    (λ c. let a = c .before .before .before .before .before .before .before .before .before .before .before .args in as-tree (c .before .before .copy .ensures) (copy-tree (a .context .now) (a .k) (a .bindings .now) _ _ (c .before .before .before .before .before .before .order3 .given .1) (c .before .before .before .before .is-ext .ensures)))
+    (λ c. search needs)
+    (λ c. let a = c .before .before .before .before .before .before .before .before .before .before .args in as-tree (c .before .before .drop-last .ensures) (drop-tree (a .context .now) (a .k) (a .bindings .now) (c .before .before .before .before .before .enum-told .given .1) (c .before .before .before .before .is-ext2 .ensures)))
+    (λ c. search needs)
+    (λ c. let a = c .before .before .before .before .before .before .before .before .before .before .args in as-tree (c .before .before .store .ensures) (store-tree (a .context .now) (a .k) (a .bindings .now) _ _ (c .before .before .before .before .before .order4 .given .1)))
+    (λ c. search needs)
+    (λ c. let a = c .before .before .before .before .before .before .before .before .before .before .args in as-tree (c .before .before .load-object .ensures) (load-tree (a .context .now) (a .k) (a .bindings .now) _ (c .before .before .before .before .before .order5 .given .1)))
+    (λ c. search needs)
+    (λ c. let a = c .before .before .before .before .before .before .before .before .before .before .args in as-tree (c .before .before .print .ensures) (print-tree (a .context .now) (a .k) (a .bindings .now) _ _ (c .before .before .before .before .before .order6 .given .1))))
