@@ -1,6 +1,10 @@
 //! Times the port's machine beside the plain interpreter in Rust, on records that the published
 //! Rust emits.
 
+mod emission;
+
+pub use emission::emission;
+
 use crate::answer::Answer;
 use crate::interpreter::{self, BLOCK_WORDS, HEAP_START, Outcome, State};
 use crate::parse;

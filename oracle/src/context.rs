@@ -15,17 +15,22 @@ pub type Kinds = Runs<Kind>;
 pub type Ids = Runs<u64>;
 
 impl<T: Copy> Runs<T> {
+    /// How many items there are, or the most that 64 bits hold.
+    pub fn length(&self) -> u64 {
+        let counts = self.0.iter().map(|(_, count)| *count);
+        counts.fold(0, u64::saturating_add)
+    }
+
     /// The items one by one, or none if there are more than `most`.
     pub fn expand(&self, most: u64) -> Option<Vec<T>> {
-        let length = self
-            .0
-            .iter()
-            .fold(0u64, |sum, (_, count)| sum.saturating_add(*count));
-        (length <= most).then(|| {
-            let runs = self.0.iter();
-            runs.flat_map(|&(item, count)| std::iter::repeat_n(item, count as usize))
-                .collect()
-        })
+        (self.length() <= most).then(|| self.first(most as usize).collect())
+    }
+
+    /// The items one by one, at most so many.
+    pub fn first(&self, most: usize) -> impl Iterator<Item = T> {
+        let runs = self.0.iter();
+        runs.flat_map(|&(item, count)| std::iter::repeat_n(item, count as usize))
+            .take(most)
     }
 }
 

@@ -81,8 +81,8 @@ fn outcome(request: &Request, rust: &Answer, port: &Answer) -> Outcome {
         (_, Answer::Malformed(_), _) => Outcome::PortAlone,
         (_, Answer::Panic, Answer::Refused(4 | 6 | 8, None)) => Outcome::Matched,
         (_, Answer::Exceeded(_), Answer::Refused(9, None)) => Outcome::Matched,
-        (Request::Emission(emission), Answer::Records(records, _), Answer::Refused(10, bytes))
-            if lacks_room(emission, records.len(), *bytes) =>
+        (Request::Emission(emission), Answer::Records(..), Answer::Refused(10, bytes))
+            if bytes.is_some() && *bytes == lacking(emission) =>
         {
             Outcome::Matched
         }
@@ -90,10 +90,21 @@ fn outcome(request: &Request, rust: &Answer, port: &Answer) -> Outcome {
     }
 }
 
-/// Whether the request gives less room than the records need, and the refusal names what they need.
-fn lacks_room(emission: &Emission, records: usize, bytes: Option<u64>) -> bool {
-    let needed = (records * record::SIZE) as u64;
-    emission.room.is_some_and(|room| room < needed) && bytes == Some(needed)
+/// The bytes that the Rust's records need up to the first operation for which the request gives too
+/// little room, if there is one.
+fn lacking(emission: &Emission) -> Option<u64> {
+    let room = emission.room?;
+    (1..=emission.operations.len()).find_map(|count| {
+        let begun = Emission {
+            operations: emission.operations[..count].to_vec(),
+            ..*emission
+        };
+        match rust_side::answer(&Request::Emission(begun)) {
+            Answer::Records(records, _) => Some((records.len() * record::SIZE) as u64),
+            _ => None,
+        }
+        .filter(|needed| room < *needed)
+    })
 }
 
 /// Shows the request and the first line in which the answers differ.
@@ -135,7 +146,7 @@ mod tests {
 
     #[test]
     fn records_match_a_refusal_for_want_of_room_alone() {
-        let records = || Answer::Records(vec![Default::default(); 2], 0);
+        let records = || rust_side::answer(&parse::request("mov s1 s2").unwrap());
         let refused = |number, bytes| Answer::Refused(number, Some(bytes));
         let short = "room 47 mov s1 s2";
         assert_eq!(
@@ -156,6 +167,11 @@ mod tests {
             Outcome::Different
         );
         assert_eq!(outcome_of(enough, records(), records()), Outcome::Same);
+        let second = "room 47 mov r4 r5; mov s1 s2; mov s1 s2";
+        assert_eq!(
+            outcome_of(second, records(), refused(10, 72)),
+            Outcome::Matched
+        );
     }
 
     #[test]

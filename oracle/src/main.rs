@@ -43,7 +43,8 @@ oracle machine-agree [OPTIONS]                     holds the port's machine agai
                                                    (--count 200000, --seed 1)
 oracle native [OPTIONS]                            holds it against this processor
                                                    (--count 400, --seed 1)
-oracle bench machine                               times it beside plain Rust";
+oracle bench machine                               times it beside plain Rust
+oracle bench emission                              times emission beside the published Rust";
 
 /// Why a command did not run to its end.
 enum Failure {
@@ -114,6 +115,10 @@ fn run(words: &[&str]) -> Result<bool, Failure> {
         ["bench", "machine"] => {
             need_port()?;
             return Ok(bench::machine());
+        }
+        ["bench", "emission"] => {
+            need_port()?;
+            return Ok(bench::emission());
         }
         _ => return Err(Failure::Usage),
     }

@@ -3,6 +3,7 @@
 use crate::interpreter::{STACK_WORDS, State};
 use crate::lent::Lent;
 use crate::record::SIZE;
+use crate::request::Number;
 
 /// Whether the port was linked. If not, none of the functions below may be called.
 pub const LINKED: bool = cfg!(port);
@@ -32,6 +33,56 @@ exported! {
         len: usize,
         text: *mut u8,
         text_len: usize,
+        value: *mut u64
+    ) -> u64;
+    fn axcut_operation(
+        operation: u64,
+        first: u64,
+        second: u64,
+        third: u64,
+        label: u32,
+        immediate: u64,
+        out: *mut u8,
+        out_len: usize,
+        value: *mut u64
+    ) -> u64;
+    fn axcut_memory(
+        operation: u64,
+        operand: u64,
+        n: u64,
+        context: *const u8,
+        context_len: usize,
+        loaded: *const u8,
+        loaded_len: usize,
+        counter: *mut u64,
+        out: *mut u8,
+        out_len: usize,
+        value: *mut u64
+    ) -> u64;
+    fn axcut_print(
+        newline: bool,
+        source: u64,
+        context: *const u8,
+        context_len: usize,
+        out: *mut u8,
+        out_len: usize,
+        value: *mut u64
+    ) -> u64;
+    fn axcut_routine(
+        body: *const u8,
+        body_len: usize,
+        arguments: usize,
+        out: *mut u8,
+        out_len: usize,
+        value: *mut u64
+    ) -> u64;
+    fn axcut_query(
+        query: u64,
+        second: bool,
+        at: u64,
+        id: u32,
+        context: *const u8,
+        context_len: usize,
         value: *mut u64
     ) -> u64;
     fn axcut_entry(registers: *mut [u64; 16], stack: *mut [u64; STACK_WORDS]) -> ();
@@ -102,6 +153,141 @@ pub fn list(records: &[u8], room: usize) -> Result<(Returned, Vec<u8>), Damaged>
     let length = if number == 0 { value } else { 0 };
     let written = text.written(length).ok_or(Damaged)?;
     Ok((Returned { number, value }, written.to_vec()))
+}
+
+/// An operation of code.rs but print_i64: its number and what it takes. What it lacks is not read.
+#[derive(Debug, Clone, Copy, Default)]
+pub struct Operation {
+    pub number: u64,
+    pub operands: [u64; 3],
+    pub label: u32,
+    pub immediate: i64,
+}
+
+/// An operation of memory.rs.
+#[derive(Debug, Clone, Copy)]
+pub enum Memory<'a> {
+    EraseBlock(u64),
+    ShareBlockN(u64, u64),
+    /// The last n variables of a context.
+    Store(&'a [u8], u64),
+    /// A context's variables, after another context.
+    Load(&'a [u8], &'a [u8]),
+}
+
+/// The records of an operation into an output. The value is their number, a place or the bytes
+/// needed.
+pub fn operation(operation: &Operation, out: &mut [u8]) -> Returned {
+    let mut value = u64::MAX;
+    let [first, second, third] = operation.operands;
+    let number = unsafe {
+        axcut_operation(
+            operation.number,
+            first,
+            second,
+            third,
+            operation.label,
+            operation.immediate as u64,
+            out.as_mut_ptr(),
+            out.len(),
+            &mut value,
+        )
+    };
+    Returned { number, value }
+}
+
+/// The same for an operation that draws labels: the counter goes in and comes back.
+pub fn memory(operation: &Memory, counter: &mut u64, out: &mut [u8]) -> Returned {
+    let (number, operand, n, context, loaded): (u64, u64, u64, &[u8], &[u8]) = match *operation {
+        Memory::EraseBlock(operand) => (1, operand, 0, &[], &[]),
+        Memory::ShareBlockN(operand, n) => (2, operand, n, &[], &[]),
+        Memory::Store(context, n) => (3, 0, n, context, &[]),
+        Memory::Load(loaded, existing) => (4, 0, 0, existing, loaded),
+    };
+    let mut value = u64::MAX;
+    let number = unsafe {
+        axcut_memory(
+            number,
+            operand,
+            n,
+            context.as_ptr(),
+            context.len(),
+            loaded.as_ptr(),
+            loaded.len(),
+            counter,
+            out.as_mut_ptr(),
+            out.len(),
+            &mut value,
+        )
+    };
+    Returned { number, value }
+}
+
+pub fn print(newline: bool, source: u64, context: &[u8], out: &mut [u8]) -> Returned {
+    let mut value = u64::MAX;
+    let number = unsafe {
+        axcut_print(
+            newline,
+            source,
+            context.as_ptr(),
+            context.len(),
+            out.as_mut_ptr(),
+            out.len(),
+            &mut value,
+        )
+    };
+    Returned { number, value }
+}
+
+pub fn routine(body: &[u8], arguments: usize, out: &mut [u8]) -> Returned {
+    let mut value = u64::MAX;
+    let number = unsafe {
+        axcut_routine(
+            body.as_ptr(),
+            body.len(),
+            arguments,
+            out.as_mut_ptr(),
+            out.len(),
+            &mut value,
+        )
+    };
+    Returned { number, value }
+}
+
+/// A query; what it lacks is not read.
+#[derive(Debug, Clone, Copy)]
+pub enum Query<'a> {
+    Position(u64),
+    FreshTemporary(Number, &'a [u8]),
+    VariableTemporary(Number, u32, &'a [u8]),
+    /// Of the spill's word.
+    StackOffset(u64),
+    FieldOffset(Number, u64),
+}
+
+/// The value is an operand's word or an offset.
+pub fn query(query: &Query) -> Returned {
+    let (number, half, at, id, context): (u64, Number, u64, u32, &[u8]) = match *query {
+        Query::Position(position) => (1, Number::Fst, position, 0, &[]),
+        Query::FreshTemporary(half, context) => (2, half, 0, 0, context),
+        Query::VariableTemporary(half, id, context) => (3, half, 0, id, context),
+        Query::StackOffset(word) => (4, Number::Fst, word, 0, &[]),
+        Query::FieldOffset(half, field) => (5, half, field, 0, &[]),
+    };
+    let second = matches!(half, Number::Snd);
+    let mut value = u64::MAX;
+    let number = unsafe {
+        axcut_query(
+            number,
+            second,
+            at,
+            id,
+            context.as_ptr(),
+            context.len(),
+            &mut value,
+        )
+    };
+    Returned { number, value }
 }
 
 /// What a run returned: 0 or document 01's number, the steps and the record's place.

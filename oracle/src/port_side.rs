@@ -1,6 +1,10 @@
 //! Answers requests by the port.
 
+mod emission;
+mod queries;
+
 use crate::answer::Answer;
+use crate::context::{Kind, Runs};
 use crate::interpreter::{BLOCK_WORDS, MOST_BLOCKS};
 use crate::port::{self, Damaged, Ran, Returned};
 use crate::request::{Form, Request, Run};
@@ -10,9 +14,9 @@ pub fn answer(request: &Request) -> Answer {
         Request::Check(form, bytes) => check(*form, bytes),
         Request::List(bytes) => list(bytes),
         Request::Run(request) => run(request),
-        Request::Emission(_) | Request::Query(_) | Request::Order => {
-            Answer::Malformed("the port does not answer this yet".to_string())
-        }
+        Request::Emission(request) => emission::answer(request),
+        Request::Query(query) => queries::answer(query),
+        Request::Order => Answer::Malformed("the port does not answer this yet".to_string()),
     }
 }
 
@@ -59,4 +63,27 @@ fn run(request: &Run) -> Answer {
     } = request;
     let ran: Ran = port::run(records, &mut state, &mut heap, words, *limit);
     Answer::Ran(ran, state, heap)
+}
+
+/// One binding more than a context may have: longer contexts are refused as this one is.
+const TOO_LONG: usize = 4_097;
+
+/// A context's bytes, from each variable's kind and id.
+fn context(variables: impl Iterator<Item = (Kind, u32)>) -> Vec<u8> {
+    let binding = |(kind, id): (Kind, u32)| {
+        let kind = match kind {
+            Kind::Linked => 0,
+            Kind::Ext => 1,
+        };
+        let mut bytes = [0xA7, 0x01, kind, 0, 0, 0, 0, 0];
+        bytes[4..].copy_from_slice(&id.to_le_bytes());
+        bytes
+    };
+    variables.flat_map(binding).collect()
+}
+
+/// A context of the given kinds in a row, with ids that are places.
+pub fn context_of(kinds: &[&Runs<Kind>]) -> Vec<u8> {
+    let kinds = kinds.iter().flat_map(|kinds| kinds.first(TOO_LONG));
+    context(kinds.take(TOO_LONG).zip(0..))
 }

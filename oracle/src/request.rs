@@ -18,7 +18,7 @@ pub enum Request {
 }
 
 /// Operations that append to one list of records.
-#[derive(Debug)]
+#[derive(Debug, Clone)]
 pub struct Emission {
     pub counter: u64,
     /// The length of the port's output in bytes, if not ample.
@@ -87,7 +87,7 @@ pub enum Arithmetic {
 }
 
 /// An operation; a label is its number in the record.
-#[derive(Debug)]
+#[derive(Debug, Clone)]
 pub enum Operation {
     Label(u64),
     Jump(Operand),

@@ -210,6 +210,73 @@ fn perform(operation: &Operation, list: &mut Vec<Code>) -> Result<()> {
     Ok(())
 }
 
+/// Operations with their contexts and operands made, and the list that they append to, so that
+/// what is timed is the Rust alone.
+#[derive(Clone)]
+pub enum Prepared {
+    Store(TypingContext, TypingContext),
+    Load(TypingContext, TypingContext),
+    EraseBlock(Temporary),
+    PrintI64(bool, Temporary, TypingContext),
+    Routine(Vec<Code>, usize),
+}
+
+impl Prepared {
+    /// The last operation of a request that the Rust answers, after the others; none for an
+    /// operation that is not timed.
+    pub fn last(emission: &Emission) -> Option<Prepared> {
+        let (last, before) = emission.operations.split_last()?;
+        Prepared::of(last, before).ok()
+    }
+
+    fn of(last: &Operation, before: &[Operation]) -> Result<Prepared> {
+        Ok(match last {
+            Operation::Store {
+                to_store,
+                remaining,
+            } => Prepared::Store(context(to_store, MOST)?, context(remaining, MOST)?),
+            Operation::Load { to_load, existing } => {
+                Prepared::Load(context(to_load, MOST_LOADED)?, context(existing, MOST)?)
+            }
+            Operation::EraseBlock(t) => Prepared::EraseBlock(temporary(t)?),
+            Operation::PrintI64(newline, source, kinds) => {
+                Prepared::PrintI64(*newline, temporary(source)?, context(kinds, MOST)?)
+            }
+            Operation::Routine(arguments) => {
+                let mut list = Vec::new();
+                for operation in before {
+                    perform(operation, &mut list)?;
+                }
+                Prepared::Routine(list, *arguments as usize)
+            }
+            _ => return malformed("this operation is not timed"),
+        })
+    }
+
+    /// What the Rust writes, its comments too.
+    pub fn emit(self) -> Vec<Code> {
+        let mut list = Vec::new();
+        match self {
+            Prepared::Store(to_store, remaining) => {
+                Backend::store(to_store, &remaining, &mut list);
+            }
+            Prepared::Load(to_load, existing) => Backend::load(to_load, &existing, &mut list),
+            Prepared::EraseBlock(t) => Backend::erase_block(t, &mut list),
+            Prepared::PrintI64(newline, source, context) => {
+                Backend::print_i64(newline, source, &context.bindings, &mut list);
+            }
+            Prepared::Routine(instructions, number_of_arguments) => {
+                let routine = into_x86_64_routine(AssemblyProg {
+                    instructions,
+                    number_of_arguments,
+                });
+                list = routine.instructions;
+            }
+        }
+        list
+    }
+}
+
 fn ask(query: &Query) -> Result<Answer> {
     Ok(match query {
         Query::VariableTemporary(which, id, ids) => located(Backend::variable_temporary(

@@ -12,6 +12,10 @@ ghost use Rattle.instructions.specs.View.{view, wordsOf};
 ghost use Rattle.machine.specs.State.{entryState};
 ghost use Rattle.machine.specs.Run.{ran};
 ghost use Rattle.port.specs.Numbers.{numberIn, valueIn, listedNumbers, Gives};
+
+pub mod emission; // the operations of code.rs, memory.rs and into_routine.rs
+pub mod query; // the queries of utils.rs and config.rs
+
 use listing::Listed;
 use machine::run::Answer;
 use machine::state::State;

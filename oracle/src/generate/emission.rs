@@ -1,13 +1,14 @@
-//! The emission requests at the limits: every mixture of operands, every length of a context, wide
-//! immediates, counters up to the last label.
+//! The emission requests at the limits: every mixture of operands, every length of a context and
+//! every part of it, wide immediates, counters up to the last label, outputs too short.
 
 use super::requests::{
     ARITHMETIC, CONDITIONS, LABELS, ZERO_CONDITIONS, fst_or_snd, kinds, share_count, write_kinds,
 };
-use crate::hex;
+use crate::answer::Answer;
 use crate::random::Random;
-use crate::record::LAST_FRESH;
+use crate::record::{LAST_FRESH, SIZE};
 use crate::well_formed::{IMMEDIATES, instruction};
+use crate::{hex, parse, rust_side};
 
 /// The longest context that the lists have everywhere: one variable more than there is room for.
 pub const LONGEST: usize = 134;
@@ -34,6 +35,37 @@ const DRAWING: [(&str, u64); 14] = [
     ("load lel l", 4),
     ("load l7 e5", 9),
     ("erase_block r4; share_block_n r4 1; store l e", 17),
+];
+
+/// Operations to be given outputs of several lengths.
+const ROOMS: [&str; 27] = [
+    "label lab1",
+    "jump r4",
+    "jump s1",
+    "jump_label lab1",
+    "jump_label_fixed cleanup",
+    "jump_label_if_less s1 s2 lab1",
+    "jump_label_if_greater_zero s255 lab1",
+    "load_immediate s1 -1",
+    "load_label s1 lab1",
+    "add_and_jump s1 5",
+    "add s1 s2 s254",
+    "sub r4 s1 r4",
+    "mul s1 s1 s2",
+    "div s1 s2 s254",
+    "rem r12 r5 r13",
+    "mov s1 s2",
+    "compare s1 s2",
+    "compare_immediate s1 7",
+    "erase_block r4",
+    "erase_block s255",
+    "share_block_n r4 1",
+    "share_block_n s1 2",
+    "mov r4 r5; mov s1 s2; erase_block r4",
+    "erase_block s1; store le e; load l -",
+    "routine 0",
+    "mov s1 s2; routine 5",
+    "store lle e; routine 3",
 ];
 
 /// Document 01's worked numbers.
@@ -75,8 +107,11 @@ pub fn limits(random: &mut Random, list: &mut Vec<String>) {
     labels(list);
     immediates(random, list);
     contexts(random, list);
+    parts(random, list);
     prints(random, list);
     counters(list);
+    counters_of_contexts(random, list);
+    rooms(random, list);
     routines(random, list);
     queries(random, list);
 }
@@ -155,21 +190,75 @@ fn contexts(random: &mut Random, list: &mut Vec<String>) {
     }
 }
 
-/// Every length with a source of its own, and every source with contexts about the number of
-/// variables that registers hold.
-fn prints(random: &mut Random, list: &mut Vec<String>) {
-    for length in (0..=LONGEST).chain([4_095, 4_096]) {
-        for newline in [0, 1] {
-            let source = random.below(267);
-            let context = kinds(length, random);
-            list.push(format!("print_i64 {newline} p{source} {context}"));
+/// Every part of every length to store and to load.
+fn parts(random: &mut Random, list: &mut Vec<String>) {
+    for length in 0..=LONGEST {
+        for first in 0..=length {
+            for operation in ["store", "load"] {
+                let rest = kinds(length - first, random);
+                list.push(format!("{operation} {} {rest}", kinds(first, random)));
+            }
         }
     }
-    for source in OPERANDS {
-        for length in 0..=8 {
-            let context = kinds(length, random);
-            let newline = random.below(2);
-            list.push(format!("print_i64 {newline} {source} {context}"));
+}
+
+/// Every length with every source.
+fn prints(random: &mut Random, list: &mut Vec<String>) {
+    for length in (0..=LONGEST).chain([4_095, 4_096]) {
+        let position = format!("p{}", random.below(267));
+        for source in OPERANDS.into_iter().chain([&position[..]]) {
+            for newline in [0, 1] {
+                let context = kinds(length, random);
+                list.push(format!("print_i64 {newline} {source} {context}"));
+            }
+        }
+    }
+}
+
+/// What the Rust writes for a request: the number of bytes and of labels, unless it panics.
+fn size(request: &str) -> Option<(u64, u64)> {
+    match rust_side::answer(&parse::request(request).ok()?) {
+        Answer::Records(records, counter) => Some(((records.len() * SIZE) as u64, counter)),
+        _ => None,
+    }
+}
+
+/// Every length with a counter in the middle, with the last that leaves labels enough, and with
+/// the first that does not.
+fn counters_of_contexts(random: &mut Random, list: &mut Vec<String>) {
+    for length in 0..=LONGEST {
+        for operation in ["store", "load"] {
+            let first = random.below(length + 1);
+            let (some, rest) = (kinds(first, random), kinds(length - first, random));
+            let request = format!("{operation} {some} {rest}");
+            let labels = size(&request).map_or(0, |(_, labels)| labels);
+            let middle = random.below(1 << 31) as u64;
+            for counter in [middle, LAST_FRESH - labels, LAST_FRESH - labels + 1] {
+                list.push(format!("@{counter} {request}"));
+            }
+        }
+    }
+}
+
+/// Every operation, and every length of a context, with outputs of no byte, of about half the
+/// bytes needed, of a byte less, of just the bytes needed and of a byte more.
+fn rooms(random: &mut Random, list: &mut Vec<String>) {
+    let mut requests: Vec<String> = ROOMS.map(str::to_string).to_vec();
+    for length in 0..=LONGEST {
+        let first = random.below(length + 1);
+        for operation in ["store", "load"] {
+            let (some, rest) = (kinds(first, random), kinds(length - first, random));
+            requests.push(format!("{operation} {some} {rest}"));
+        }
+        let context = kinds(length, random);
+        requests.push(format!("print_i64 1 p{} {context}", random.below(267)));
+    }
+    for request in requests {
+        let Some((bytes, _)) = size(&request) else {
+            continue;
+        };
+        for room in [0, bytes / 2, bytes.saturating_sub(1), bytes, bytes + 1] {
+            list.push(format!("room {room} {request}"));
         }
     }
 }

@@ -1,0 +1,24 @@
+-- From an operation's answer to what the exported function tells, and the last arm of its `match`.
+use Prim.Native.Nat.{ℕ, zero, suc, _≤_}
+use mathlib.Core.Path.{_≡_, refl, sym, ap, _∙_}
+use mathlib.Core.List.{List, [], _∷_}
+use native.Mathlib.Omega.{arith}
+use lib.ListN.{getD, length, List·getD-eq-default}
+use Rattle.records.specs.declared.code.Code.{Code}
+use Rattle.records.proofs.Matched.{NoneOf, above}
+use Rattle.emit.specs.declared.answer.Answer.{Answer}
+use Rattle.emit.specs.Answers.{Answers}
+use Rattle.routine.specs.Routine.{Assembles}
+use Rattle.port.specs.Emission.{answerNumbers, Tells, TellsRoutine}
+
+pub tells : {o o′ : List ℕ} {r expected : Answer} {cs : List Code} {number value : ℕ} → Answers o o′ r expected cs → number ∷ value ∷ [] ≡ answerNumbers r → Tells o o′ number value expected cs
+tells a e = record { numbers = e ∙ ap answerNumbers (a .answer); bytes = a .bytes }
+
+pub tells-routine : {o o′ : List ℕ} {r expected : Answer} {n : ℕ} {body : List ℕ} {number value : ℕ} → Assembles o o′ r expected n body → number ∷ value ∷ [] ≡ answerNumbers r → TellsRoutine o o′ number value expected n body
+tells-routine a e = record { numbers = e ∙ ap answerNumbers (a .answer); bytes = a .bytes }
+
+module _ {A : Type 0} where
+  -- the element of a number that is none of those from 1 to the list's length
+  pub none-of : (xs : List A) (d : A) (x : ℕ) → NoneOf x (length xs) → d ≡ getD (d ∷ xs) x d
+  none-of xs d zero n = refl
+  none-of xs d (suc x) n = let h = above (length xs) (omega arith) n in sym (List·getD-eq-default xs d (omega arith))
