@@ -10,7 +10,9 @@ ghost use Rattle.emit.specs.Answers.{Answers};
 ghost use Rattle.layout.specs.Config.{base, MINUSONE};
 ghost use Rattle.layout.specs.Positions.{Table};
 ghost use Rattle.memory.specs.Objects.{extIn, loadSome, loadObject};
+ghost use Rattle.memory.specs.Answered.{treeAnswer};
 ghost use Rattle.memory.specs.LoadAnswered.{loadTree, loadFits, loadAfter, loadAnswer};
+ghost use Rattle.loading.specs.Linked.{oneIfLinked, linkedIn};
 use crate::fields;
 use emit::answer::Answer;
 use emit::cursor::Cursor;
@@ -24,26 +26,39 @@ use records::number::JEL;
 use records::number::JMPL;
 use records::number::LAB;
 use records::number::MOVL;
+use storing::store;
 
 const MINUS_ONE: u64 = 18446744073709551615;
 
-// How many labels the load of all blocks draws.
-fn labels_of(table: &[u64; 267], kinds: &[u8], first: u64, shared: bool, v: u64, n: u64) -> u64
-    requires { ⌜ (Table (now table)) × (first ≤ v) × (8 * (v + n - first) ≤ length (now kinds)) × (v + n ≤ 133) ⌝ }
+fn one_if_linked(ext: bool) -> u64
+    ensures { λ r. ⌜ (r ≡ oneIfLinked ext) × (r ≤ 1) ⌝ }
+{
+    if ext { 0 } else { 1 }
+}
+
+// How many of the n variables from v on are linked.
+fn linked(kinds: &[u8], first: u64, v: u64, n: u64) -> u64
+    requires { ⌜ (first ≤ v) × (8 * (v + n - first) ≤ length (now kinds)) × (v + n ≤ 133) ⌝ }
+    ensures { λ r. ⌜ (r ≡ linkedIn (extIn (now (kinds .entry)) first) v n) × (r ≤ n) ⌝ }
+{
+    let mut count: u64 = 0;
+    for i in 0..n {
+        let ext = store::is_ext(kinds, v + i - first);
+        count = count + one_if_linked(ext);
+    }
+    count
+}
+
+// How many labels the load of all blocks draws: one for each linked variable where they are shared, else none.
+fn labels_of(kinds: &[u8], first: u64, shared: bool, v: u64, n: u64) -> u64
+    requires { ⌜ (first ≤ v) × (8 * (v + n - first) ≤ length (now kinds)) × (v + n ≤ 133) ⌝ }
     ensures { λ r. ⌜ (r ≡ labels (loadSome base (extIn (now (kinds .entry)) first) shared v n)) × (r ≤ 133) ⌝ }
 {
-    let mut none = [0u8; 1];
-    let q = fields::load_some(
-        &mut none,
-        Cursor { at: 0, counter: 0 },
-        table,
-        kinds,
-        first,
-        shared,
-        v,
-        n,
-    );
-    q.counter
+    if shared {
+        linked(kinds, first, v, n)
+    } else {
+        0
+    }
 }
 
 // One reference fewer to the object in register r, and its children shared.
@@ -78,8 +93,8 @@ fn load_counted(
     requires { ⌜ (Table (now table)) × (first ≤ v) × (8 * (v + n - first) ≤ length (now kinds)) × (v + n ≤ 133) × (p .at + 90000 < 2 ^ 64) × (p .counter + 400 < 2 ^ 32) ⌝ }
     ensures { λ q. ⌜ Emits (now (out .entry)) p (now (out .exit)) q (if-zero (CMPIM r 0 0) refl (loadSome base (extIn (now (kinds .entry)) first) false v n) (seq (leaf (ADDIM r 0 MINUSONE) refl) (loadSome base (extIn (now (kinds .entry)) first) true v n))) ⌝ }
 {
-    let released = labels_of(table, kinds, first, false, v, n);
-    let shared = labels_of(table, kinds, first, true, v, n);
+    let released = labels_of(kinds, first, false, v, n);
+    let shared = labels_of(kinds, first, true, v, n);
     let l = (p.counter + released + shared + 1) as u32;
     let end = (p.counter + released + shared + 2) as u32;
     let q = emit::cursor::emit2(out, p, Row(CMPIM, r, 0, 0, 0, 0), Row(JEL, 0, 0, l, 0, 0));
@@ -166,6 +181,44 @@ fn load_fits(v: u64, n: u64) -> bool
     v + n < 134
 }
 
+// Written at once, where neither labels nor room can be wanting.
+fn load_at_once(
+    out: &mut [u8],
+    counter: u64,
+    table: &[u64; 267],
+    loaded: &[u8],
+    v: u64,
+    n: u64,
+) -> Answer
+    requires { ⌜ (Table (now table)) × (8 * n ≤ length (now loaded)) × (loadFits base v n ≡ true) × (counter < 2147480000) × (103199 < length (now out)) ⌝ }
+    ensures { λ r. ⌜ Answers (now (out .entry)) (now (out .exit)) r (treeAnswer counter (length (now (out .entry))) (loadObject base (extIn (now (loaded .entry)) v) v n)) (flat (loadObject base (extIn (now (loaded .entry)) v) v n) counter) ⌝ }
+{
+    let q = load_object(out, Cursor { at: 0, counter }, table, loaded, v, n);
+    Answer::Written(q.at / 24, q.counter)
+}
+
+// A first pass on another output tells the size, and the second writes.
+fn load_sized(
+    out: &mut [u8],
+    counter: u64,
+    table: &[u64; 267],
+    loaded: &[u8],
+    v: u64,
+    n: u64,
+) -> Answer
+    requires { ⌜ (Table (now table)) × (8 * n ≤ length (now loaded)) × (loadFits base v n ≡ true) ⌝ }
+    ensures { λ r. ⌜ Answers (now (out .entry)) (now (out .exit)) r (treeAnswer counter (length (now (out .entry))) (loadObject base (extIn (now (loaded .entry)) v) v n)) (flat (loadObject base (extIn (now (loaded .entry)) v) v n) counter) ⌝ }
+{
+    let mut none = [0u8; 1];
+    let need = load_object(&mut none, Cursor { at: 0, counter: 0 }, table, loaded, v, n);
+    let answer = emit::answer::grant(counter, out.len(), need);
+    if emit::answer::is_written(answer) {} else {
+        return answer;
+    }
+    load_object(out, Cursor { at: 0, counter }, table, loaded, v, n);
+    answer
+}
+
 // A load of n variables after v.
 fn load_after(out: &mut [u8], counter: u64, loaded: &[u8], v: u64, n: u64) -> Answer
     requires { ⌜ (v ≤ 4096) × (n ≤ 4096) × (8 * n ≤ length (now loaded)) ⌝ }
@@ -175,21 +228,10 @@ fn load_after(out: &mut [u8], counter: u64, loaded: &[u8], v: u64, n: u64) -> An
         return Answer::Position;
     }
     let table = layout::utils::positions();
-    let mut none = [0u8; 1];
-    let need = load_object(
-        &mut none,
-        Cursor { at: 0, counter: 0 },
-        &table,
-        loaded,
-        v,
-        n,
-    );
-    let answer = emit::answer::grant(counter, out.len(), need);
-    if emit::answer::is_written(answer) {} else {
-        return answer;
+    if store::ample(counter, out.len()) {
+        return load_at_once(out, counter, &table, loaded, v, n);
     }
-    load_object(out, Cursor { at: 0, counter }, &table, loaded, v, n);
-    answer
+    load_sized(out, counter, &table, loaded, v, n)
 }
 
 // The variables of one context, out of the object in the Fst past the existing context.

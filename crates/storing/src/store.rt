@@ -1,6 +1,7 @@
 // Variables stored into an object of as many blocks as they need, from memory.rs.
 // `kinds` is binding records, of which the first is variable `first`'s; `table` gives each position its operand.
 ghost use mathlib.Core.Path.{_≡_};
+ghost use mathlib.Core.Bool.{_&&_};
 ghost use Prim.Native.Nat.{_+_, _*_, _-_, _<_, _≤_, _^_};
 ghost use lib.Dec.{ltb, eqb};
 ghost use lib.ListN.{length, getD};
@@ -12,7 +13,7 @@ ghost use Rattle.emit.specs.Answers.{Answers};
 ghost use Rattle.layout.specs.Config.{base};
 ghost use Rattle.layout.specs.Positions.{Table};
 ghost use Rattle.memory.specs.Objects.{extIn, storeZeros, storeFst, storeValue, storeValues, storeOther, storeOthers, storeSome, storeObject};
-ghost use Rattle.memory.specs.Answered.{storeTree, storeHighest, storeAnswer};
+ghost use Rattle.memory.specs.Answered.{treeAnswer, storeTree, storeHighest, storeAnswer};
 use emit::answer::Answer;
 use emit::cursor::Cursor;
 use emit::cursor::Row;
@@ -206,6 +207,54 @@ fn store_fits(k: u64, n: u64) -> bool
     k < 134
 }
 
+// Whether no store or load can want labels or room: the largest draws 858 labels and writes fewer than 4,300 records.
+pub fn ample(counter: u64, room: usize) -> bool
+    ensures { λ r. ⌜ r ≡ (ltb counter 2147480000 && ltb 103199 room) ⌝ }
+{
+    if counter < 2147480000 {} else {
+        return false;
+    }
+    103199 < room
+}
+
+// Written at once, where neither labels nor room can be wanting.
+fn store_at_once(
+    out: &mut [u8],
+    counter: u64,
+    table: &[u64; 267],
+    kinds: &[u8],
+    v: u64,
+    n: u64,
+) -> Answer
+    requires { ⌜ (Table (now table)) × (8 * (v + n) ≤ length (now kinds)) × (v + n ≤ 133) × (counter < 2147480000) × (103199 < length (now out)) ⌝ }
+    ensures { λ r. ⌜ Answers (now (out .entry)) (now (out .exit)) r (treeAnswer counter (length (now (out .entry))) (storeObject base (extIn (now (kinds .entry)) 0) v n)) (flat (storeObject base (extIn (now (kinds .entry)) 0) v n) counter) ⌝ }
+{
+    let q = store_object(out, Cursor { at: 0, counter }, table, kinds, v, n);
+    Answer::Written(q.at / 24, q.counter)
+}
+
+// A first pass on another output tells the size, and the second writes.
+fn store_sized(
+    out: &mut [u8],
+    counter: u64,
+    table: &[u64; 267],
+    kinds: &[u8],
+    v: u64,
+    n: u64,
+) -> Answer
+    requires { ⌜ (Table (now table)) × (8 * (v + n) ≤ length (now kinds)) × (v + n ≤ 133) ⌝ }
+    ensures { λ r. ⌜ Answers (now (out .entry)) (now (out .exit)) r (treeAnswer counter (length (now (out .entry))) (storeObject base (extIn (now (kinds .entry)) 0) v n)) (flat (storeObject base (extIn (now (kinds .entry)) 0) v n) counter) ⌝ }
+{
+    let mut none = [0u8; 1];
+    let need = store_object(&mut none, Cursor { at: 0, counter: 0 }, table, kinds, v, n);
+    let answer = emit::answer::grant(counter, out.len(), need);
+    if emit::answer::is_written(answer) {} else {
+        return answer;
+    }
+    store_object(out, Cursor { at: 0, counter }, table, kinds, v, n);
+    answer
+}
+
 // A store of the last n of the k variables of a context.
 fn store_last(out: &mut [u8], counter: u64, context: &[u8], k: u64, n: u64) -> Answer
     requires { ⌜ checkedContext (now context) ≡ Good k ⌝ }
@@ -218,21 +267,10 @@ fn store_last(out: &mut [u8], counter: u64, context: &[u8], k: u64, n: u64) -> A
         return Answer::Position;
     }
     let table = layout::utils::positions();
-    let mut none = [0u8; 1];
-    let need = store_object(
-        &mut none,
-        Cursor { at: 0, counter: 0 },
-        &table,
-        context,
-        k - n,
-        n,
-    );
-    let answer = emit::answer::grant(counter, out.len(), need);
-    if emit::answer::is_written(answer) {} else {
-        return answer;
+    if ample(counter, out.len()) {
+        return store_at_once(out, counter, &table, context, k - n, n);
     }
-    store_object(out, Cursor { at: 0, counter }, &table, context, k - n, n);
-    answer
+    store_sized(out, counter, &table, context, k - n, n)
 }
 
 // The last n variables of a context into an object, whose pointer goes into the first one's Fst.

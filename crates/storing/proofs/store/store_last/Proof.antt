@@ -1,13 +1,10 @@
 use borrow.Author.Needs.{needs}
-use Prim.Native.Nat.{_-_}
 use mathlib.Core.Path.{refl, sym, _∙_}
 use native.Mathlib.Omega.{arith}
 use Rattle.records.proofs.BindingsRead.{context-within}
-use Rattle.emit.specs.Wrote.{refused, room-for, not-written, wrote}
-use Rattle.layout.specs.Config.{base}
-use Rattle.memory.specs.Objects.{extIn, storeObject}
-use Rattle.memory.specs.Sizes.{store-object-size}
+use Rattle.emit.specs.Wrote.{refused}
 use Rattle.storing.proofs.Answering.{answers-as, missing, no-position, tree, stored, fits}
+use Rattle.storing.proofs.AtOnce.{ample-if}
 use Rattle.storing.proofs.store.store_last.Statement.{statement}
 use Rattle.storing.proofs.store.store_last.Tie as tie
 
@@ -19,11 +16,10 @@ store-last-spec =
     (λ c κs. let w = context-within (c .before .before .before .args .context .now) _ (c .before .before .before .pre) in w .0)
     (λ c. let a = c .before .before .before .before .before .args in refused (no-position (a .counter) _ (a .context .now) (a .k) (a .n) (c .before .before .before .before .before .pre) (c .before .before .if1 .left) (sym (c .before .store-fits .ensures) ∙ c .if2 .left)) refl refl)
     (λ c κs. search needs)
-    (λ c. search needs)
-    (λ c κs. let a = c .before .before .before .before .before .before .before .before .args in let h = c .before .before .before .before .before .before .before .before .pre in let s = a .context .now in let l = c .before .before .before .before .before .if1 .left in let e = sym (c .before .before .before .before .store-fits .ensures) ∙ c .before .before .before .if2 .taken in let w = context-within s _ h in let f = fits (a .k) (a .n) l e in (c .before .before .positions .ensures, omega arith, f, omega arith, omega arith))
-    (λ c κs. let a = c .before .before .before .before .before .before .before .before .before .before .args in let h = c .before .before .before .before .before .before .before .before .before .before .pre in let s = a .context .now in let l = c .before .before .before .before .before .before .before .if1 .left in let e = sym (c .before .before .before .before .before .before .store-fits .ensures) ∙ c .before .before .before .before .before .if2 .taken in let f = fits (a .k) (a .n) l e in let z = store-object-size (extIn s 0) (a .k - a .n) (a .n) (omega arith) in let d = c .before .store-object .ensures in omega (arith, d .drawn))
     (λ c κs. search needs)
-    (λ c. let a = c .before .before .before .before .before .before .before .before .before .before .before .before .before .args in let h = c .before .before .before .before .before .before .before .before .before .before .before .before .before .pre in let s = a .context .now in let l = c .before .before .before .before .before .before .before .before .before .before .if1 .left in let e = sym (c .before .before .before .before .before .before .before .before .before .store-fits .ensures) ∙ c .before .before .before .before .before .before .before .before .if2 .taken in answers-as (a .counter) (stored (a .counter) _ s (a .k) (a .n) h l e) (tree (a .counter) 0 s (a .k) (a .n) h) (not-written (storeObject base (extIn s 0) (a .k - a .n) (a .n)) (a .counter) (c .before .before .before .before .store-object .ensures) refl refl (a .out .now) (c .before .before .grant .ensures) (c .before .is-written .ensures) (c .if3 .left)))
-    (λ c κs. let a = c .before .before .before .before .before .before .before .before .before .before .before .before .before .before .before .args in let h = c .before .before .before .before .before .before .before .before .before .before .before .before .before .before .before .pre in let s = a .context .now in let l = c .before .before .before .before .before .before .before .before .before .before .before .before .if1 .left in let e = sym (c .before .before .before .before .before .before .before .before .before .before .before .store-fits .ensures) ∙ c .before .before .before .before .before .before .before .before .before .before .if2 .taken in let w = context-within s _ h in let f = fits (a .k) (a .n) l e in let z = store-object-size (extIn s 0) (a .k - a .n) (a .n) (omega arith) in let g = room-for (storeObject base (extIn s 0) (a .k - a .n) (a .n)) (a .counter) _ (c .before .before .before .before .before .before .store-object .ensures) refl refl (c .before .before .before .before .grant .ensures) (c .before .before .before .is-written .ensures) (c .before .before .if3 .taken) in (c .before .before .before .before .before .before .before .before .before .positions .ensures, omega arith, f, omega arith, omega arith))
+    (λ c κs. let a = c .before .before .before .before .before .before .before .before .before .before .args in let h = c .before .before .before .before .before .before .before .before .before .before .pre in let s = a .context .now in let l = c .before .before .before .before .before .before .before .if1 .left in let e = sym (c .before .before .before .before .before .before .store-fits .ensures) ∙ c .before .before .before .before .before .if2 .taken in let w = context-within s _ h in let f = fits (a .k) (a .n) l e in let g = ample-if (a .counter) _ (sym (c .before .before .before .ample .ensures) ∙ c .before .before .if3 .taken) in (c .before .before .before .before .positions .ensures, omega arith, f, g .0, g .1))
     (λ c. search needs)
-    (λ c. let a = c .before .before .before .before .before .before .before .before .before .before .before .before .before .before .before .before .before .before .args in let h = c .before .before .before .before .before .before .before .before .before .before .before .before .before .before .before .before .before .before .pre in let s = a .context .now in let l = c .before .before .before .before .before .before .before .before .before .before .before .before .before .before .before .if1 .left in let e = sym (c .before .before .before .before .before .before .before .before .before .before .before .before .before .before .store-fits .ensures) ∙ c .before .before .before .before .before .before .before .before .before .before .before .before .before .if2 .taken in answers-as (a .counter) (stored (a .counter) _ s (a .k) (a .n) h l e) (tree (a .counter) 0 s (a .k) (a .n) h) (wrote (storeObject base (extIn s 0) (a .k - a .n) (a .n)) (a .counter) (c .before .before .before .before .before .before .before .before .before .store-object .ensures) refl refl (a .out .now) (c .before .before .before .before .before .before .before .grant .ensures) (c .before .before .before .before .before .before .is-written .ensures) (c .before .before .before .before .before .if3 .taken) (c .before .before .store-object2 .ensures) refl refl)))
+    (λ c. let a = c .before .before .before .before .before .before .before .before .before .before .before .before .before .args in let h = c .before .before .before .before .before .before .before .before .before .before .before .before .before .pre in let s = a .context .now in let l = c .before .before .before .before .before .before .before .before .before .before .if1 .left in let e = sym (c .before .before .before .before .before .before .before .before .before .store-fits .ensures) ∙ c .before .before .before .before .before .before .before .before .if2 .taken in answers-as (a .counter) (stored (a .counter) _ s (a .k) (a .n) h l e) (tree (a .counter) 0 s (a .k) (a .n) h) (c .before .before .store-at-once .ensures))
+    (λ c κs. let a = c .before .before .before .before .before .before .before .before .before .before .args in let h = c .before .before .before .before .before .before .before .before .before .before .pre in let s = a .context .now in let l = c .before .before .before .before .before .before .before .if1 .left in let e = sym (c .before .before .before .before .before .before .store-fits .ensures) ∙ c .before .before .before .before .before .if2 .taken in let w = context-within s _ h in let f = fits (a .k) (a .n) l e in (c .before .before .before .before .positions .ensures, omega arith, f))
+    (λ c. search needs)
+    (λ c. let a = c .before .before .before .before .before .before .before .before .before .before .before .before .before .args in let h = c .before .before .before .before .before .before .before .before .before .before .before .before .before .pre in let s = a .context .now in let l = c .before .before .before .before .before .before .before .before .before .before .if1 .left in let e = sym (c .before .before .before .before .before .before .before .before .before .store-fits .ensures) ∙ c .before .before .before .before .before .before .before .before .if2 .taken in answers-as (a .counter) (stored (a .counter) _ s (a .k) (a .n) h l e) (tree (a .counter) 0 s (a .k) (a .n) h) (c .before .before .store-sized .ensures)))

@@ -1,0 +1,10 @@
+use borrow.Author.Tests.{lt-ltb, le-ltb}
+use Rattle.storing.proofs.store.ample.Statement.{statement}
+use Rattle.storing.proofs.store.ample.Tie as tie
+
+pub ample-spec : {M : Type 1} → statement M
+ample-spec =
+    tie.close
+    (tie.spec
+    (λ c. rw (le-ltb _ 2147480000 (c .if1 .left)))
+    (λ c. rw (lt-ltb _ 2147480000 (c .if1 .taken))))
