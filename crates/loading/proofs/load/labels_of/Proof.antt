@@ -1,7 +1,8 @@
-use borrow.Author.Needs.{needs}
+use mathlib.Core.Path.{sym, _∙_}
+use mathlib.Core.Bool.{true, false}
 use native.Mathlib.Omega.{arith}
 use Rattle.memory.specs.Objects.{extIn}
-use Rattle.memory.specs.Sizes.{some-size}
+use Rattle.loading.proofs.Labels.{some-labels}
 use Rattle.loading.proofs.load.labels_of.Statement.{statement}
 use Rattle.loading.proofs.load.labels_of.Tie as tie
 
@@ -9,6 +10,6 @@ pub labels-of-spec : {M : Type 1} → statement M
 labels-of-spec =
     tie.close
     (tie.spec
-    (λ c. search needs)
-    (λ c κs. search needs)
-    (λ c. let a = c .before .before .before .before .args in let w = c .before .before .before .before .pre in let d = c .before .load-some .ensures in let z = some-size (extIn (a .kinds .now) (a .first)) (a .shared) (a .v) (a .n) (omega arith) in (omega (arith, d .drawn), omega (arith, d .drawn, z .0))))
+    (λ c κs. c .before .before .pre)
+    (λ c. let a = c .before .before .before .args in let w = c .before .before .before .pre in rw (c .before .if1 .taken) (c .linked .ensures .0 ∙ sym (some-labels (extIn (a .kinds .now) (a .first)) true (a .v) (a .n)), omega (arith, w .2, c .linked .ensures .1)))
+    (λ c. let a = c .before .before .args in rw (c .if1 .left) (sym (some-labels (extIn (a .kinds .now) (a .first)) false (a .v) (a .n)), omega arith)))
