@@ -56,7 +56,26 @@ pub fn emission() -> bool {
     for case in cases() {
         alike &= time(&case);
     }
+    println!(
+        "the table of positions, made once by each store and load: {:.1} ns",
+        table()
+    );
     alike
+}
+
+/// How long a query of a position takes, which is the making of the table.
+fn table() -> f64 {
+    let queries = 1_000;
+    let query = port::Query::Position(0);
+    let time = |_| {
+        timed(|| {
+            for _ in 0..queries {
+                black_box(port::query(black_box(&query)));
+            }
+        })
+    };
+    let least = (0..TURNS).map(time).min().unwrap_or_default();
+    least.as_nanos() as f64 / queries as f64
 }
 
 fn cases() -> Vec<Case> {

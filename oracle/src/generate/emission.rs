@@ -37,6 +37,11 @@ const DRAWING: [(&str, u64); 14] = [
     ("erase_block r4; share_block_n r4 1; store l e", 17),
 ];
 
+/// The last counter and the shortest output with which the port writes a store or load at once,
+/// without a pass for its size.
+const LAST_AT_ONCE: u64 = 2_147_479_999;
+const FIRST_AT_ONCE: u64 = 103_200;
+
 /// Operations to be given outputs of several lengths.
 const ROOMS: [&str; 27] = [
     "label lab1",
@@ -241,7 +246,8 @@ fn counters_of_contexts(random: &mut Random, list: &mut Vec<String>) {
 }
 
 /// Every operation, and every length of a context, with outputs of no byte, of about half the
-/// bytes needed, of a byte less, of just the bytes needed and of a byte more.
+/// bytes needed, of a byte less, of just the bytes needed and of a byte more, and about the length
+/// from which the port writes at once.
 fn rooms(random: &mut Random, list: &mut Vec<String>) {
     let mut requests: Vec<String> = ROOMS.map(str::to_string).to_vec();
     for length in 0..=LONGEST {
@@ -257,7 +263,15 @@ fn rooms(random: &mut Random, list: &mut Vec<String>) {
         let Some((bytes, _)) = size(&request) else {
             continue;
         };
-        for room in [0, bytes / 2, bytes.saturating_sub(1), bytes, bytes + 1] {
+        for room in [
+            0,
+            bytes / 2,
+            bytes.saturating_sub(1),
+            bytes,
+            bytes + 1,
+            FIRST_AT_ONCE - 1,
+            FIRST_AT_ONCE,
+        ] {
             list.push(format!("room {room} {request}"));
         }
     }
@@ -269,6 +283,8 @@ fn counters(list: &mut Vec<String>) {
             0,
             1,
             1 << 30,
+            LAST_AT_ONCE,
+            LAST_AT_ONCE + 1,
             LAST_FRESH - labels - 1,
             LAST_FRESH - labels,
             LAST_FRESH - labels + 1,
@@ -323,7 +339,7 @@ fn queries(random: &mut Random, list: &mut Vec<String>) {
             list.push(format!("field_offset {which} {field}"));
         }
     }
-    for before in (0..=135).chain([4_095]) {
+    for before in (0..=135).chain([4_093]) {
         let which = fst_or_snd(random);
         list.push(format!("variable_temporary {which} 5 1*{before},5"));
         list.push(format!("variable_temporary {which} 5 1*{before},5*2,1"));

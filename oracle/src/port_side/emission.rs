@@ -93,9 +93,11 @@ impl List {
                     port::print(*newline, source, &context, out)
                 })
             }
-            Operation::EraseBlock(t) => self.on_operands([t], AMPLE_FOR_FEW, |[t], counter, out| {
-                port::memory(&Memory::EraseBlock(t), counter, out)
-            }),
+            Operation::EraseBlock(t) => {
+                self.on_operands([t], AMPLE_FOR_FEW, |[t], counter, out| {
+                    port::memory(&Memory::EraseBlock(t), counter, out)
+                })
+            }
             Operation::ShareBlockN(t, n) => {
                 self.on_operands([t], AMPLE_FOR_FEW, |[t], counter, out| {
                     port::memory(&Memory::ShareBlockN(t, *n), counter, out)
@@ -192,7 +194,10 @@ impl List {
         let Returned { number, value } = call(&mut self.counter, lent.output());
         let length = if number == 0 { SIZE as u64 * value } else { 0 };
         let kept = number == 0 || self.counter == counter;
-        let written = lent.written(length).filter(|_| kept).ok_or(Answer::Damaged)?;
+        let written = lent
+            .written(length)
+            .filter(|_| kept)
+            .ok_or(Answer::Damaged)?;
         match number {
             0 => Ok(written.to_vec()),
             10 => Err(Answer::Refused(10, Some(before + value))),
@@ -203,7 +208,8 @@ impl List {
 
     /// Given records are checked with the list or the routine that they end up in.
     fn raw(&mut self, count: u64, bytes: &[u8; SIZE]) -> Performed {
-        self.bytes.extend(bytes.repeat(count.min(TOO_MANY) as usize));
+        self.bytes
+            .extend(bytes.repeat(count.min(TOO_MANY) as usize));
         Ok(())
     }
 
