@@ -1,4 +1,4 @@
--- Document 01, 'Worked numbers': the starred ones on operations, line by line, by the definitions that the contracts cite.
+-- Document 01, 'Worked numbers': the starred ones, line by line, by the definitions that the contracts cite.
 -- Outputs hold 65,536 records, counters start at 0, and contexts are of integers.
 use Prim.Native.Nat.{ℕ, _≤_, _<_}
 use mathlib.Core.Path.{_≡_}
@@ -8,7 +8,9 @@ use Rattle.records.specs.declared.binding.Kind.the-variants.{Ext}
 use Rattle.records.specs.declared.binding.Binding.{Binding}
 use Rattle.records.specs.declared.code.Code.{Code}
 use Rattle.records.specs.declared.code.Code.the-variants.{MOVI, MOVIM}
+use Rattle.records.specs.declared.order.Order.the-variants.{Store}
 use Rattle.records.specs.Contexts.{bindingBytes}
+use Rattle.records.specs.Orders.{orderFieldsOf, orderBytes}
 use Rattle.records.specs.ReadBack.{joined}
 use Rattle.trees.specs.Tree.{Tree, flat}
 use Rattle.emit.specs.declared.answer.Answer.{Answer}
@@ -20,6 +22,8 @@ use Rattle.layout.specs.Positions.{positionAnswer, temporaryCause}
 use Rattle.memory.specs.Blocks.{eraseBlock}
 use Rattle.memory.specs.Answered.{eraseAnswer, storeTree, storeAnswer}
 use Rattle.memory.specs.LoadAnswered.{loadTree, loadAnswer}
+use Rattle.orders.specs.Answered as order
+use Rattle.orders.specs.Answered.{Asked, answerTo}
 
 abbrev pub ample : ℕ
 ample = 1572864
@@ -27,6 +31,10 @@ ample = 1572864
 -- the bytes of a context of n integers
 abbrev pub integers : ℕ → List ℕ
 integers n = joined bindingBytes (replicate n (record { kind = Ext; id = 0 }))
+
+-- the order to store no variable
+abbrev pub storeNone : Asked
+storeNone = record { order = orderBytes (orderFieldsOf (Store 0 0)); bindings = []; counter = 0; recordsRoom = ample; contextRoom = ample }
 
 -- an operation answers with so many records and labels, and the records of its tree are so many
 pub record Writes (answer : Answer) (tree : Tree) (records labels : ℕ) : Type 0 where
@@ -55,6 +63,8 @@ pub record WorkedNumbers : Type 0 where
   pub none-after-133 : storeAnswer base 0 ample (integers 133) 0 ≡ Written 1 0
   pub record-after-133 : flat (storeTree base (integers 133) 0) 0 ≡ MOVIM STACK 0 0 ∷ []
   pub none-after-134 : causeOf (storeAnswer base 0 ample (integers 134) 0) ≡ 8 ∷ []
+  -- '(as an order: 8, for the tag)'
+  pub order-after-133 : order.causeOf (answerTo base (integers 133) storeNone) ≡ 8 ∷ []
   -- 'Store one after 132 works; after 133: 8.' (k variables in all: those before, and the one stored)
   pub one-after-132 : StoreWrites 1 133 60 13
   pub one-after-133 : causeOf (storeAnswer base 0 ample (integers 134) 1) ≡ 8 ∷ []

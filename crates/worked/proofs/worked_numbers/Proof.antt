@@ -2,15 +2,18 @@ use Prim.Native.Nat.{ℕ, _+_, _≤_, _<_}
 use mathlib.Core.Path.{refl}
 use native.Mathlib.Omega.{arith}
 use borrow.Author.Tests.{lt-ltb, le-ltb, le-leb}
-use Rattle.records.specs.Bytes.{le}
+use Rattle.records.specs.Bytes.{le, number}
 use Rattle.records.specs.Checked.{checked, firstBad}
 use Rattle.records.specs.Contexts.{bindingBytes, bindingStarts}
+use Rattle.records.specs.Orders.{orderBytes, orderIn, orderOf, orderReaders, orderOk, orderOperandsOk, usedByOrder, orderStarts}
 use Rattle.emit.specs.Answers.{granted}
 use Rattle.layout.specs.Config.{base, spill, stackOffset}
 use Rattle.layout.specs.Positions.{location, operandOk, positionAnswer}
 use Rattle.memory.specs.Blocks.{eraseBlock}
 use Rattle.memory.specs.Answered.{eraseAnswer, storeAnswer}
 use Rattle.memory.specs.LoadAnswered.{loadAnswer}
+use Rattle.orders.specs.Answered.{answerTo}
+use Rattle.orders.specs.Writes.{present, kindsOk, asked}
 use Rattle.worked.specs.Worked.{ample, Writes, WorkedNumbers}
 use Rattle.worked.proofs.worked_numbers.Statement.{statement}
 use Rattle.worked.proofs.worked_numbers.Tie as tie
@@ -30,7 +33,7 @@ spilled p h k =
     }
 
 holds : WorkedNumbers
-unfolding le checked firstBad bindingBytes bindingStarts granted stackOffset location operandOk positionAnswer eraseAnswer storeAnswer loadAnswer
+unfolding le checked firstBad bindingBytes bindingStarts granted stackOffset location operandOk positionAnswer eraseAnswer storeAnswer loadAnswer answerTo number orderBytes orderIn orderOf orderReaders orderOk orderOperandsOk usedByOrder orderStarts present kindsOk asked
 holds = record {
   position-11 = refl;
   position-12 = refl;
@@ -43,6 +46,7 @@ holds = record {
   none-after-133 = refl;
   record-after-133 = refl;
   none-after-134 = refl;
+  order-after-133 = refl;
   one-after-132 = record { answered = refl; written = refl };
   one-after-133 = refl;
   erase-register = register;
