@@ -1,7 +1,7 @@
 -- From an order's bytes to its answer and its two outputs.
 use Prim.Native.Nat.{ℕ, _*_, _/_, _≤_}
-use mathlib.Core.Path.{_≡_, refl, sym, ap, _∙_}
-use mathlib.Core.Bool.{Bool, true, false, _&&_, cond}
+use mathlib.Core.Path.{_≡_, sym, ap, _∙_}
+use mathlib.Core.Bool.{true, false, _&&_, cond}
 use mathlib.Core.List.{List}
 use native.Mathlib.Omega.{arith}
 use lib.Dec.{leb, eqb}
@@ -13,10 +13,9 @@ use Rattle.records.specs.declared.check.Checked.the-variants.{Good}
 use Rattle.records.specs.declared.check.Checked.the-variants as checked
 use Rattle.records.specs.declared.order.Order.{Order}
 use Rattle.records.specs.Contexts.{checkedContext}
-use Rattle.records.specs.Orders.{orderIn, orderOf, orderOk, orderStarts}
-use Rattle.records.specs.ReadBack.{joined, codeBytes}
+use Rattle.records.specs.Orders.{orderIn, orderOk, orderStarts}
 use Rattle.records.proofs.Conditions.{and-left}
-use Rattle.trees.specs.Tree.{size, flat}
+use Rattle.trees.specs.Tree.{size}
 use Rattle.layout.specs.Config.{base}
 use Rattle.memory.specs.Answered.{variablesIn}
 use Rattle.orders.specs.declared.answer.Answer.{Answer}

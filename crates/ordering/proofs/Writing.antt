@@ -1,6 +1,6 @@
 -- The tree of an order, by what the order is.
 use Prim.Native.Nat.{ℕ, _-_}
-use mathlib.Core.Path.{_≡_, refl, subst}
+use mathlib.Core.Path.{_≡_, subst}
 use mathlib.Core.Bool.{Bool, cond}
 use mathlib.Core.List.{List}
 use Rattle.records.specs.declared.order.Operation.{Operation}

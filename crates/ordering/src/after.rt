@@ -62,7 +62,7 @@ fn make_bindings(out: &mut [u8], at: usize, kind: Kind, place: u64, n: u64)
     }
 }
 
-// The first `kept` variables, then n that are made.
+// The first `kept` variables, then n that are made; their kind says nothing where n is 0.
 fn keep_and_make(out: &mut [u8], context: &[u8], kept: u64, kind: Kind, n: u64)
     requires { ⌜ (kept ≤ 4096) × (kept + n < 2 ^ 32) × (8 * kept ≤ length (now context)) × (8 * (kept + n) ≤ length (now out)) ⌝ }
     ensures { λ r. ⌜ now (out .exit) ≡ sets (now (out .entry)) 0 (take (8 * kept) (now (context .entry)) ++ madeAll kind kept n) ⌝ }

@@ -1,4 +1,3 @@
-use borrow.Author.Needs.{needs}
 use borrow.Author.Tests.{eq-eqb, ne-eqb}
 use Rattle.channel.proofs.checks.asked_if.Statement.{statement}
 use Rattle.channel.proofs.checks.asked_if.Tie as tie

@@ -1,4 +1,3 @@
-use borrow.Author.Needs.{needs}
 use borrow.Author.Tests.{lt-ltb, le-ltb}
 use Rattle.channel.proofs.checks.both_below.Statement.{statement}
 use Rattle.channel.proofs.checks.both_below.Tie as tie

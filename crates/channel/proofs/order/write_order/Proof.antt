@@ -2,7 +2,6 @@ use borrow.Author.Needs.{needs}
 use native.Mathlib.Omega.{arith}
 use Prim.Native.Nat.{ℕ, _*_}
 use mathlib.Core.Path.{refl, sym, ap, _∙_}
-use lib.ListN.{length}
 use Rattle.records.proofs.BindingsRead.{context-within}
 use Rattle.layout.specs.Config.{base}
 use Rattle.orders.specs.Writes.{treeOf, contextAfter}

@@ -24,6 +24,6 @@ copy-variable-spec =
     (λ c. search needs)
     (λ c κs. search needs)
     (λ c κs. search needs)
-    (λ c κs. let d = c .before .before .before .emit-mov2 .ensures in let z = plain-mov base (c .before .before .before .before .before .before .location-at3 .result) (c .before .before .before .before .before .location-at4 .result) in (omega (arith, d .place, z .most, c .before .before .before .before .before .before .before .before .before .before .before .pre .3), c .before .before .before .before .before .before .before .before .before .location-at .ensures .1, c .before .before .before .before .before .before .before .before .location-at2 .ensures .1))
+    (λ c κs. let d = c .before .before .before .emit-mov2 .ensures in let f = plain-mov base (c .before .before .before .before .before .before .location-at3 .result) (c .before .before .before .before .before .location-at4 .result) in let s = plain-mov base (c .before .before .before .before .before .before .before .before .before .location-at .result) (c .before .before .before .before .before .before .before .before .location-at2 .result) in (omega (arith, d .place, f .most, s .most, c .before .before .before .before .before .before .before .before .before .before .before .pre .3), omega (arith, c .before .before .before .before .before .before .before .before .before .location-at .ensures .1, c .before .before .before .before .before .before .location-at3 .ensures .1), omega (arith, c .before .before .before .before .before .before .before .before .location-at2 .ensures .1, c .before .before .before .before .before .location-at4 .ensures .1)))
     (λ c. search needs)
     (λ c. rw (c .before .before .before .before .before .before .before .before .before .before .if1 .left, ← (c .before .before .before .before .before .before .before .before .before .before .before .before .location-at .ensures .0), ← (c .before .before .before .before .before .before .before .before .before .before .before .location-at2 .ensures .0), ← (c .before .before .before .before .before .before .before .before .before .location-at3 .ensures .0), ← (c .before .before .before .before .before .before .before .before .location-at4 .ensures .0)) (c .before .before .before .before .before .before .emit-mov2 .ensures ⨟ c .before .before .emit-mov3 .ensures)))
