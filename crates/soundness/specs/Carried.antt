@@ -106,7 +106,7 @@ module _ {blocks acquired : ℕ} {past : List State} {ch : Channel} {vs : Values
   carried-on d p =
       let low = f .low in
       let b : Bounded objectSizes L (suc (suc (acquires o + acquired))) (heapOf d) (variables (extAt context) d 0 (countOf (plainly o vs))) (plain (abstractly o vs) vs)
-        = represents-bounded refl (suc (suc (acquires o + acquired))) (omega arith) (p .performs) (legal bindings o vs changing owed) (f .represents) (omega (arith, stored-blocks o vs)) in
+      = represents-bounded refl (suc (suc (acquires o + acquired))) (omega arith) (p .performs) (legal bindings o vs changing owed) (f .represents) (omega (arith, stored-blocks o vs)) in
       let next : Channel = record { context = context; view = d .state } in
       record {
         places = good;
@@ -117,7 +117,7 @@ module _ {blocks acquired : ℕ} {past : List State} {ch : Channel} {vs : Values
         low = let l = b .below in omega arith;
         represents = rw (plain-same o vs changing) at (b .represents);
         run = subst (λ (s : State). Run objectSizes L (stateOf ch vs ∷ past) s) (state-is next (countOf (plainly o vs)) (plain (abstractly o vs) vs) (plainly o vs) (places-are context (countOf (plainly o vs)) good) (plain-same o vs changing))
-          (abstract.next (abstractly o vs) (f .run) (legal bindings o vs changing owed) (rw (places-are (ch .context) (countOf vs) (f .places)) (p .performs)));
+            (abstract.next (abstractly o vs) (f .run) (legal bindings o vs changing owed) (rw (places-are (ch .context) (countOf vs) (f .places)) (p .performs)));
       }
 
 -- a print, which leaves variables and heap as they were

@@ -107,7 +107,7 @@ module _ (words : ℕ → ℕ) {blocks acquired : ℕ} {past : List State} {ch :
     copy-order a n ak most =
         recounted (count-joined vs (copies n (valueAt a vs)) ∙ ap (λ (m : ℕ). K + m) (count-copies n (valueAt a vs)))
         (copy-does words E (E′ (Copy a n)) C K a n (f .placed) ak most (λ x l. ext-left (ch .context) new K long x l)
-          (λ i l. ext-right (ch .context) new K long i ∙ ext-made-all (kindAt (ch .context) a) K n i l ∙ kind-at (ch .context) a) below (f .represents))
+        (λ i l. ext-right (ch .context) new K long i ∙ ext-made-all (kindAt (ch .context) a) K n i l ∙ kind-at (ch .context) a) below (f .represents))
       where
         new : List ℕ
         new = madeAll (kindAt (ch .context) a) K n
@@ -132,9 +132,9 @@ module _ (words : ℕ → ℕ) {blocks acquired : ℕ} {past : List State} {ch :
         let kinds : extIn (ch .context) 0 ≡ E = fun-ext (ext-in-whole (ch .context)) in
         recounted (count-joined (firstOf r vs) (cons (object tag (restOf r vs)) nil) ∙ ap (λ (m : ℕ). m + 1) (count-first r vs (omega arith)) ∙ plus-one r)
         (rw kinds (rebased e (store-does words E (E′ (Store n tag)) C (f .placed) r n tag (omega arith) most
-          (λ x l. ext-left (take (8 * r) (ch .context)) (made Linked r) r whole x l ∙ ext-take (ch .context) r x l)
-          (rw z at (ext-right (take (8 * r) (ch .context)) (made Linked r) r whole 0) ∙ ext-made Linked r)
-          (omega arith) (rw (← e) at (f .represents)))))
+        (λ x l. ext-left (take (8 * r) (ch .context)) (made Linked r) r whole x l ∙ ext-take (ch .context) r x l)
+        (rw z at (ext-right (take (8 * r) (ch .context)) (made Linked r) r whole 0) ∙ ext-made Linked r)
+        (omega arith) (rw (← e) at (f .represents)))))
       where
         plus-one : (m : ℕ) → m + 1 ≡ suc m
         plus-one m = omega arith
@@ -158,13 +158,13 @@ module _ (words : ℕ → ℕ) {blocks acquired : ℕ} {past : List State} {ch :
         by (object tag ws) is a =
             let few = f .few in
             let c : countOf (joined (firstOf (K - 1) vs) (listOf (valueAt (K - 1) vs))) ≡ e + countOf ws
-              = ap (λ (v : Value). countOf (joined (firstOf (K - 1) vs) (listOf v))) is ∙ count-joined (firstOf (K - 1) vs) ws ∙ ap (λ (m : ℕ). m + countOf ws) (count-first (K - 1) vs (omega arith) ∙ z) in
+            = ap (λ (v : Value). countOf (joined (firstOf (K - 1) vs) (listOf v))) is ∙ count-joined (firstOf (K - 1) vs) ws ∙ ap (λ (m : ℕ). m + countOf ws) (count-first (K - 1) vs (omega arith) ∙ z) in
             let d = load-does words E (extAt (front ++ bindings)) C (f .placed) (extIn bindings e) e tag ws below (omega arith) (omega (arith, a .0))
-                  (λ x l. ext-left front bindings e whole x l ∙ ext-take (ch .context) e x l) linked
-                  (λ x l h. let y : e + (x - e) ≡ x = omega arith in rw y at (ext-in bindings e (x - e) ∙ sym (ext-right front bindings e whole (x - e))))
-                  (ap (λ (m : ℕ). valueAt m vs) (sym z) ∙ is)
-                  (kinds-moved (extAt bindings) (extAt (front ++ bindings)) 0 e ws (λ x l. let y : 0 + x ≡ x = omega arith in rw y (ext-right front bindings e whole x)) (a .1))
-                  (rw q at (f .represents)) in
+            (λ x l. ext-left front bindings e whole x l ∙ ext-take (ch .context) e x l) linked
+            (λ x l h. let y : e + (x - e) ≡ x = omega arith in rw y at (ext-in bindings e (x - e) ∙ sym (ext-right front bindings e whole (x - e))))
+            (ap (λ (m : ℕ). valueAt m vs) (sym z) ∙ is)
+            (kinds-moved (extAt bindings) (extAt (front ++ bindings)) 0 e ws (λ x l. let y : 0 + x ≡ x = omega arith in rw y (ext-right front bindings e whole x)) (a .1))
+            (rw q at (f .represents)) in
             recounted c (rw (z, q, ← (a .0)) d)
 
     -- with what an accepted order says, and the room that the user gives

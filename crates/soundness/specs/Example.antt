@@ -129,8 +129,8 @@ two-held fields linked c (d ∷ []) o l h =
     let first = h .0 in
     let second = h .4 .0 in
     let is : d ≡ cell 0 7 ∷ cell 0 120 ∷ []
-      = sym (append-nil d) ∙ h .2 ∙ ap (λ (r : List Cell). first ∷ r) (h .4 .2 ∙ ap (λ (r : List Cell). second ∷ r) (h .4 .4))
-        ∙ rw (h .3 .0, h .3 .1, h .4 .3 .0, h .4 .3 .1) in
+    = sym (append-nil d) ∙ h .2 ∙ ap (λ (r : List Cell). first ∷ r) (h .4 .2 ∙ ap (λ (r : List Cell). second ∷ r) (h .4 .4))
+    ∙ rw (h .3 .0, h .3 .1, h .4 .3 .0, h .4 .3 .1) in
     (o .0, o .1, o .3 ∙ ap (λ (x : List Cell). o .1 ++ x) is)
 
 pub worked-list-is-sound : WorkedListIsSound

@@ -69,7 +69,7 @@ module _ (blocks : ℕ) (most : blocks ≤ 1048576) where
       subst (λ (k : ℕ). SteppedAt blocks (acquired blocks its) (statesBefore blocks its) (reached blocks its) (values blocks its) it k)
       (sym (places-are (reached blocks its .context) (countOf (values blocks its)) (f .places)))
       (stepped blocks (acquired blocks its) (statesBefore blocks its) (reached blocks its) (values blocks its) it f
-        (taken (reached blocks its .context) (it .asked) (countOf (values blocks its)) (f .places) e) w (omega arith))
+      (taken (reached blocks its .context) (it .asked) (countOf (values blocks its)) (f .places) e) w (omega arith))
 
   carried : (its : List Item) → 2 + acquired blocks its ≤ blocks → AllOwed blocks its → Carried blocks (acquired blocks its) (statesBefore blocks its) (reached blocks its) (values blocks its)
   carried [] h w = none-yet

@@ -59,4 +59,4 @@ module _ (words : ℕ → ℕ) {N m : ℕ} {values : Values} (ext ext′ : ℕ �
       let snoc : variables ext c 0 (suc e) ≡ variables ext c 0 e ++ (variable ext c e ∷ []) = variables-snoc ext c 0 e ∙ rw (zero-add e) in
       rw (load-same own ext′ e (countOf ws) alike)
       (so (load-order words ext ext′ c e tag v mN h agree linked (rw snoc at rep) ws most is kinds) (λ d x.
-        record { performs = rw snoc (x .0); placed = placed-keeps (omega (arith, location-fits (2 * e) (omega arith) .0)) (x .1) v; quiet = x .1 .calls-kept }))
+      record { performs = rw snoc (x .0); placed = placed-keeps (omega (arith, location-fits (2 * e) (omega arith) .0)) (x .1) v; quiet = x .1 .calls-kept }))

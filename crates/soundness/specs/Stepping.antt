@@ -109,7 +109,7 @@ module _ (blocks acquired : ℕ) (past : List State) (ch : Channel) (vs : Values
         let h : a < countOf vs = ltb-true a (countOf vs) (rw e at (w .there)) in
         let x : extAt (ch .context) a ≡ true = rw e at (w .of-kind) in
         let d : Does (it .words) (treeAt (countOf vs)) (start (ch .view)) (Prints newline a)
-          = rw e (print-does (it .words) (extAt (ch .context)) newline (start (ch .view)) (countOf vs) a (f .placed) h (f .few) x) in
+        = rw e (print-does (it .words) (extAt (ch .context)) newline (start (ch .view)) (countOf vs) a (f .placed) h (f .few) x) in
         let r = ended-by d in
         let q = r .post in
         record {
