@@ -1,5 +1,6 @@
 //! What the Rust and the port answer, and how it is written.
 
+use crate::hex;
 use crate::interpreter::State;
 use crate::port::Ran;
 use crate::record::{self, Record};
@@ -18,6 +19,15 @@ pub enum Answer {
     Listing(String),
     /// How a run came out, and what it left.
     Ran(Ran, Box<State>, Vec<u64>),
+    /// An order's records, the counter and the context after it.
+    Ordered(Vec<Record>, u64, Vec<u8>),
+    /// There is a new channel.
+    Fresh,
+    /// How many records an order has, the counter after them, how their run came out, and the
+    /// context after it.
+    Played(usize, u64, Ran, Vec<u8>),
+    /// A channel's context, state and heap.
+    Shown(Vec<u8>, Box<State>, Vec<u64>),
     /// The Rust panicked.
     Panic,
     /// The labels that the Rust drew lead above the last fresh label.
@@ -43,10 +53,20 @@ impl fmt::Display for Answer {
             Answer::Listing(text) => write!(f, "{}", text.strip_suffix('\n').unwrap_or(text)),
             Answer::Ran(ran, state, heap) => {
                 writeln!(f, "{ran}")?;
-                let registers = state.registers.iter().map(|word| format!(" {word}"));
-                writeln!(f, "registers{}", registers.collect::<String>())?;
-                writeln!(f, "stack{}", nonzero(&state.stack))?;
-                write!(f, "heap{}", nonzero(heap))
+                write!(f, "{}", state_lines(state, heap))
+            }
+            Answer::Ordered(records, counter, context) => {
+                writeln!(f, "{}counter {counter}", record::listing(records))?;
+                write!(f, "context {}", hex::write(context))
+            }
+            Answer::Fresh => write!(f, "fresh"),
+            Answer::Played(records, counter, ran, context) => {
+                writeln!(f, "accepted {records} records counter {counter}\n{ran}")?;
+                write!(f, "context {}", hex::write(context))
+            }
+            Answer::Shown(context, state, heap) => {
+                writeln!(f, "context {}", hex::write(context))?;
+                write!(f, "{}", state_lines(state, heap))
             }
             Answer::Panic => write!(f, "panic"),
             Answer::Exceeded(labels) => write!(f, "exceeded {labels}"),
@@ -72,6 +92,16 @@ impl fmt::Display for Ran {
             _ => write!(f, "refused {number} {steps} {place}"),
         }
     }
+}
+
+fn state_lines(state: &State, heap: &[u64]) -> String {
+    let registers: String = state
+        .registers
+        .iter()
+        .map(|word| format!(" {word}"))
+        .collect();
+    let (stack, heap) = (nonzero(&state.stack), nonzero(heap));
+    format!("registers{registers}\nstack{stack}\nheap{heap}")
 }
 
 /// The words that are not zero, each after its index.

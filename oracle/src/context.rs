@@ -15,6 +15,10 @@ pub type Kinds = Runs<Kind>;
 pub type Ids = Runs<u64>;
 
 impl<T: Copy> Runs<T> {
+    pub fn each(items: &[T]) -> Runs<T> {
+        Runs(items.iter().map(|item| (*item, 1)).collect())
+    }
+
     /// How many items there are, or the most that 64 bits hold.
     pub fn length(&self) -> u64 {
         let counts = self.0.iter().map(|(_, count)| *count);

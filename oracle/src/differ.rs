@@ -59,7 +59,7 @@ impl Tally {
             return;
         };
         let rust = rust_side::answer(&request);
-        let port = port_side::answer(&request);
+        let port = port_side::answer(&request, &mut None);
         match outcome(&request, &rust, &port) {
             Outcome::Same => self.same += 1,
             Outcome::Matched => self.matched += 1,

@@ -3,6 +3,7 @@
 //! It is plain Rust on mutable words, so it also serves to time the port's machine.
 
 use crate::codes::{CODES, Code};
+use crate::port::Ran;
 use crate::reading;
 use crate::record::{PRINT_I64, PRINTLN_I64, SIZE};
 
@@ -39,6 +40,16 @@ pub fn entry() -> State {
         registers,
         stack: [0; STACK_WORDS],
     }
+}
+
+/// "The first state follows the 16 records before the body of a 0-argument routine": six pushes of
+/// zeros, room for 256 spills, the heap's first block in HEAP and the second in FREE.
+pub fn fresh() -> State {
+    let mut state = entry();
+    state.registers[STACK] -= 6 * 8 + 256 * 8;
+    state.registers[2] = HEAP_START;
+    state.registers[3] = HEAP_START + 8 * BLOCK_WORDS as u64;
+    state
 }
 
 /// Why a record faults.
@@ -78,6 +89,23 @@ pub enum Outcome {
     Limit {
         limit: u64,
     },
+}
+
+impl Outcome {
+    /// The numbers that the port has for it.
+    pub fn numbers(&self) -> Ran {
+        let (number, steps, place) = match *self {
+            Outcome::Ended { steps, .. } => (0, steps, 0),
+            Outcome::Malformed { place } => (2, 0, place),
+            Outcome::Fault { steps, place, .. } => (11, steps, place),
+            Outcome::Limit { limit } => (12, limit, 0),
+        };
+        Ran {
+            number,
+            steps,
+            place,
+        }
+    }
 }
 
 /// Where a record leads.
@@ -410,6 +438,7 @@ mod tests {
         let [stack, _, heap, free, ..] = state.registers;
         assert_eq!(stack, STACK_AT_ENTRY - 6 * 8 - 2_048);
         assert_eq!([heap, free], [HEAP_START, HEAP_START + 64]);
+        assert_eq!(state, fresh());
     }
 
     /// A routine gives back what it saved and returns.

@@ -82,7 +82,7 @@ impl Tally {
         );
         let ran = port::run(records, &mut found.0, &mut found.1[inside], words, *limit);
         *self.outcomes.entry(name(&outcome)).or_default() += 1;
-        if numbers(&outcome) != ran || expected != found {
+        if outcome.numbers() != ran || expected != found {
             self.different += 1;
             if self.different <= SHOWN {
                 show(program, &outcome, &ran, &expected, &found);
@@ -114,21 +114,6 @@ impl Tally {
             self.performed.iter().sum::<u64>(),
             self.different
         );
-    }
-}
-
-/// The port's numbers for an outcome.
-fn numbers(outcome: &Outcome) -> Ran {
-    let (number, steps, place) = match *outcome {
-        Outcome::Ended { steps, .. } => (0, steps, 0),
-        Outcome::Malformed { place } => (2, 0, place),
-        Outcome::Fault { steps, place, .. } => (11, steps, place),
-        Outcome::Limit { limit } => (12, limit, 0),
-    };
-    Ran {
-        number,
-        steps,
-        place,
     }
 }
 

@@ -3,6 +3,7 @@
 mod agree;
 mod answer;
 mod bench;
+mod channel;
 mod codes;
 mod context;
 mod conversion;
@@ -15,6 +16,7 @@ mod lent;
 mod machine_agree;
 #[cfg(target_arch = "x86_64")]
 mod native;
+mod orders;
 mod parse;
 mod port;
 mod port_side;
@@ -25,6 +27,7 @@ mod record;
 mod replay_file;
 mod request;
 mod rust_side;
+mod soak;
 mod well_formed;
 
 use answer::Answer;
@@ -43,6 +46,8 @@ oracle machine-agree [OPTIONS]                     holds the port's machine agai
                                                    (--count 200000, --seed 1)
 oracle native [OPTIONS]                            holds it against this processor
                                                    (--count 400, --seed 1)
+oracle soak [rust] [OPTIONS]                       plays lists of orders on the port and checks
+                                                   (--orders 1000000, --seed 1, --blocks 2000)
 oracle bench machine                               times it beside plain Rust
 oracle bench emission                              times emission beside the published Rust";
 
@@ -77,7 +82,9 @@ fn run(words: &[&str]) -> Result<bool, Failure> {
         ["compare", "rust"] => answer_all(input, rust_side::answer).map_err(Failure::Files)?,
         ["compare", "port"] => {
             need_port()?;
-            answer_all(input, port_side::answer).map_err(Failure::Files)?;
+            let mut channel = None;
+            answer_all(input, |request| port_side::answer(request, &mut channel))
+                .map_err(Failure::Files)?;
         }
         ["differ"] => {
             need_port()?;
@@ -111,6 +118,17 @@ fn run(words: &[&str]) -> Result<bool, Failure> {
             need_port()?;
             let folder = std::path::Path::new("target/native");
             return native::run(count, seed, folder).map_err(Failure::Files);
+        }
+        ["soak", options @ ..] => {
+            let (side, options) = match options {
+                ["rust", options @ ..] => (channel::Side::Reading, options),
+                options => (channel::Side::Port, options),
+            };
+            let options = soak_options(side, options)?;
+            if side == channel::Side::Port {
+                need_port()?;
+            }
+            return Ok(soak::run(options));
         }
         ["bench", "machine"] => {
             need_port()?;
@@ -146,8 +164,34 @@ fn options_of(options: &[&str], count: u64) -> Result<(u64, u64), Failure> {
     Ok((count, seed))
 }
 
+/// The options of `soak`, in any sequence.
+fn soak_options(side: channel::Side, options: &[&str]) -> Result<soak::Options, Failure> {
+    let mut found = soak::Options {
+        side,
+        orders: 1_000_000,
+        seed: 1,
+        blocks: 2_000,
+    };
+    for option in options.chunks(2) {
+        let [name, value] = option else {
+            return Err(Failure::Usage);
+        };
+        let value = parse::number(value).map_err(|_| Failure::Usage)?;
+        match *name {
+            "--orders" => found.orders = value,
+            "--seed" => found.seed = value,
+            "--blocks" => found.blocks = value,
+            _ => return Err(Failure::Usage),
+        }
+    }
+    Ok(found)
+}
+
 /// Answers every request in sequence.
-fn answer_all(input: impl BufRead, side: fn(&Request) -> Answer) -> std::io::Result<()> {
+fn answer_all(
+    input: impl BufRead,
+    mut side: impl FnMut(&Request) -> Answer,
+) -> std::io::Result<()> {
     let mut output = std::io::BufWriter::new(std::io::stdout().lock());
     for (index, line) in requests(input).enumerate() {
         let request = parse::request(&line?);

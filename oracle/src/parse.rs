@@ -1,10 +1,13 @@
 //! Reads the text of a request.
 
+use crate::channel::Rooms;
 use crate::context::{read_ids, read_kinds};
 use crate::hex;
+use crate::orders::answer::Asked;
 use crate::record;
 use crate::request::{
-    Arithmetic, Condition, Emission, Form, Number, Operand, Operation, Query, Request, Run,
+    Arithmetic, Condition, Emission, Form, Number, Operand, Operation, Ordering, Query, Request,
+    Run,
 };
 
 type Read<T> = Result<T, String>;
@@ -25,13 +28,39 @@ pub fn request(line: &str) -> Read<Request> {
             records: hex::read(records)?,
         })),
         ["run", ..] => Err("wrong words after run".to_string()),
-        ["order" | "fresh" | "play" | "show", ..] => Ok(Request::Order),
+        ["order" | "fresh" | "play" | "show", ..] => Ok(Request::Order(ordering(&words)?)),
         [
             "variable_temporary" | "fresh_temporary" | "position" | "stack_offset" | "field_offset",
             ..,
         ] => Ok(Request::Query(query(&words)?)),
         _ => Ok(Request::Emission(emission(line)?)),
     }
+}
+
+fn ordering(words: &[&str]) -> Read<Ordering> {
+    match *words {
+        ["order", context, counter, order, bindings, records, after] => Ok(Ordering::Alone {
+            context: hex::read(context)?,
+            asked: asked(order, bindings, counter)?,
+            rooms: Rooms::of(number(records)?, number(after)?),
+        }),
+        ["fresh", blocks] => Ok(Ordering::Fresh(number(blocks)?)),
+        ["play", order, bindings, counter, records, after, words] => Ok(Ordering::Play {
+            asked: asked(order, bindings, counter)?,
+            rooms: Rooms::of(number(records)?, number(after)?),
+            words: print_words(words)?,
+        }),
+        ["show"] => Ok(Ordering::Show),
+        _ => Err(format!("wrong words after {}", words[0])),
+    }
+}
+
+fn asked(order: &str, bindings: &str, counter: &str) -> Read<Asked> {
+    Ok(Asked {
+        order: hex::read(order)?,
+        bindings: hex::read(bindings)?,
+        counter: number(counter)?,
+    })
 }
 
 fn query(words: &[&str]) -> Read<Query> {

@@ -85,7 +85,23 @@ exported! {
         context_len: usize,
         value: *mut u64
     ) -> u64;
+    fn axcut_order(
+        context: *const u8,
+        context_len: usize,
+        order: *const u8,
+        order_len: usize,
+        bindings: *const u8,
+        bindings_len: usize,
+        counter: *mut u64,
+        records_out: *mut u8,
+        records_out_len: usize,
+        context_out: *mut u8,
+        context_out_len: usize,
+        value: *mut u64,
+        count: *mut u64
+    ) -> u64;
     fn axcut_entry(registers: *mut [u64; 16], stack: *mut [u64; STACK_WORDS]) -> ();
+    fn axcut_fresh(registers: *mut [u64; 16], stack: *mut [u64; STACK_WORDS]) -> ();
     fn axcut_run(
         records: *const u8,
         len: usize,
@@ -290,6 +306,49 @@ pub fn query(query: &Query) -> Returned {
     Returned { number, value }
 }
 
+/// What an order returned: 0 or document 01's number, the records' number, a place or the bytes
+/// needed, and how many bindings the context after it has.
+#[derive(Debug, Clone, Copy, PartialEq, Eq)]
+pub struct Ordered {
+    pub number: u64,
+    pub value: u64,
+    pub bindings: u64,
+}
+
+/// An order's bytes on a context: its records into one output, the context after it into another.
+pub fn order(
+    context: &[u8],
+    order: &[u8],
+    bindings: &[u8],
+    counter: &mut u64,
+    records_out: &mut [u8],
+    context_out: &mut [u8],
+) -> Ordered {
+    let (mut value, mut count) = (u64::MAX, u64::MAX);
+    let number = unsafe {
+        axcut_order(
+            context.as_ptr(),
+            context.len(),
+            order.as_ptr(),
+            order.len(),
+            bindings.as_ptr(),
+            bindings.len(),
+            counter,
+            records_out.as_mut_ptr(),
+            records_out.len(),
+            context_out.as_mut_ptr(),
+            context_out.len(),
+            &mut value,
+            &mut count,
+        )
+    };
+    Ordered {
+        number,
+        value,
+        bindings: count,
+    }
+}
+
 /// What a run returned: 0 or document 01's number, the steps and the record's place.
 #[derive(Debug, Clone, Copy, PartialEq, Eq)]
 pub struct Ran {
@@ -305,6 +364,16 @@ pub fn entry() -> State {
         stack: [1; STACK_WORDS],
     };
     unsafe { axcut_entry(&mut state.registers, &mut state.stack) };
+    state
+}
+
+/// The state from which a list of orders starts.
+pub fn fresh() -> State {
+    let mut state = State {
+        registers: [1; 16],
+        stack: [1; STACK_WORDS],
+    };
+    unsafe { axcut_fresh(&mut state.registers, &mut state.stack) };
     state
 }
 

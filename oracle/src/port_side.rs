@@ -1,22 +1,26 @@
 //! Answers requests by the port.
 
 mod emission;
+mod orders;
 mod queries;
 
 use crate::answer::Answer;
+use crate::channel::Channel;
 use crate::context::{Kind, Runs};
 use crate::interpreter::{BLOCK_WORDS, MOST_BLOCKS};
+use crate::orders::binding;
 use crate::port::{self, Damaged, Ran, Returned};
 use crate::request::{Form, Request, Run};
 
-pub fn answer(request: &Request) -> Answer {
+/// Answers a request; `fresh` makes the channel that `play` and `show` go on with.
+pub fn answer(request: &Request, channel: &mut Option<Channel>) -> Answer {
     match request {
         Request::Check(form, bytes) => check(*form, bytes),
         Request::List(bytes) => list(bytes),
         Request::Run(request) => run(request),
         Request::Emission(request) => emission::answer(request),
         Request::Query(query) => queries::answer(query),
-        Request::Order => Answer::Malformed("the port does not answer this yet".to_string()),
+        Request::Order(request) => orders::answer(request, channel),
     }
 }
 
@@ -53,8 +57,7 @@ fn list(bytes: &[u8]) -> Answer {
 /// block more than it takes.
 fn run(request: &Run) -> Answer {
     let mut state = Box::new(port::entry());
-    let blocks = request.blocks.min(MOST_BLOCKS as u64 + 1);
-    let mut heap = vec![0; blocks as usize * BLOCK_WORDS];
+    let mut heap = vec![0; lent_words(request.blocks)];
     let Run {
         limit,
         words,
@@ -65,21 +68,17 @@ fn run(request: &Run) -> Answer {
     Answer::Ran(ran, state, heap)
 }
 
+/// The words of a heap of so many blocks, or of one block more than a heap may have.
+fn lent_words(blocks: u64) -> usize {
+    blocks.min(MOST_BLOCKS as u64 + 1) as usize * BLOCK_WORDS
+}
+
 /// One binding more than a context may have: longer contexts are refused as this one is.
 const TOO_LONG: usize = 4_097;
 
 /// A context's bytes, from each variable's kind and id.
 fn context(variables: impl Iterator<Item = (Kind, u32)>) -> Vec<u8> {
-    let binding = |(kind, id): (Kind, u32)| {
-        let kind = match kind {
-            Kind::Linked => 0,
-            Kind::Ext => 1,
-        };
-        let mut bytes = [0xA7, 0x01, kind, 0, 0, 0, 0, 0];
-        bytes[4..].copy_from_slice(&id.to_le_bytes());
-        bytes
-    };
-    variables.flat_map(binding).collect()
+    variables.flat_map(|(kind, id)| binding(kind, id)).collect()
 }
 
 /// A context of the given kinds in a row, with ids that are places.

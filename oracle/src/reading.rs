@@ -130,7 +130,7 @@ fn label_allowed(form: &Form, label: u32) -> bool {
 }
 
 /// "0xA8, code, flag, zero byte, 32-bit a, 32-bit b, 32-bit n, 64-bit value; unused fields zero".
-fn well_formed_order(order: &[u8; 24]) -> bool {
+pub fn well_formed_order(order: &[u8; 24]) -> bool {
     let word = |at: usize| u32::from_le_bytes(order[at..at + 4].try_into().unwrap());
     let (a, b, n) = (word(4), word(8), word(12));
     let value = u64::from_le_bytes(order[16..].try_into().unwrap());

@@ -1,6 +1,8 @@
 //! What can be asked of the Rust and of the port.
 
+use crate::channel::Rooms;
 use crate::context::{Ids, Kinds};
+use crate::orders::answer::Asked;
 use crate::record;
 
 #[derive(Debug)]
@@ -13,8 +15,28 @@ pub enum Request {
     List(Vec<u8>),
     /// A run of the machine from the entry state.
     Run(Run),
-    /// Orders, of which the port's library has no function yet.
-    Order,
+    /// An order, alone or on a channel.
+    Order(Ordering),
+}
+
+#[derive(Debug)]
+pub enum Ordering {
+    /// An order alone, with its context.
+    Alone {
+        context: Vec<u8>,
+        asked: Asked,
+        rooms: Rooms,
+    },
+    /// A new channel with so many blocks.
+    Fresh(u64),
+    /// An order on the channel, and the words that print calls leave.
+    Play {
+        asked: Asked,
+        rooms: Rooms,
+        words: [u64; 9],
+    },
+    /// What the channel has.
+    Show,
 }
 
 /// Operations that append to one list of records.
@@ -77,7 +99,7 @@ pub enum Condition {
     GreaterOrEqual,
 }
 
-#[derive(Debug, Clone, Copy)]
+#[derive(Debug, Clone, Copy, PartialEq, Eq)]
 pub enum Arithmetic {
     Add,
     Sub,

@@ -53,7 +53,7 @@ pub fn answer(request: &Request) -> Answer {
     let answer = match request {
         Request::Emission(emission) => emit(emission),
         Request::Query(query) => caught(|| ask(query)),
-        Request::Check(..) | Request::List(_) | Request::Run(_) | Request::Order => {
+        Request::Check(..) | Request::List(_) | Request::Run(_) | Request::Order(_) => {
             malformed("only the port answers this")
         }
     };

@@ -1,0 +1,220 @@
+//! What an order is answered with. The causes are read from document 01; which records an order
+//! writes, how many labels they draw and whether a position is past the last are the published
+//! Rust's: an order is put together from its operations.
+
+use super::{BINDING, Order, SIZE, binding, kinds};
+use crate::answer::Answer;
+use crate::context::{Kind, Kinds};
+use crate::reading::{Refusal, check_context};
+use crate::record::{LAST_FRESH, Record};
+use crate::request::{Emission, Operand, Operation, Request};
+use crate::rust_side;
+
+/// What goes in with an order.
+#[derive(Debug, Clone)]
+pub struct Asked {
+    pub order: Vec<u8>,
+    pub bindings: Vec<u8>,
+    pub counter: u64,
+}
+
+/// What an accepted order gives, if both outputs have room for it.
+#[derive(Debug, Clone, PartialEq, Eq)]
+pub struct Given {
+    pub order: Order,
+    pub records: Vec<u8>,
+    pub counter: u64,
+    pub context: Vec<u8>,
+}
+
+fn refused<T>(number: u64, value: Option<u64>) -> Result<T, Refusal> {
+    Err(Refusal { number, value })
+}
+
+/// All causes but 10, in rising order.
+pub fn given(context: &[u8], asked: &Asked) -> Result<Given, Refusal> {
+    check_context(context)?;
+    check_context(&asked.bindings)?;
+    let order = well_formed(asked)?;
+    let (before, brought) = (kinds(context), kinds(&asked.bindings));
+    if !places_there(order, before.len()) {
+        return refused(4, None);
+    }
+    if !kinds_right(order, &before) {
+        return refused(5, None);
+    }
+    if matches!(order, Order::Copy { n, .. } if n > LAST_FRESH as usize) {
+        return refused(7, None);
+    }
+    let (records, counter) = written(order, &before, &brought, asked.counter)?;
+    Ok(Given {
+        order,
+        records: records.into_iter().flat_map(Record::to_bytes).collect(),
+        counter,
+        context: context_after(order, context, &before, &asked.bindings),
+    })
+}
+
+/// Cause 10: "of two, the first named".
+pub fn fits(given: &Given, records_room: usize, context_room: usize) -> Result<(), Refusal> {
+    if given.records.len() > records_room {
+        return refused(10, Some(given.records.len() as u64));
+    }
+    if given.context.len() > context_room {
+        return refused(10, Some(given.context.len() as u64));
+    }
+    Ok(())
+}
+
+/// Cause 2: record 1, then "any other number of bindings than a load's n (elsewhere none) is 2,
+/// place 1", then a record too many.
+fn well_formed(asked: &Asked) -> Result<Order, Refusal> {
+    let order = asked.order.first_chunk::<SIZE>().and_then(Order::read);
+    let Some(order) = order else {
+        return refused(2, Some(1));
+    };
+    let wanted = match order {
+        Order::Load(n) => n,
+        _ => 0,
+    };
+    if asked.bindings.len() / BINDING != wanted {
+        return refused(2, Some(1));
+    }
+    if asked.order.len() > SIZE {
+        return refused(2, Some(2));
+    }
+    Ok(order)
+}
+
+/// Cause 4: "place not in context; a store's n above its length"; "drop or load with no variable".
+fn places_there(order: Order, length: usize) -> bool {
+    match order {
+        Order::Put(_) => true,
+        Order::Compute(_, a, b) => a < length && b < length,
+        Order::Copy { a, .. } | Order::Print { a, .. } => a < length,
+        Order::Drop | Order::Load(_) => length > 0,
+        Order::Store { n, .. } => n <= length,
+    }
+}
+
+/// Cause 5: compute and print are on Ext, load is of "the last variable, linked".
+fn kinds_right(order: Order, before: &[Kind]) -> bool {
+    match order {
+        Order::Compute(_, a, b) => before[a] == Kind::Ext && before[b] == Kind::Ext,
+        Order::Print { a, .. } => before[a] == Kind::Ext,
+        Order::Load(_) => before.last() == Some(&Kind::Linked),
+        _ => true,
+    }
+}
+
+/// Causes 8 and 9, or the records and the counter after them.
+fn written(
+    order: Order,
+    before: &[Kind],
+    brought: &[Kind],
+    counter: u64,
+) -> Result<(Vec<Record>, u64), Refusal> {
+    let operations = operations(order, before, brought);
+    let emit = |counter| {
+        rust_side::answer(&Request::Emission(Emission {
+            counter,
+            room: None,
+            operations: operations.clone(),
+        }))
+    };
+    // a counter above the limit is refused whatever is drawn, but a position comes first
+    let answer = if counter <= LAST_FRESH {
+        emit(counter)
+    } else {
+        Answer::Exceeded(0)
+    };
+    match answer {
+        Answer::Records(records, counter) => Ok((records, counter)),
+        Answer::Panic => refused(8, None),
+        Answer::Exceeded(_) => match emit(0) {
+            Answer::Panic => refused(8, None),
+            _ => refused(9, None),
+        },
+        answer => panic!("the Rust answered {answer}"),
+    }
+}
+
+fn fst(variable: usize) -> Operand {
+    Operand::Position(2 * variable as u64)
+}
+
+fn snd(variable: usize) -> Operand {
+    Operand::Position(2 * variable as u64 + 1)
+}
+
+/// The order as the Rust's operations.
+fn operations(order: Order, before: &[Kind], brought: &[Kind]) -> Vec<Operation> {
+    let length = before.len();
+    match order {
+        Order::Put(value) => vec![Operation::LoadImmediate(snd(length), value as i64)],
+        Order::Compute(operation, a, b) => {
+            vec![Operation::Arithmetic(
+                operation,
+                snd(length),
+                snd(a),
+                snd(b),
+            )]
+        }
+        Order::Copy { a, n } => copy(before[a], a, length, n),
+        Order::Drop => match before[length - 1] {
+            Kind::Ext => Vec::new(),
+            Kind::Linked => vec![Operation::EraseBlock(fst(length - 1))],
+        },
+        Order::Store { n, tag } => {
+            let (remaining, to_store) = before.split_at(length - n);
+            vec![
+                Operation::Store {
+                    to_store: Kinds::each(to_store),
+                    remaining: Kinds::each(remaining),
+                },
+                Operation::LoadImmediate(snd(length - n), tag as i64),
+            ]
+        }
+        Order::Load(_) => vec![Operation::Load {
+            to_load: Kinds::each(brought),
+            existing: Kinds::each(&before[..length - 1]),
+        }],
+        Order::Print { newline, a } => {
+            vec![Operation::PrintI64(newline, snd(a), Kinds::each(before))]
+        }
+    }
+}
+
+/// "`share_block_n` if linked, then `mov` to each new variable, Fst before Snd." No context has
+/// room for more copies than positions, so no more are asked for.
+fn copy(kind: Kind, a: usize, length: usize, n: usize) -> Vec<Operation> {
+    let mut operations = Vec::new();
+    if kind == Kind::Linked {
+        operations.push(Operation::ShareBlockN(fst(a), n as u64));
+    }
+    for variable in length..length + n.min(267) {
+        if kind == Kind::Linked {
+            operations.push(Operation::Mov(fst(variable), fst(a)));
+        }
+        operations.push(Operation::Mov(snd(variable), snd(a)));
+    }
+    operations
+}
+
+/// "A made variable's id is its place"; a load's are the bindings as they were sent.
+fn context_after(order: Order, context: &[u8], before: &[Kind], brought: &[u8]) -> Vec<u8> {
+    let length = before.len();
+    let (kept, kind, made) = match order {
+        Order::Put(_) | Order::Compute(..) => (length, Kind::Ext, 1),
+        Order::Copy { a, n } => (length, before[a], n),
+        Order::Drop | Order::Load(_) => (length - 1, Kind::Ext, 0),
+        Order::Store { n, .. } => (length - n, Kind::Linked, 1),
+        Order::Print { .. } => (length, Kind::Ext, 0),
+    };
+    let mut after = context[..kept * BINDING].to_vec();
+    for place in kept..kept + made {
+        after.extend(binding(kind, place as u32));
+    }
+    after.extend(brought);
+    after
+}

@@ -1,0 +1,586 @@
+//! Whether a state, a heap and a context are what document 01 says of them after a list of
+//! orders, beside the plain machine's values. It looks at the words alone.
+
+use super::plain::Value;
+use super::{BINDING, kinds};
+use crate::interpreter::{
+    BLOCK_WORDS, HEAP_START, STACK, STACK_AT_ENTRY, STACK_START, STACK_WORDS, State,
+};
+use crate::reading::check_context;
+use std::rc::Rc;
+
+const HEAP: usize = 2;
+const FREE: usize = 3;
+
+/// "Runs of operations start with STACK where the routine's setup leaves it": below six pushes
+/// and 256 spills.
+const STACK_IN_BODY: u64 = STACK_AT_ENTRY - 6 * 8 - 256 * 8;
+
+const BLOCK_BYTES: u64 = 8 * BLOCK_WORDS as u64;
+const FIELDS: usize = 3;
+
+/// "Count or next pointer at 0."
+const HEADER: usize = 0;
+
+/// "Field i at 16+16i (Fst) and 24+16i (Snd)", in words.
+fn fst_of(field: usize) -> usize {
+    2 + 2 * field
+}
+
+fn snd_of(field: usize) -> usize {
+    3 + 2 * field
+}
+
+#[derive(Debug, Clone, Copy, PartialEq, Eq)]
+enum Place {
+    Nowhere,
+    Linear,
+    Lazy,
+    Held,
+}
+
+/// What the states before tell: which blocks were ever held or on HEAP's list.
+pub struct History {
+    ever: Vec<bool>,
+}
+
+impl History {
+    pub fn new(blocks: usize) -> History {
+        History {
+            ever: vec![false; blocks],
+        }
+    }
+}
+
+/// How many blocks there are of each sort.
+#[derive(Debug, Clone, Copy, PartialEq, Eq)]
+pub struct Shape {
+    pub frontier: usize,
+    pub linear: usize,
+    pub lazy: usize,
+    pub held: usize,
+    /// Held blocks that more than one pointer names.
+    pub shared: usize,
+}
+
+type Checked<T> = Result<T, String>;
+
+/// Whether all that demand 3 says of a state holds. The history is that of the states before,
+/// and takes this one in.
+pub fn sound(
+    state: &State,
+    heap: &[u64],
+    context: &[u8],
+    values: &[Value],
+    history: &mut History,
+) -> Checked<Shape> {
+    check_kinds(context, values)?;
+    let words = variables(state, values.len())?;
+    let mut blocks = Blocks::new(heap);
+    blocks.linear(state.registers[HEAP])?;
+    let frontier = blocks.lazy(state.registers[FREE])?;
+    let roots = words.iter().zip(values);
+    let roots = roots.filter(|(_, value)| matches!(value, Value::Tagged(..)));
+    blocks.held(roots.map(|([fst, _], _)| *fst))?;
+    let shape = blocks.shape(frontier)?;
+    blocks.counts()?;
+    history.take(&blocks.places, frontier)?;
+    check_values(heap, &words, values)?;
+    Ok(shape)
+}
+
+/// "The context then reached has these values' kinds, in sequence."
+fn check_kinds(context: &[u8], values: &[Value]) -> Checked<()> {
+    if check_context(context).is_err() {
+        return Err("the context is malformed".to_string());
+    }
+    let length = context.len() / BINDING;
+    if length != values.len() {
+        return Err(format!("{length} variables, {} values", values.len()));
+    }
+    let kinds = kinds(context);
+    let different = kinds
+        .iter()
+        .zip(values)
+        .position(|(kind, value)| *kind != value.kind());
+    match different {
+        None => Ok(()),
+        Some(variable) => Err(format!("variable {variable} has the wrong kind")),
+    }
+}
+
+/// Fst and Snd of each variable: "positions 0..11 are registers 4..15, 12..266 are spills 1..255";
+/// "spill p is at 2048 − 8(p+1) from STACK".
+fn variables(state: &State, count: usize) -> Checked<Vec<[u64; 2]>> {
+    if state.registers[STACK] != STACK_IN_BODY {
+        return Err(format!("STACK is {}", state.registers[STACK]));
+    }
+    let word = |position: usize| {
+        if position < 12 {
+            return state.registers[4 + position];
+        }
+        let spill = position as u64 - 11;
+        let address = STACK_IN_BODY + 2_048 - 8 * (spill + 1);
+        let index = (address - STACK_START) / 8;
+        debug_assert!((index as usize) < STACK_WORDS);
+        state.stack[index as usize]
+    };
+    if count > 133 {
+        return Err(format!("{count} variables"));
+    }
+    Ok((0..count).map(|i| [word(2 * i), word(2 * i + 1)]).collect())
+}
+
+struct Blocks<'a> {
+    heap: &'a [u64],
+    places: Vec<Place>,
+    /// How many pointers name each block.
+    pointers: Vec<u64>,
+    lazy: Vec<usize>,
+}
+
+impl<'a> Blocks<'a> {
+    fn new(heap: &'a [u64]) -> Blocks<'a> {
+        let count = heap.len() / BLOCK_WORDS;
+        Blocks {
+            heap,
+            places: vec![Place::Nowhere; count],
+            pointers: vec![0; count],
+            lazy: Vec::new(),
+        }
+    }
+
+    /// The block at an address.
+    fn at(&self, address: u64) -> Checked<usize> {
+        block_at(self.heap, address)
+    }
+
+    fn put(&mut self, block: usize, place: Place) -> Checked<()> {
+        match self.places[block] {
+            Place::Nowhere => {
+                self.places[block] = place;
+                Ok(())
+            }
+            other => Err(format!("block {block} is {place:?} and {other:?}")),
+        }
+    }
+
+    /// "HEAP heads the linear free list", which ends with 0.
+    fn linear(&mut self, head: u64) -> Checked<()> {
+        let mut next = head;
+        while next != 0 {
+            let block = self.at(next)?;
+            self.put(block, Place::Linear)?;
+            next = word(self.heap, block, HEADER);
+        }
+        Ok(())
+    }
+
+    /// "FREE the lazy one, which ends at the frontier": the first block that starts with 0.
+    fn lazy(&mut self, head: u64) -> Checked<usize> {
+        let mut next = head;
+        loop {
+            let block = self.at(next)?;
+            next = word(self.heap, block, HEADER);
+            if next == 0 {
+                return Ok(block);
+            }
+            self.put(block, Place::Lazy)?;
+            self.lazy.push(block);
+        }
+    }
+
+    /// "Held are just the blocks that pointers name, followed from the variables and the lazy
+    /// list"; "a pointer is a nonzero Fst of a linked variable, or of a field or link in a held
+    /// or lazily freed block".
+    fn held(&mut self, roots: impl Iterator<Item = u64>) -> Checked<()> {
+        let mut pointers: Vec<u64> = roots.filter(|fst| *fst != 0).collect();
+        for block in &self.lazy {
+            pointers.extend(fields(self.heap, *block));
+        }
+        while let Some(pointer) = pointers.pop() {
+            let block = self.at(pointer)?;
+            self.pointers[block] += 1;
+            if self.places[block] != Place::Held {
+                self.put(block, Place::Held)?;
+                pointers.extend(fields(self.heap, block));
+            }
+        }
+        Ok(())
+    }
+
+    /// "Each block below the frontier" is in exactly one of the three, and none from it up; those
+    /// have never been written.
+    fn shape(&self, frontier: usize) -> Checked<Shape> {
+        let (below, above) = self.places.split_at(frontier);
+        if let Some(block) = below.iter().position(|place| *place == Place::Nowhere) {
+            return Err(format!("block {block} of {frontier} is lost"));
+        }
+        if let Some(block) = above.iter().position(|place| *place != Place::Nowhere) {
+            let (block, place) = (frontier + block, above[block]);
+            return Err(format!(
+                "block {block} is {place:?}, the frontier is {frontier}"
+            ));
+        }
+        let rest = &self.heap[frontier * BLOCK_WORDS..];
+        if rest.iter().any(|word| *word != 0) {
+            return Err(format!("a word above the frontier {frontier} is not zero"));
+        }
+        let count = |wanted| below.iter().filter(|place| **place == wanted).count();
+        Ok(Shape {
+            frontier,
+            linear: count(Place::Linear),
+            lazy: count(Place::Lazy),
+            held: count(Place::Held),
+            shared: self
+                .pointers
+                .iter()
+                .filter(|pointers| **pointers > 1)
+                .count(),
+        })
+    }
+
+    /// "A held block's count is its pointers less one."
+    fn counts(&self) -> Checked<()> {
+        for (block, place) in self.places.iter().enumerate() {
+            let (pointers, count) = (self.pointers[block], word(self.heap, block, HEADER));
+            if *place == Place::Held && count != pointers - 1 {
+                return Err(format!(
+                    "block {block} counts {count}, pointers are {pointers}"
+                ));
+            }
+        }
+        Ok(())
+    }
+}
+
+impl History {
+    /// "The frontier: the first block never held or on HEAP's list."
+    fn take(&mut self, places: &[Place], frontier: usize) -> Checked<()> {
+        for (ever, place) in self.ever.iter_mut().zip(places) {
+            *ever |= matches!(place, Place::Held | Place::Linear);
+        }
+        let never = self.ever.iter().position(|ever| !ever);
+        if never != Some(frontier) {
+            return Err(format!(
+                "FREE ends at block {frontier}, first never held or on HEAP's list is {never:?}"
+            ));
+        }
+        Ok(())
+    }
+}
+
+fn word(heap: &[u64], block: usize, word: usize) -> u64 {
+    heap[block * BLOCK_WORDS + word]
+}
+
+fn block_at(heap: &[u64], address: u64) -> Checked<usize> {
+    let offset = address.checked_sub(HEAP_START);
+    let offset = offset.filter(|offset| offset.is_multiple_of(BLOCK_BYTES));
+    let block = offset.map(|offset| offset / BLOCK_BYTES);
+    let block = block.filter(|block| *block < (heap.len() / BLOCK_WORDS) as u64);
+    match block {
+        Some(block) => Ok(block as usize),
+        None => Err(format!("{address} is no block's address")),
+    }
+}
+
+/// The nonzero Fsts of a block's fields, a link among them.
+fn fields(heap: &[u64], block: usize) -> impl Iterator<Item = u64> {
+    let fsts = (0..FIELDS).map(move |field| word(heap, block, fst_of(field)));
+    fsts.filter(|fst| *fst != 0)
+}
+
+/// "Ext holds its integer in Snd; linked its tag in Snd and its list by Fst: 0 if empty, else the
+/// object, each value held likewise where `Memory::store` puts it."
+fn check_values(heap: &[u64], words: &[[u64; 2]], values: &[Value]) -> Checked<()> {
+    // a list that several values share is looked at once for each block that it starts at
+    let mut seen: Vec<*const Vec<Value>> = vec![std::ptr::null(); heap.len() / BLOCK_WORDS];
+    let mut objects = Vec::new();
+    for (variable, (words, value)) in words.iter().zip(values).enumerate() {
+        let [fst, snd] = *words;
+        let object = holds(fst, snd, value).map_err(|why| format!("variable {variable}: {why}"))?;
+        objects.extend(object);
+    }
+    while let Some((address, list)) = objects.pop() {
+        let block = block_at(heap, address)?;
+        if seen[block] == Rc::as_ptr(list) {
+            continue;
+        }
+        seen[block] = Rc::as_ptr(list);
+        check_object(heap, block, list, &mut objects)?;
+    }
+    Ok(())
+}
+
+/// Whether two words hold a value; if its list is not empty, where the object must be. The Fst
+/// of an integer is left to who holds it.
+fn holds(fst: u64, snd: u64, value: &Value) -> Checked<Option<(u64, &Rc<Vec<Value>>)>> {
+    match value {
+        Value::Integer(integer) if snd != *integer => {
+            Err(format!("Snd is {snd}, the integer {integer}"))
+        }
+        Value::Integer(_) => Ok(None),
+        Value::Tagged(tag, _) if snd != *tag => Err(format!("Snd is {snd}, the tag {tag}")),
+        Value::Tagged(_, list) if list.is_empty() => match fst {
+            0 => Ok(None),
+            _ => Err(format!("Fst is {fst}, the list is empty")),
+        },
+        Value::Tagged(..) if fst == 0 => Err("Fst is 0, the list is not empty".to_string()),
+        Value::Tagged(_, list) => Ok(Some((fst, list))),
+    }
+}
+
+/// How many values each block of an object holds: "the last block of an object holds 3 fields;
+/// each other holds 2". Blocks fill from the last value on.
+fn sizes(count: usize) -> Vec<usize> {
+    let mut sizes = Vec::new();
+    let mut left = count;
+    let mut most = FIELDS;
+    while left > 0 {
+        sizes.push(left.min(most));
+        left -= left.min(most);
+        most = FIELDS - 1;
+    }
+    sizes.reverse();
+    sizes
+}
+
+fn check_object<'a>(
+    heap: &[u64],
+    head: usize,
+    list: &'a [Value],
+    objects: &mut Vec<(u64, &'a Rc<Vec<Value>>)>,
+) -> Checked<()> {
+    let sizes = sizes(list.len());
+    let mut block = head;
+    let mut rest = list;
+    for (index, size) in sizes.iter().enumerate() {
+        let last = index + 1 == sizes.len();
+        let end = if last { FIELDS } else { FIELDS - 1 };
+        let (values, after) = rest.split_at(*size);
+        rest = after;
+        for field in 0..end - size {
+            if word(heap, block, fst_of(field)) != 0 {
+                return Err(format!("block {block}: unused field {field} has an Fst"));
+            }
+        }
+        for (field, value) in (end - size..end).zip(values) {
+            let (fst, snd) = (
+                word(heap, block, fst_of(field)),
+                word(heap, block, snd_of(field)),
+            );
+            if fst != 0 && matches!(value, Value::Integer(_)) {
+                return Err(format!(
+                    "block {block}: the integer in field {field} has an Fst"
+                ));
+            }
+            let object = holds(fst, snd, value);
+            objects.extend(object.map_err(|why| format!("block {block}, field {field}: {why}"))?);
+        }
+        if !last {
+            block = block_at(heap, word(heap, block, fst_of(FIELDS - 1)))?;
+        }
+    }
+    Ok(())
+}
+
+#[cfg(test)]
+mod tests {
+    use super::*;
+    use crate::channel::{Channel, Side};
+    use crate::context::Kind;
+    use crate::orders::answer::{Asked, given};
+    use crate::orders::{Order, binding, plain};
+    use crate::record::SIZE;
+
+    /// A channel after some orders, by the Rust's records and the reading of the machine.
+    struct Played {
+        channel: Channel,
+        values: Vec<Value>,
+        history: History,
+    }
+
+    fn play(orders: &[(Order, &[Kind])]) -> Played {
+        let blocks = 40;
+        let mut played = Played {
+            channel: Channel::fresh(Side::Reading, blocks * BLOCK_WORDS),
+            values: Vec::new(),
+            history: History::new(blocks),
+        };
+        played.check().expect("the fresh state is sound");
+        for (order, kinds) in orders {
+            let asked = Asked {
+                order: order.to_bytes().to_vec(),
+                bindings: kinds.iter().flat_map(|kind| binding(*kind, 7)).collect(),
+                counter: 0,
+            };
+            let given = given(&played.channel.context, &asked).expect("the order is accepted");
+            let limit = (given.records.len() / SIZE) as u64;
+            let ran = played.channel.run(&given.records, &[9; 9], limit);
+            assert_eq!(ran.number, 0, "{order:?}: {ran}");
+            played.channel.context = given.context;
+            plain::perform(&mut played.values, *order);
+            played.check().expect("each state is sound");
+        }
+        played
+    }
+
+    impl Played {
+        fn check(&mut self) -> Checked<Shape> {
+            let Channel {
+                state,
+                heap,
+                context,
+                ..
+            } = &self.channel;
+            sound(state, heap, context, &self.values, &mut self.history)
+        }
+
+        /// Whether a change is reported.
+        fn reports(&self, change: impl Fn(&mut Played)) -> bool {
+            let mut changed = Played {
+                channel: self.channel.clone(),
+                values: self.values.clone(),
+                history: History {
+                    ever: self.history.ever.clone(),
+                },
+            };
+            change(&mut changed);
+            changed.check().is_err()
+        }
+    }
+
+    /// Five values in two blocks, shared; one object lazily freed, that holds another; one block
+    /// on the linear list beside HEAP's own.
+    fn example() -> Played {
+        use Kind::{Ext, Linked};
+        use Order::{Copy, Drop, Load, Put, Store};
+        let none: &[Kind] = &[];
+        play(&[
+            (Put(5), none),
+            (Store { n: 1, tag: 1 }, none),
+            (Put(6), none),
+            (Put(7), none),
+            (Store { n: 0, tag: 2 }, none),
+            (Put(8), none),
+            (Store { n: 5, tag: 3 }, none),
+            (Copy { a: 0, n: 3 }, none),
+            (Put(9), none),
+            (Store { n: 1, tag: 4 }, none),
+            (Store { n: 1, tag: 5 }, none),
+            (Put(10), none),
+            (Store { n: 1, tag: 6 }, none),
+            (Load(1), &[Ext]),
+            (Drop, none),
+            (Drop, none),
+            (Load(5), &[Linked, Ext, Ext, Linked, Ext]),
+        ])
+    }
+
+    #[test]
+    fn an_example_is_sound() {
+        let mut played = example();
+        let shape = played.check().unwrap();
+        let expected = Shape {
+            frontier: 7,
+            linear: 2,
+            lazy: 1,
+            held: 4,
+            shared: 2,
+        };
+        assert_eq!(shape, expected);
+    }
+
+    #[test]
+    fn every_word_of_the_heap_matters() {
+        let played = example();
+        let (heap, state) = (&played.channel.heap, &played.channel.state);
+        let block = |address: u64| block_at(heap, address).unwrap();
+        let [object, lazy, linear] = [
+            state.registers[4],
+            state.registers[FREE],
+            state.registers[HEAP],
+        ]
+        .map(block);
+        let inner = block(word(heap, lazy, fst_of(2)));
+        let link = block(word(heap, object, fst_of(2)));
+        // counts, next pointers, fields, unused fields
+        for (block, index) in [
+            (object, HEADER),
+            (object, fst_of(0)),
+            (object, snd_of(0)),
+            (object, fst_of(1)),
+            (object, snd_of(1)),
+            (object, fst_of(2)),
+            (link, HEADER),
+            (link, fst_of(0)),
+            (link, snd_of(0)),
+            (link, fst_of(1)),
+            (link, snd_of(1)),
+            (link, snd_of(2)),
+            (lazy, HEADER),
+            (lazy, fst_of(0)),
+            (lazy, fst_of(2)),
+            (inner, HEADER),
+            (inner, fst_of(0)),
+            (linear, HEADER),
+            (39, 7),
+        ] {
+            for change in [1, 64, 8] {
+                let word = block * BLOCK_WORDS + index;
+                assert!(
+                    played.reports(|played| played.channel.heap[word] += change),
+                    "block {block}, word {index}"
+                );
+            }
+        }
+        // the words that hold nothing: offset 8, and the Snd of a link and of unused fields
+        for (block, index) in [
+            (object, 1),
+            (object, snd_of(2)),
+            (lazy, snd_of(0)),
+            (linear, 3),
+        ] {
+            let word = block * BLOCK_WORDS + index;
+            assert!(
+                !played.reports(|played| played.channel.heap[word] += 1),
+                "block {block}, word {index}"
+            );
+        }
+    }
+
+    #[test]
+    fn every_register_and_value_matters() {
+        let played = example();
+        for register in [STACK, HEAP, FREE, 4, 5] {
+            assert!(
+                played.reports(|played| played.channel.state.registers[register] += 64),
+                "register {register}"
+            );
+        }
+        assert!(!played.reports(|played| played.channel.state.registers[1] += 64));
+        assert!(played.reports(|played| played.values[0] = Value::Integer(3)));
+        assert!(played.reports(|played| played.values.truncate(3)));
+        assert!(played.reports(|played| played.channel.context[2] ^= 1));
+        assert!(played.reports(|played| played.history.ever[7] = true));
+        assert!(played.reports(|played| played.channel.heap.truncate(7 * BLOCK_WORDS)));
+    }
+
+    #[test]
+    fn a_lost_share_is_reported() {
+        // the count of a shared block, as if a copy had left out its share
+        let played = example();
+        let object = block_at(&played.channel.heap, played.channel.state.registers[4]).unwrap();
+        assert!(word(&played.channel.heap, object, HEADER) > 0);
+        assert!(played.reports(|played| played.channel.heap[object * BLOCK_WORDS] -= 1));
+    }
+
+    #[test]
+    fn blocks_fill_from_the_last_value() {
+        assert_eq!(sizes(0), []);
+        assert_eq!(sizes(3), [3]);
+        assert_eq!(sizes(4), [1, 3]);
+        assert_eq!(sizes(8), [1, 2, 2, 3]);
+    }
+}

@@ -1,0 +1,320 @@
+//! Plays random lists of orders on the port, and checks after each what document 01 says: the
+//! answer, the records, the context, the run, the state and the heap.
+
+mod lists;
+
+use crate::channel::{self, Answered, Channel, Rooms, Side};
+use crate::codes::Code;
+use crate::hex;
+use crate::interpreter::{BLOCK_WORDS, MOST_BLOCKS};
+use crate::orders::answer::{self, Asked, Given};
+use crate::orders::plain::{self, Value};
+use crate::orders::sound::{History, Shape, sound};
+use crate::orders::{Order, kinds};
+use crate::port::Ran;
+use crate::random::Random;
+use crate::reading::Refusal;
+use crate::record::{LAST_FRESH, PRINT_I64, PRINTLN_I64, Record, SIZE};
+use lists::{Item, Plan};
+use std::collections::BTreeMap;
+
+/// "Positions 267 and above are refused": as many variables as have both theirs.
+const MOST_VARIABLES: usize = 133;
+
+#[derive(Debug, Clone, Copy)]
+pub struct Options {
+    /// The port, or only the Rust's records on the reading of the machine.
+    pub side: Side,
+    /// How many orders are played at least, in whole lists.
+    pub orders: u64,
+    /// The first list's seed; each next list has the next.
+    pub seed: u64,
+    /// The most blocks that a list's heap has.
+    pub blocks: u64,
+}
+
+#[derive(Default)]
+struct Tally {
+    lists: u64,
+    orders: u64,
+    accepted: BTreeMap<&'static str, u64>,
+    refused: BTreeMap<u64, u64>,
+    records: u64,
+    steps: u64,
+    longest: u64,
+    most: Most,
+}
+
+#[derive(Default)]
+struct Most {
+    variables: usize,
+    frontier: usize,
+    held: usize,
+    shared: usize,
+    lazy: usize,
+    linear: usize,
+}
+
+/// True if no order failed. The first that does ends it.
+pub fn run(options: Options) -> bool {
+    let most_blocks = options.blocks.clamp(3, MOST_BLOCKS as u64) as usize;
+    let mut tally = Tally::default();
+    while tally.orders < options.orders {
+        let seed = options.seed.wrapping_add(tally.lists);
+        if let Err((place, failure)) = tally.list(options.side, seed, most_blocks) {
+            println!("list of seed {seed}, order {place}: {failure}");
+            println!("again: oracle/soak --orders 1 --seed {seed} --blocks {most_blocks}");
+            tally.report(options.seed, 1);
+            return false;
+        }
+    }
+    tally.report(options.seed, 0);
+    true
+}
+
+/// A channel on the port beside the plain machine.
+struct Soak {
+    channel: Channel,
+    values: Vec<Value>,
+    history: History,
+    /// How many blocks the orders may still acquire.
+    left: usize,
+}
+
+impl Tally {
+    /// Plays one list. The error is an order's place, from 1, and what was wrong after it.
+    fn list(&mut self, side: Side, seed: u64, most_blocks: usize) -> Result<(), (usize, String)> {
+        self.lists += 1;
+        let mut random = Random::new(seed);
+        let mut plan = Plan::random(&mut random, most_blocks);
+        let mut soak = Soak {
+            channel: Channel::fresh(side, plan.blocks * BLOCK_WORDS),
+            values: Vec::new(),
+            history: History::new(plan.blocks),
+            // "two blocks more"
+            left: plan.blocks - 2,
+        };
+        soak.check().map_err(|failure| (0, failure))?;
+        self.longest = self.longest.max(plan.orders as u64);
+        for place in 1..=plan.orders {
+            let item = lists::item(&mut random, &mut plan, &soak.values, soak.left);
+            self.orders += 1;
+            self.item(&mut random, &mut soak, item)
+                .map_err(|failure| (place, failure))?;
+        }
+        Ok(())
+    }
+
+    fn item(&mut self, random: &mut Random, soak: &mut Soak, item: Item) -> Result<(), String> {
+        let (asked, needed) = soak.owed(item.asked.clone());
+        let rooms = item.rooms(random, needed.as_ref().ok());
+        let expected = needed.and_then(|given| {
+            answer::fits(&given, rooms.records, rooms.context)?;
+            Ok(given)
+        });
+        let about = |failure: String| {
+            let (order, bindings) = (hex::write(&asked.order), hex::write(&asked.bindings));
+            let order = format!("{order} {bindings} {} {rooms:?}", asked.counter);
+            format!("{failure}\n    {order}")
+        };
+        match expected {
+            Err(refusal) => {
+                *self.refused.entry(refusal.number).or_default() += 1;
+                soak.refused(&asked, rooms, refusal).map_err(about)
+            }
+            Ok(given) => {
+                *self.accepted.entry(given.order.name()).or_default() += 1;
+                let played = soak.accepted(&asked, rooms, &given, &item.words);
+                let (ran, shape) = played.map_err(about)?;
+                self.records += (given.records.len() / SIZE) as u64;
+                self.steps += ran.steps;
+                self.most.take(&shape, soak.values.len());
+                Ok(())
+            }
+        }
+    }
+
+    fn report(&self, seed: u64, failed: u64) {
+        println!("accepted:");
+        for (name, count) in &self.accepted {
+            println!("{count:>9} {name}");
+        }
+        println!("refused, by number:");
+        for (number, count) in &self.refused {
+            println!("{count:>9} {number}");
+        }
+        let Most {
+            variables,
+            frontier,
+            held,
+            shared,
+            lazy,
+            linear,
+        } = self.most;
+        println!(
+            "most at once: {variables} variables; {held} blocks held, {shared} of them shared, {lazy} on the lazy list, {linear} on the linear list, frontier {frontier}"
+        );
+        println!("{} records run in {} steps", self.records, self.steps);
+        println!(
+            "seed {seed}: {} lists, the longest of {}; {} orders: {} accepted, {} refused, {failed} failed",
+            self.lists,
+            self.longest,
+            self.orders,
+            self.accepted.values().sum::<u64>(),
+            self.refused.values().sum::<u64>(),
+        );
+    }
+}
+
+impl Most {
+    fn take(&mut self, shape: &Shape, variables: usize) {
+        self.variables = self.variables.max(variables);
+        self.frontier = self.frontier.max(shape.frontier);
+        self.held = self.held.max(shape.held);
+        self.shared = self.shared.max(shape.shared);
+        self.lazy = self.lazy.max(shape.lazy);
+        self.linear = self.linear.max(shape.linear);
+    }
+}
+
+impl Soak {
+    /// The answer but for the outputs' lengths. An order of which demand 3's premises do not hold
+    /// is sent with a counter above the limit, so that it is refused.
+    fn owed(&self, mut asked: Asked) -> (Asked, Result<Given, Refusal>) {
+        let given = answer::given(&self.channel.context, &asked);
+        let owed = match &given {
+            Err(_) => true,
+            Ok(given) => {
+                given.order.acquires() <= self.left
+                    && plain::owed(&self.values, given.order, &kinds(&asked.bindings))
+            }
+        };
+        if owed {
+            return (asked, given);
+        }
+        asked.counter += LAST_FRESH + 1;
+        let refused = answer::given(&self.channel.context, &asked);
+        (asked, refused)
+    }
+
+    /// "A refused one leaves all three."
+    fn refused(&mut self, asked: &Asked, rooms: Rooms, refusal: Refusal) -> Result<(), String> {
+        let expected = Answered::Refused(refusal.number, refusal.value.unwrap_or(0));
+        self.ask(asked, rooms, &expected)
+    }
+
+    fn accepted(
+        &mut self,
+        asked: &Asked,
+        rooms: Rooms,
+        given: &Given,
+        words: &[u64; 9],
+    ) -> Result<(Ran, Shape), String> {
+        let expected = Answered::Accepted {
+            records: given.records.clone(),
+            counter: given.counter,
+            context: given.context.clone(),
+        };
+        self.ask(asked, rooms, &expected)?;
+        if let Order::Print { newline, a } = given.order {
+            self.check_call(&given.records, newline, a, words)?;
+        }
+        self.channel.context = given.context.clone();
+        let limit = (given.records.len() / SIZE) as u64;
+        let ran = self.channel.run(&given.records, words, limit);
+        if ran.number != 0 || ran.steps > limit {
+            return Err(format!("the run: {ran}"));
+        }
+        plain::perform(&mut self.values, given.order);
+        self.left -= given.order.acquires();
+        Ok((ran, self.check()?))
+    }
+
+    fn ask(&self, asked: &Asked, rooms: Rooms, expected: &Answered) -> Result<(), String> {
+        if self.channel.side == Side::Reading {
+            return Ok(());
+        }
+        let found = channel::ask(&self.channel.context, asked, rooms);
+        let found = found.map_err(|_| "bytes that must stay have changed".to_string())?;
+        if found != *expected {
+            return Err(format!(
+                "document 01: {}; port: {}",
+                brief(expected),
+                brief(&found)
+            ));
+        }
+        Ok(())
+    }
+
+    /// "A print makes one call": its records have no jump and one CALL, of the name that the flag
+    /// gives, and a run up to it leaves the integer in register 7.
+    fn check_call(
+        &self,
+        records: &[u8],
+        newline: bool,
+        a: usize,
+        words: &[u64; 9],
+    ) -> Result<(), String> {
+        let (records_read, _) = records.as_chunks::<SIZE>();
+        let read: Vec<Record> = records_read.iter().filter_map(Record::from_bytes).collect();
+        let is = |record: &Record, code: Code| record.code == code.number();
+        let jumps = [Code::JMPL, Code::JMPLN, Code::JMP, Code::RET, Code::LAB];
+        let conditional = [
+            Code::JEL,
+            Code::JNEL,
+            Code::JLL,
+            Code::JLEL,
+            Code::JGL,
+            Code::JGEL,
+        ];
+        let straight = read.iter().all(|record| {
+            let mut codes = jumps.iter().chain(&conditional);
+            !codes.any(|code| is(record, *code))
+        });
+        let calls = read.iter().filter(|record| is(record, Code::CALL)).count();
+        let at = read.iter().position(|record| is(record, Code::CALL));
+        let (true, 1, Some(at)) = (straight, calls, at) else {
+            return Err(format!("a print with {calls} calls"));
+        };
+        let name = if newline { PRINTLN_I64 } else { PRINT_I64 };
+        if read[at].label != name {
+            return Err(format!("a print calls {}", read[at].label));
+        }
+        let mut channel = self.channel.clone();
+        let limit = at as u64;
+        let ran = channel.run(records, words, limit);
+        let found = channel.state.registers[7];
+        let integer = self.values[a].integer();
+        if (ran.number, ran.steps) != (12, limit) || Some(found) != integer {
+            return Err(format!(
+                "at the call, {ran}: register 7 is {found}, not {integer:?}"
+            ));
+        }
+        Ok(())
+    }
+
+    fn check(&mut self) -> Result<Shape, String> {
+        let Channel {
+            context,
+            state,
+            heap,
+            ..
+        } = &self.channel;
+        sound(state, heap, context, &self.values, &mut self.history)
+    }
+}
+
+fn brief(answered: &Answered) -> String {
+    match answered {
+        Answered::Refused(number, value) => format!("refused {number} {value}"),
+        Answered::Accepted {
+            records,
+            counter,
+            context,
+        } => {
+            let count = records.len() / SIZE;
+            let context = hex::write(context);
+            format!("accepted {count} records counter {counter} context {context}")
+        }
+    }
+}
