@@ -15,6 +15,7 @@ ghost use Rattle.port.specs.Numbers.{numberIn, valueIn, listedNumbers, G
 
 pub mod emission; // the operations of code.rs, memory.rs and into_routine.rs
 pub mod query; // the queries of utils.rs and config.rs
+pub mod order; // the seven orders
 
 use listing::Listed;
 use machine::run::Answer;
