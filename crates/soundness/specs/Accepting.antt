@@ -1,5 +1,5 @@
 -- What an accepted order says of its context, its bindings and its operands.
-use Prim.Native.Nat.{ℕ, _+_, _*_, _≤_, _<_}
+use Prim.Native.Nat.{ℕ, _+_, _≤_}
 use mathlib.Core.Path.{_≡_, refl, sym, ap, _∙_}
 use mathlib.Core.Bool.{Bool, true, false, cond}
 use mathlib.Core.List.{List}
@@ -11,10 +11,10 @@ use Rattle.records.specs.declared.check.Checked.{Checked}
 use Rattle.records.specs.declared.check.Checked.the-variants as checked
 use Rattle.records.specs.Contexts.{checkedContext}
 use Rattle.records.specs.Orders.{orderStarts}
-use Rattle.trees.specs.Tree.{Tree, labels, size}
+use Rattle.trees.specs.Tree.{Tree, labels}
 use Rattle.layout.specs.Config.{base}
 use Rattle.orders.specs.declared.answer.Answer.{Answer}
-use Rattle.orders.specs.declared.answer.Answer.the-variants.{Accepted, Context, Malformed, Missing, Kind, Count, Position, Labels, Room}
+use Rattle.orders.specs.declared.answer.Answer.the-variants.{Malformed, Missing, Kind, Count, Position, Labels}
 use Rattle.orders.specs.Writes.{wanted, countOk, treeOf, contextAfter, present, kindsOk, asked}
 use Rattle.orders.specs.Answered.{Asked, accepted, orderIs, granted, decided, onContext, answerTo}
 

@@ -1,8 +1,7 @@
 -- A word into the Snd of the variable past the last: put and compute perform a put of the abstract heap.
 use mathlib.Core.Bool.{Bool, true, false, not, _&&_, _||_}
-use mathlib.Core.List.{List, [], _∷_, _++_}
-use mathlib.Core.Logic.{_≢_}
-use mathlib.Core.Path.{_≡_, refl, sym, _∙_, ap}
+use mathlib.Core.List.{[], _∷_, _++_}
+use mathlib.Core.Path.{_≡_, refl, sym, _∙_}
 use Prim.Native.Nat.{ℕ, suc, _+_, _-_, _*_, _^_, _≤_, _<_}
 use native.Mathlib.Nat.{zero-add}
 use native.Mathlib.Decide.{decLt}
@@ -11,24 +10,22 @@ use lib.Dec.{eqb}
 use borrow.Author.Tests.{lt-ltb}
 use Rattle.records.specs.declared.order.Operation.{Operation}
 use Rattle.records.specs.declared.order.Operation.the-variants.{Add, Sub, Mul, Div, Rem}
-use Rattle.trees.specs.Tree.{Tree}
-use Rattle.layout.specs.Config.{base, TEMP}
+use Rattle.layout.specs.Config.{base}
 use Rattle.layout.specs.Positions.{location, operandOk}
 use Rattle.layout.proofs.Placing.{register, spilled}
 use Rattle.instructions.specs.Step.{Config}
 use Rattle.code.specs.Code.{loadImmediate, arithmetic}
-use Rattle.memory.specs.Objects.{snd}
-use Rattle.heap.specs.Blocks.{Cell, cell, Memory}
+use Rattle.heap.specs.Blocks.{cell}
 use Rattle.heap.specs.Orders.{Order, put, Performs, puts}
-use Rattle.positions.specs.Held.{held, Keeps, Placed}
-use Rattle.positions.specs.HeldLemmas.{keeps-sub, keeps-register, placed-keeps, location-low, location-high, location-grows, location-fits}
+use Rattle.positions.specs.Held.{held, Placed}
+use Rattle.positions.specs.HeldLemmas.{keeps-register, placed-keeps, location-low, location-high, location-grows, location-fits}
 use Rattle.positions.specs.Runs.{Does, so}
 use Rattle.meaning.specs.Claims.{Sets, Computes, Divides, DivisionOperands, divisionFaults}
 use Rattle.meaning.proofs.Puts.{Given, given, puts-sets}
 use Rattle.meaning.proofs.Records.{immediate-does}
 use Rattle.meaning.proofs.Computed.{computed}
 use Rattle.meaning.proofs.Divided.{division}
-use Rattle.bridge.specs.Shown.{L, heapOf, memory-is}
+use Rattle.bridge.specs.Shown.{L, heapOf}
 use Rattle.bridge.specs.Sizes.{objectSizes}
 use Rattle.orders.specs.Plain.{result, divisible, resultDefined}
 use Rattle.bridge.specs.Variables.{variable, variables, variables-snoc, variables-kept, variables-kinds}

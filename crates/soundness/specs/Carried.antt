@@ -1,8 +1,8 @@
 -- What the induction over a list of items carries, and how an order that changes something carries it on.
-use mathlib.Core.Bool.{Bool, true, false}
-use mathlib.Core.List.{List, [], _∷_, _++_}
-use mathlib.Core.Path.{_≡_, refl, sym, _∙_, ap, subst}
-use Prim.Native.Nat.{ℕ, suc, _+_, _-_, _*_, _≤_, _<_}
+use mathlib.Core.Bool.{true}
+use mathlib.Core.List.{List, _∷_}
+use mathlib.Core.Path.{_≡_, refl, ap, subst}
+use Prim.Native.Nat.{ℕ, suc, _+_, _-_, _≤_}
 use native.Mathlib.Omega.{arith}
 use lib.ListN.{length}
 use Rattle.records.specs.declared.check.Checked.the-variants.{Good}
@@ -12,12 +12,11 @@ use Rattle.records.specs.Contexts.{checkedContext}
 use Rattle.printing.specs.Registers.{extAt}
 use Rattle.instructions.specs.Step.{Config}
 use Rattle.memory.specs.Answered.{variablesIn}
-use Rattle.heap.specs.Blocks.{Cell, Memory}
 use Rattle.heap.specs.GrowthLemmas.{Bounded, represents-bounded}
 use Rattle.heap.specs.Invariant.{Represents}
 use Rattle.heap.specs.OrderLemmas.{storedBy}
 use Rattle.heap.specs.Orders as abstract
-use Rattle.heap.specs.Orders.{State, Run, Performs, plain, Legal}
+use Rattle.heap.specs.Orders.{State, Run, plain, Legal}
 use Rattle.heap.specs.Values.{integer, object, Value, Values, countOf, joined, firstOf, valueAt, KindsFrom}
 use Rattle.positions.specs.Held.{Placed}
 use Rattle.bridge.specs.Shown.{L, heapOf}

@@ -1,10 +1,10 @@
 -- Each order that changes something, on a channel that carries what the induction carries, performs its abstract order.
-use mathlib.Core.Bool.{Bool, true, false, not, _&&_, cond}
-use mathlib.Core.List.{List, [], _∷_, _++_}
+use mathlib.Core.Bool.{Bool, true, false, not, cond}
+use mathlib.Core.List.{List, _++_}
 use mathlib.Core.Path.{_≡_, refl, sym, _∙_, ap, fun-ext}
 use Prim.Native.Nat.{ℕ, zero, suc, _+_, _-_, _*_, _≤_, _<_}
 use native.Mathlib.Omega.{arith}
-use lib.Dec.{ltb, leb, eqb}
+use lib.Dec.{ltb, eqb}
 use lib.ListN.{length, take}
 use lib.Seq.{length-take-le}
 use borrow.Author.Tests.{ltb-true, leb-true, ne-eqb}
@@ -15,22 +15,22 @@ use Rattle.records.specs.declared.order.Order.the-variants.{Put, Compute, Copy,
 use Rattle.records.proofs.Conditions.{and-left, and-right}
 use Rattle.layout.specs.Config.{base}
 use Rattle.layout.specs.Positions.{location}
-use Rattle.memory.specs.Objects.{extIn, storeObject, loadObject}
+use Rattle.memory.specs.Objects.{extIn, loadObject}
 use Rattle.printing.specs.Registers.{extAt}
 use Rattle.instructions.specs.Step.{Config}
 use Rattle.heap.specs.ValueLemmas.{hold-at}
-use Rattle.heap.specs.Values.{Value, integer, object, Values, nil, cons, countOf, joined, firstOf, restOf, copies, valueAt, Holds, KindsFrom}
+use Rattle.heap.specs.Values.{Value, integer, object, Values, nil, cons, countOf, joined, firstOf, restOf, copies, valueAt, Holds}
 use Rattle.heap.specs.Orders as abstract
 use Rattle.heap.specs.Orders.{State}
 use Rattle.positions.specs.Held.{held}
-use Rattle.positions.specs.Runs.{Does, so}
+use Rattle.positions.specs.Runs.{Does}
 use Rattle.bridge.specs.Shown.{heapOf}
 use Rattle.bridge.specs.Sizes.{objectSizes}
 use Rattle.bridge.specs.Variables.{variable, variables, variables-length}
 use Rattle.contexts.specs.Bindings.{good-length}
 use Rattle.contexts.specs.Kinds.{ext-left, ext-right, ext-take, ext-made, ext-made-all, kind-at, ext-in, ext-in-whole}
 use Rattle.contexts.specs.ValueKinds.{count-joined, count-first, count-copies, integer-at, kinds-moved}
-use Rattle.orders.specs.Plain.{integerOf, listOf, result, resultDefined, plainly, AsStored}
+use Rattle.orders.specs.Plain.{integerOf, listOf, result, plainly, AsStored}
 use Rattle.orders.specs.Writes.{made, madeAll, kindAt, treeOf, contextAfter, present, kindsOk, asked}
 use Rattle.soundness.specs.Claims.{Channel, acquires, changes, Owed}
 use Rattle.soundness.specs.Ending.{start}

@@ -1,8 +1,8 @@
 -- A variable's words into the variables past the last: copy performs the abstract heap's copy.
 use mathlib.Core.Bool.{Bool, true, false, cond}
-use mathlib.Core.List.{List, [], _∷_, _++_}
+use mathlib.Core.List.{_∷_, _++_}
 use mathlib.Core.Logic.{_≢_, _⊎_, inl, inr}
-use mathlib.Core.Path.{_≡_, refl, sym, _∙_, ap}
+use mathlib.Core.Path.{_≡_, refl, _∙_, ap}
 use Prim.Native.Nat.{ℕ, zero, suc, _+_, _-_, _*_, _≤_, _<_}
 use native.Mathlib.Nat.{zero-add, add-zero}
 use native.Mathlib.Decide.{decLt}
@@ -13,9 +13,8 @@ use Rattle.trees.specs.Tree.{nop, seq}
 use Rattle.layout.specs.Config.{base}
 use Rattle.layout.specs.Positions.{location}
 use Rattle.instructions.specs.Step.{Config}
-use Rattle.code.specs.Code.{moved}
 use Rattle.memory.specs.Blocks.{shareBlock}
-use Rattle.heap.specs.Blocks.{Cell, cell, Memory}
+use Rattle.heap.specs.Blocks.{Cell, cell}
 use Rattle.heap.specs.CountingLemmas.{occ-replicate-other}
 use Rattle.heap.specs.Invariant.{Represents}
 use Rattle.heap.specs.Operations.{Share, withHeaders}

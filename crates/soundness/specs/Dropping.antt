@@ -1,8 +1,7 @@
 -- The last variable dropped, and the last ones stored: the orders perform what the abstract heap names.
 use mathlib.Core.Bool.{Bool, true, false, cond}
-use mathlib.Core.List.{List, [], _∷_, _++_}
-use mathlib.Core.Logic.{_≢_}
-use mathlib.Core.Path.{_≡_, refl, sym, _∙_, ap}
+use mathlib.Core.List.{[], _∷_, _++_}
+use mathlib.Core.Path.{_≡_, refl, _∙_}
 use Prim.Native.Nat.{ℕ, suc, _+_, _-_, _*_, _≤_, _<_}
 use native.Mathlib.Nat.{zero-add}
 use native.Mathlib.Omega.{arith}
@@ -14,12 +13,11 @@ use Rattle.instructions.specs.Step.{Config}
 use Rattle.code.specs.Code.{loadImmediate}
 use Rattle.memory.specs.Blocks.{eraseBlock}
 use Rattle.memory.specs.Objects.{storeObject}
-use Rattle.heap.specs.Blocks.{pointers}
 use Rattle.heap.specs.GrowthLemmas.{reachable-below}
 use Rattle.heap.specs.Invariant.{Represents}
-use Rattle.heap.specs.Orders.{drop, store, Performs}
+use Rattle.heap.specs.Orders.{drop, store}
 use Rattle.heap.specs.Values.{Values}
-use Rattle.positions.specs.Held.{held, Keeps, Placed}
+use Rattle.positions.specs.Held.{Placed}
 use Rattle.positions.specs.HeldLemmas.{keeps-sub, keeps-register, placed-keeps, location-fits}
 use Rattle.positions.specs.Runs.{Does, one, so}
 use Rattle.meaning.proofs.Puts.{puts-sets}

@@ -1,11 +1,10 @@
 -- A tree that does something ends as a run of its records' bytes, with their number as the step limit.
-use mathlib.Core.Bool.{true, _&&_}
+use mathlib.Core.Bool.{true}
 use mathlib.Core.List.{[]}
-use mathlib.Core.Path.{_≡_, refl, sym, _∙_, ap}
+use mathlib.Core.Path.{_≡_, sym, _∙_, ap}
 use Prim.Native.Nat.{ℕ, _+_, _*_, _%_, _≤_}
 use native.Mathlib.Nat.{add-zero}
 use native.Mathlib.Omega.{arith}
-use lib.Dec.{eqb, leb}
 use borrow.Author.Tests.{eq-eqb, le-leb}
 use Rattle.records.specs.ReadBack.{joined, codeBytes}
 use Rattle.trees.specs.Tree.{Tree, labels, size, flat}

@@ -4,13 +4,13 @@ use mathlib.Core.Bool.{Bool, true, false, _&&_}
 use mathlib.Core.List.{List, [], _∷_, _++_, append-nil}
 use mathlib.Core.Logic.{_≢_}
 use mathlib.Core.Path.{_≡_, refl, sym, _∙_, ap}
-use Prim.Native.Nat.{ℕ, _+_, _*_, _≤_, _<_}
+use Prim.Native.Nat.{ℕ, _+_, _*_}
 use native.Mathlib.Omega.{arith}
 use lib.Dec.{ltb}
 use borrow.Author.Tests.{ltb-true}
 use Rattle.records.specs.declared.binding.Kind.the-variants.{Ext}
 use Rattle.records.specs.declared.order.Order.{Order}
-use Rattle.records.specs.declared.order.Order.the-variants.{Put, Compute, Copy, Drop, Store, Load, Print}
+use Rattle.records.specs.declared.order.Order.the-variants.{Put, Copy, Drop, Store, Load, Print}
 use Rattle.records.specs.Bytes.{le, number}
 use Rattle.records.specs.Checked.{checked, firstBad}
 use Rattle.records.specs.Contexts.{bindingBytes, bindingStarts}

@@ -1,31 +1,28 @@
 -- The claim, by induction over the list of items.
-use mathlib.Core.Bool.{Bool, true, false, _&&_, cond}
+use mathlib.Core.Bool.{Bool, true, false, cond}
 use mathlib.Core.List.{List, [], _∷_}
-use mathlib.Core.Path.{_≡_, refl, sym, _∙_, ap, subst}
-use Prim.Native.Nat.{ℕ, zero, suc, _+_, _*_, _≤_, _<_}
+use mathlib.Core.Path.{_≡_, refl, sym, subst}
+use Prim.Native.Nat.{ℕ, zero, suc, _+_, _*_, _≤_}
 use native.Mathlib.Nat.{zero-add}
 use native.Mathlib.Omega.{arith}
 use lib.Dec.{eqb}
-use lib.ListN.{length, getD, replicate, length-replicate}
+use lib.ListN.{replicate, length-replicate}
 use Rattle.printing.specs.Registers.{extAt}
 use Rattle.instructions.specs.View.{wordsOf}
-use Rattle.machine.specs.State.{see, freshState}
-use Rattle.heap.specs.Blocks.{Memory, pointers}
 use Rattle.heap.specs.Claims.{AbstractHeapStaysSound, HeapAfter}
 use Rattle.heap.specs.OrderLemmas.{represents-fresh}
 use Rattle.heap.specs.Orders as abstract
-use Rattle.heap.specs.Orders.{State, Run, Fresh}
+use Rattle.heap.specs.Orders.{Run, Fresh}
 use Rattle.heap.specs.RunLemmas.{abstract-heap-stays-sound}
 use Rattle.heap.specs.SoundLemmas.{sound, frontier-unique}
-use Rattle.heap.specs.Values.{Values, nil, countOf}
+use Rattle.heap.specs.Values.{nil, countOf}
 use Rattle.heap.specs.Words.{byAddress, headers, addressOf, numberOf}
 use Rattle.bridge.specs.Shown.{L, heapOf}
 use Rattle.bridge.specs.Sizes.{objectSizes}
 use Rattle.bridge.specs.Variables.{variables}
 use Rattle.contexts.specs.Bindings.{good-none}
-use Rattle.orders.specs.Plain.{plainly}
 use Rattle.orders.specs.Answered.{orderIs, placesIn}
-use Rattle.soundness.specs.Claims.{Item, Channel, fresh, isAccepted, Ran, stateOf, reached, values, acquired, AllOwed, stateAfter, statesBefore, SoundChannel, LastRan, LastRefused, After, HeapStaysSound, acquires, changes, Owed}
+use Rattle.soundness.specs.Claims.{Item, fresh, isAccepted, reached, values, acquired, AllOwed, stateAfter, statesBefore, SoundChannel, LastRan, LastRefused, HeapStaysSound, acquires, Owed}
 use Rattle.soundness.specs.Accepting.{taken}
 use Rattle.soundness.specs.Ending.{start}
 use Rattle.soundness.specs.Carried.{Carried, places-are}

@@ -1,21 +1,17 @@
 -- The last variable's object loaded: the order performs what the abstract heap names.
-use mathlib.Core.Bool.{Bool, true, false, cond}
-use mathlib.Core.List.{List, [], _∷_, _++_}
-use mathlib.Core.Logic.{_≢_}
-use mathlib.Core.Path.{_≡_, refl, sym, _∙_, ap}
-use Prim.Native.Nat.{ℕ, zero, suc, _+_, _-_, _*_, _/_, _≤_, _<_}
+use mathlib.Core.Bool.{Bool, true, false}
+use mathlib.Core.List.{[], _∷_, _++_}
+use mathlib.Core.Path.{_≡_, refl, _∙_}
+use Prim.Native.Nat.{ℕ, zero, suc, _+_, _-_, _*_, _≤_, _<_}
 use native.Mathlib.Nat.{zero-add}
 use native.Mathlib.Omega.{arith}
-use lib.Dec.{ltb}
-use Rattle.trees.specs.Tree.{Tree}
 use Rattle.layout.specs.Config.{base}
-use Rattle.layout.specs.Positions.{location}
 use Rattle.instructions.specs.Step.{Config}
-use Rattle.memory.specs.Objects.{fst, chunks, capacity, freed, loadValue, loadValues, loadBody, loadSpilled, loadBlock, loadOthers, loadSome, loadObject}
+use Rattle.memory.specs.Objects.{fst, chunks, capacity, freed, loadValues, loadBlock, loadOthers, loadSome, loadObject}
 use Rattle.heap.specs.Invariant.{Represents}
-use Rattle.heap.specs.Orders.{load, Performs}
+use Rattle.heap.specs.Orders.{load}
 use Rattle.heap.specs.Values.{object, Values, countOf, valueAt, KindsFrom}
-use Rattle.positions.specs.Held.{Keeps, Placed}
+use Rattle.positions.specs.Held.{Placed}
 use Rattle.positions.specs.HeldLemmas.{placed-keeps, location-fits}
 use Rattle.positions.specs.Runs.{Does, so}
 use Rattle.bridge.specs.LoadOrder.{load-order}
