@@ -81,7 +81,7 @@ fn pairs(line: &str) -> Vec<Option<(Asked, Answered)>> {
             vec![asked.zip(answered(&answer, false))]
         }
         Request::Emission(_) => operations_of(request),
-        Request::Check(..) | Request::List(_) | Request::Run(_) | Request::Order => {
+        Request::Check(..) | Request::List(_) | Request::Run(_) | Request::Order(_) => {
             vec![None]
         }
     }
