@@ -26,7 +26,8 @@ pub const MARK: u8 = 0xA8;
 pub const SIZE: usize = 24;
 pub const BINDING: usize = 8;
 
-const OPERATIONS: [Arithmetic; 5] = [
+/// In the sequence of a compute's flag.
+pub const OPERATIONS: [Arithmetic; 5] = [
     Arithmetic::Add,
     Arithmetic::Sub,
     Arithmetic::Mul,

@@ -21,6 +21,9 @@ use std::collections::BTreeMap;
 /// "Positions 267 and above are refused": as many variables as have both theirs.
 const MOST_VARIABLES: usize = 133;
 
+/// How many orders are put alone beside each list.
+const ALONE: usize = 20;
+
 #[derive(Debug, Clone, Copy)]
 pub struct Options {
     /// The port, or only the Rust's records on the reading of the machine.
@@ -37,6 +40,8 @@ pub struct Options {
 struct Tally {
     lists: u64,
     orders: u64,
+    alone: u64,
+    alone_accepted: u64,
     accepted: BTreeMap<&'static str, u64>,
     refused: BTreeMap<u64, u64>,
     records: u64,
@@ -102,6 +107,35 @@ impl Tally {
             self.item(&mut random, &mut soak, item)
                 .map_err(|failure| (place, failure))?;
         }
+        match side {
+            Side::Port => self.alone(&mut random).map_err(|failure| (0, failure)),
+            Side::Reading => Ok(()),
+        }
+    }
+
+    /// Puts orders alone to the port, each with a counter about the last that is allowed.
+    fn alone(&mut self, random: &mut Random) -> Result<(), String> {
+        for _ in 0..ALONE {
+            let (context, mut item) = lists::alone(random);
+            if let Ok(given) = answer::given(&context, &item.asked) {
+                let last = LAST_FRESH - given.counter;
+                item.asked.counter = random.pick(&[0, last, last, last + 1]);
+            }
+            let needed = answer::given(&context, &item.asked);
+            let rooms = item.rooms(random, needed.as_ref().ok());
+            let expected = needed.and_then(|given| {
+                answer::fits(&given, rooms.records, rooms.context)?;
+                Ok(given)
+            });
+            let expected = match expected {
+                Err(refusal) => refused(refusal),
+                Ok(given) => accepted(&given),
+            };
+            self.alone += 1;
+            self.alone_accepted += u64::from(matches!(expected, Answered::Accepted { .. }));
+            compare(&context, &item.asked, rooms, &expected)
+                .map_err(|failure| about(&item.asked, rooms, &failure))?;
+        }
         Ok(())
     }
 
@@ -112,11 +146,7 @@ impl Tally {
             answer::fits(&given, rooms.records, rooms.context)?;
             Ok(given)
         });
-        let about = |failure: String| {
-            let (order, bindings) = (hex::write(&asked.order), hex::write(&asked.bindings));
-            let order = format!("{order} {bindings} {} {rooms:?}", asked.counter);
-            format!("{failure}\n    {order}")
-        };
+        let about = |failure: String| about(&asked, rooms, &failure);
         match expected {
             Err(refusal) => {
                 *self.refused.entry(refusal.number).or_default() += 1;
@@ -155,6 +185,10 @@ impl Tally {
             "most at once: {variables} variables; {held} blocks held, {shared} of them shared, {lazy} on the lazy list, {linear} on the linear list, frontier {frontier}"
         );
         println!("{} records run in {} steps", self.records, self.steps);
+        println!(
+            "{} orders alone, {} of them accepted",
+            self.alone, self.alone_accepted
+        );
         println!(
             "seed {seed}: {} lists, the longest of {}; {} orders: {} accepted, {} refused, {failed} failed",
             self.lists,
@@ -199,8 +233,7 @@ impl Soak {
 
     /// "A refused one leaves all three."
     fn refused(&mut self, asked: &Asked, rooms: Rooms, refusal: Refusal) -> Result<(), String> {
-        let expected = Answered::Refused(refusal.number, refusal.value.unwrap_or(0));
-        self.ask(asked, rooms, &expected)
+        self.ask(asked, rooms, &refused(refusal))
     }
 
     fn accepted(
@@ -210,12 +243,7 @@ impl Soak {
         given: &Given,
         words: &[u64; 9],
     ) -> Result<(Ran, Shape), String> {
-        let expected = Answered::Accepted {
-            records: given.records.clone(),
-            counter: given.counter,
-            context: given.context.clone(),
-        };
-        self.ask(asked, rooms, &expected)?;
+        self.ask(asked, rooms, &accepted(given))?;
         if let Order::Print { newline, a } = given.order {
             self.check_call(&given.records, newline, a, words)?;
         }
@@ -234,16 +262,7 @@ impl Soak {
         if self.channel.side == Side::Reading {
             return Ok(());
         }
-        let found = channel::ask(&self.channel.context, asked, rooms);
-        let found = found.map_err(|_| "bytes that must stay have changed".to_string())?;
-        if found != *expected {
-            return Err(format!(
-                "document 01: {}; port: {}",
-                brief(expected),
-                brief(&found)
-            ));
-        }
-        Ok(())
+        compare(&self.channel.context, asked, rooms, expected)
     }
 
     /// "A print makes one call": its records have no jump and one CALL, of the name that the flag
@@ -302,6 +321,38 @@ impl Soak {
         } = &self.channel;
         sound(state, heap, context, &self.values, &mut self.history)
     }
+}
+
+/// Whether the port answers as document 01 says.
+fn compare(context: &[u8], asked: &Asked, rooms: Rooms, expected: &Answered) -> Result<(), String> {
+    let found = channel::ask(context, asked, rooms);
+    let found = found.map_err(|_| "bytes that must stay have changed".to_string())?;
+    if found == *expected {
+        return Ok(());
+    }
+    let (expected, found) = (brief(expected), brief(&found));
+    Err(format!("document 01: {expected}; port: {found}"))
+}
+
+fn refused(refusal: Refusal) -> Answered {
+    Answered::Refused(refusal.number, refusal.value.unwrap_or(0))
+}
+
+fn accepted(given: &Given) -> Answered {
+    Answered::Accepted {
+        records: given.records.clone(),
+        counter: given.counter,
+        context: given.context.clone(),
+    }
+}
+
+/// A failure with the order that it is about.
+fn about(asked: &Asked, rooms: Rooms, failure: &str) -> String {
+    let (order, bindings) = (hex::write(&asked.order), hex::write(&asked.bindings));
+    format!(
+        "{failure}\n    {order} {bindings} {} {rooms:?}",
+        asked.counter
+    )
 }
 
 fn brief(answered: &Answered) -> String {

@@ -5,7 +5,7 @@ use crate::channel::Rooms;
 use crate::context::Kind;
 use crate::orders::answer::{Asked, Given};
 use crate::orders::plain::{Value, result};
-use crate::orders::{Order, binding};
+use crate::orders::{BINDING, OPERATIONS, Order, binding};
 use crate::random::Random;
 use crate::record::LAST_FRESH;
 use crate::request::Arithmetic;
@@ -114,6 +114,73 @@ pub fn item(random: &mut Random, plan: &mut Plan, values: &[Value], left: usize)
     item
 }
 
+/// An order alone, on a context of any length and kinds: the limits of positions are met, and what
+/// no list of orders reaches.
+pub fn alone(random: &mut Random) -> (Vec<u8>, Item) {
+    let length = match random.below(4) {
+        0 => random.below(8),
+        1 => random.below(140),
+        2 if random.once_in(20) => 4_090 + random.below(8),
+        _ => 129 + random.below(8),
+    };
+    let linked = random.below(4);
+    let count = random.pick(&[0, 1, 2, 3, 5, 130, 131, 132, 133, 134]);
+    let mut kinds = |count: usize| {
+        let kind = |random: &mut Random| match random.below(3) < linked {
+            true => Kind::Linked,
+            false => Kind::Ext,
+        };
+        let bindings = (0..count).map(|_| binding(kind(random), random.word() as u32));
+        bindings.flatten().collect::<Vec<u8>>()
+    };
+    let context = kinds(length);
+    let brought = kinds(count);
+    let mut place = || match random.below(3) {
+        0 => length.saturating_sub(1),
+        1 => random.below(length.max(1)),
+        _ => random.below(136),
+    };
+    let (a, b, n) = (place(), place(), place());
+    let order = match random.below(7) {
+        0 => Order::Put(word(random)),
+        1 => Order::Compute(random.pick(&OPERATIONS), a, b),
+        2 => {
+            let n = random.pick(&[0, 1, 2, n, 133usize.saturating_sub(length)]);
+            Order::Copy { a, n }
+        }
+        3 => Order::Drop,
+        4 => Order::Store {
+            n,
+            tag: word(random),
+        },
+        5 => Order::Load(brought.len() / BINDING),
+        _ => {
+            let newline = random.once_in(2);
+            Order::Print { newline, a }
+        }
+    };
+    let bindings = match order {
+        Order::Load(_) => brought,
+        _ => Vec::new(),
+    };
+    let item = Item {
+        asked: Asked {
+            order: order.to_bytes().to_vec(),
+            bindings,
+            counter: 0,
+        },
+        words: [0; 9],
+        room: random.pick(&[
+            Room::Enough,
+            Room::Enough,
+            Room::RecordsShort,
+            Room::ContextShort,
+            Room::BothShort,
+        ]),
+    };
+    (context, item)
+}
+
 /// "In a list of orders the counters, bindings and output lengths are any."
 fn counter(random: &mut Random) -> u64 {
     match random.below(3) {
@@ -172,19 +239,12 @@ fn compute(random: &mut Random, values: &[Value]) -> Order {
         place(random, values, Kind::Ext),
     );
     let integer = |place: usize| values.get(place).and_then(Value::integer);
-    let all = [
-        Arithmetic::Add,
-        Arithmetic::Sub,
-        Arithmetic::Mul,
-        Arithmetic::Div,
-        Arithmetic::Rem,
-    ];
-    let mut operation = random.pick(&all);
+    let mut operation = random.pick(&OPERATIONS);
     if let (Some(x), Some(y)) = (integer(a), integer(b))
         && result(operation, x, y).is_none()
         && !random.once_in(8)
     {
-        operation = random.pick(&all[..3]);
+        operation = random.pick(&OPERATIONS[..3]);
     }
     Order::Compute(operation, a, b)
 }
