@@ -48,6 +48,7 @@ oracle native [OPTIONS]                            holds it against this process
                                                    (--count 400, --seed 1)
 oracle soak [rust] [OPTIONS]                       plays lists of orders on the port and checks
                                                    (--orders 1000000, --seed 1, --blocks 2000)
+oracle soak list SEED FOLDER                       writes the list that the program soak plays
 oracle bench machine                               times it beside plain Rust
 oracle bench emission                              times emission beside the published Rust";
 
@@ -118,6 +119,13 @@ fn run(words: &[&str]) -> Result<bool, Failure> {
             need_port()?;
             let folder = std::path::Path::new("target/native");
             return native::run(count, seed, folder).map_err(Failure::Files);
+        }
+        ["soak", "list", seed, folder] => {
+            let seed = parse::number(seed).map_err(|_| Failure::Usage)?;
+            let (list, line) = soak::stored_list(seed);
+            let folder = std::path::Path::new(folder);
+            std::fs::write(folder.join("stdin"), list).map_err(Failure::Files)?;
+            std::fs::write(folder.join("stdout"), line).map_err(Failure::Files)?;
         }
         ["soak", options @ ..] => {
             let (side, options) = match options {

@@ -2,6 +2,7 @@
 //! answer, the records, the context, the run, the state and the heap.
 
 mod lists;
+mod stored;
 
 use crate::channel::{self, Answered, Channel, Rooms, Side};
 use crate::codes::Code;
@@ -17,6 +18,8 @@ use crate::reading::Refusal;
 use crate::record::{LAST_FRESH, PRINT_I64, PRINTLN_I64, Record, SIZE};
 use lists::{Item, Plan};
 use std::collections::BTreeMap;
+
+pub use stored::list as stored_list;
 
 /// "Positions 267 and above are refused": as many variables as have both theirs.
 const MOST_VARIABLES: usize = 133;
@@ -244,6 +247,11 @@ impl Soak {
         words: &[u64; 9],
     ) -> Result<(Ran, Shape), String> {
         self.ask(asked, rooms, &accepted(given))?;
+        self.play(given, words)
+    }
+
+    /// Runs an accepted order's records, and checks what it left.
+    fn play(&mut self, given: &Given, words: &[u64; 9]) -> Result<(Ran, Shape), String> {
         if let Order::Print { newline, a } = given.order {
             self.check_call(&given.records, newline, a, words)?;
         }

@@ -58,6 +58,18 @@ impl Plan {
         }
     }
 
+    /// A part of a list, with about so many variables.
+    pub fn of(variables: usize) -> Plan {
+        Plan {
+            orders: 0,
+            blocks: 0,
+            variables,
+            weights: [3; 7],
+            waves: false,
+            falling: false,
+        }
+    }
+
     /// The weights of the seven orders on so many variables, the last of which can be loaded or
     /// not.
     fn weights(&mut self, length: usize, loadable: bool) -> [usize; 7] {

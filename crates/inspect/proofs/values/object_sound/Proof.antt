@@ -1,0 +1,38 @@
+use borrow.Author.Needs.{needs}
+use Prim.Native.Nat.{_-_}
+use mathlib.Core.Path.{_≡_}
+use lib.ListN.{length}
+use native.Mathlib.Omega.{arith}
+use Rattle.inspect.proofs.values.object_sound.Statement.{statement}
+use Rattle.inspect.proofs.values.object_sound.Tie as tie
+
+abbrev Inv-loop : tie.InvT-loop
+Inv-loop heap nodes cells work₀ head cell n block₀ field₀ last₀ i₀ work block field last i = length work ≡ length work₀
+
+abbrev μ-loop : tie.MeasureT-loop
+μ-loop heap nodes cells work₀ head cell n block₀ field₀ last₀ i₀ work block field last i = n - i
+
+pub object-sound-spec : {M : Type 1} → statement M
+object-sound-spec =
+    tie.close
+    (tie.spec
+    Inv-loop
+    μ-loop
+    (λ c κs. search needs)
+    (λ c κs. search needs)
+    (λ c. search needs)
+    (λ c. search needs)
+    (λ c κs. search needs)
+    (λ c κs. search needs)
+    (λ c. search needs)
+    (λ c κs. search needs)
+    (λ c κs. search needs)
+    (λ c κs. search needs)
+    (λ c. search needs)
+    (λ c. search needs)
+    (λ c κs. search needs)
+    (λ c. omega arith)
+    (λ c. omega arith)
+    (λ c. search needs)
+    (λ c. search needs)
+    (λ c. search needs))

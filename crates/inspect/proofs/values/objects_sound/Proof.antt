@@ -1,0 +1,37 @@
+use borrow.Author.Needs.{needs}
+use Prim.Native.Nat.{_-_}
+use mathlib.Core.Path.{_≡_}
+use lib.ListN.{length}
+use native.Mathlib.Omega.{arith}
+use Rattle.inspect.proofs.values.objects_sound.Statement.{statement}
+use Rattle.inspect.proofs.values.objects_sound.Tie as tie
+
+abbrev Inv-loop : tie.InvT-loop
+Inv-loop heap nodes cells marks₀ work₀ most i₀ marks work i = (length marks ≡ length marks₀) × (length work ≡ length work₀)
+
+abbrev μ-loop : tie.MeasureT-loop
+μ-loop heap nodes cells marks₀ work₀ most i₀ marks work i = most - i
+
+pub objects-sound-spec : {M : Type 1} → statement M
+objects-sound-spec =
+    tie.close
+    (tie.spec
+    Inv-loop
+    μ-loop
+    (λ c. search needs)
+    (λ c κs. search needs)
+    (λ c. search needs)
+    (λ c. search needs)
+    (λ c. search needs)
+    (λ c κs. search needs)
+    (λ c κs. search needs)
+    (λ c κs. search needs)
+    (λ c. search needs)
+    (λ c. search needs)
+    (λ c. search needs)
+    (λ c. omega arith)
+    (λ c. omega arith)
+    (λ c. search needs)
+    (λ c. search needs)
+    (λ c. search needs)
+    (λ c. search needs))
