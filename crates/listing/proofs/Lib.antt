@@ -1,5 +1,3 @@
-pub mod Putting  -- bytes put one after the other
-pub mod Digits  -- a number's digits, put one after the other
 pub mod NameTable  -- what the table of names holds
 pub mod Accepted  -- what an accepted list of records holds
 pub mod Parts  -- the lines of a listing, put one after the other

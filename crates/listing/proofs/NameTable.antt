@@ -9,8 +9,8 @@ use lib.ListN.{length, getD, take, drop, replicate, length-take}
 use Rattle.records.proofs.Table.{both-left, both-right, at}
 use Rattle.listing.specs.Names.{codeNames}
 use Rattle.listing.specs.Listing.{nameOf}
-use Rattle.listing.specs.Putting.{Puts}
-use Rattle.listing.proofs.Putting.{at-most}
+use Rattle.text.specs.Putting.{Puts}
+use Rattle.text.proofs.Putting.{at-most}
 
 -- twelve bytes for each name: its length, then the name, filled up by spaces
 abbrev pub entries : List (List ℕ) → List ℕ

@@ -9,8 +9,8 @@ use lib.ListN.{drop}
 use Rattle.records.specs.declared.code.Fields.{Fields}
 use Rattle.records.specs.Instructions.{fieldsIn}
 use Rattle.listing.specs.Listing.{line, lines}
-use Rattle.listing.specs.Putting.{Puts}
-use Rattle.listing.proofs.Putting.{nothing, at-most, _⨟_}
+use Rattle.text.specs.Putting.{Puts}
+use Rattle.text.proofs.Putting.{nothing, at-most, _⨟_}
 
 module _ (names : List (List ℕ)) (s : List ℕ) where
   pub no-lines : (o : List ℕ) (i : ℕ) → Puts (140 * 0) o i o i (lines names s 0)

@@ -11,7 +11,7 @@ use Rattle.records.specs.Bytes.{stored}
 use Rattle.records.proofs.Storing.{stored-whole, stored-nothing}
 use Rattle.listing.specs.declared.Listed.the-variants.{Text, Malformed, Short}
 use Rattle.listing.specs.Listing.{listing, textOf, answerOf, refusal, printedOf}
-use Rattle.listing.specs.Putting.{Puts}
+use Rattle.text.specs.Putting.{Puts}
 
 pub size : {m j : ℕ} {o o′ bs : List ℕ} → Puts m o 0 o′ j bs → j ≡ length bs
 size p = let e = p .next in omega arith

@@ -11,15 +11,11 @@ use Rattle.records.specs.declared.code.Fields.{Fields}
 use Rattle.records.specs.Instructions.{fieldsIn, checkedCodes}
 use Rattle.listing.specs.declared.Listed.{Listed}
 use Rattle.listing.specs.declared.Listed.the-variants.{Text, Malformed, Short}
-use Rattle.listing.specs.Text.{ascii, decimal, signed}
+use Rattle.text.specs.Text.{ascii, spaced, decimal, signed}
 
 -- the name of a code, the first of which is 1
 abbrev pub nameOf : List (List ℕ) → ℕ → List ℕ
 nameOf names code = getD names (code - 1) []
-
--- what follows a space
-abbrev pub spaced : List ℕ → List ℕ
-spaced bs = ascii " " ++ bs
 
 -- a, b, label, offset, value
 unfoldable pub operands : Fields → List ℕ

@@ -1,7 +1,7 @@
 -- The names of the 44 instructions, in the sequence of the Rust's enum Code: the name of code 1 first.
 use Prim.Native.Nat.{ℕ}
 use mathlib.Core.List.{List, [], _∷_, map}
-use Rattle.listing.specs.Text.{ascii}
+use Rattle.text.specs.Text.{ascii}
 
 unfoldable pub codeNames : List (List ℕ)
 codeNames =

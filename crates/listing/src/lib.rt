@@ -1,7 +1,6 @@
 // The text listing of instruction records.
 mod lines; // the lines, the header and the refusal
 mod names; // the 44 names
-mod text; // bytes and numbers put into a text
 
 use records::check::Checked;
 use records::code;

@@ -2,9 +2,9 @@
 ghost use mathlib.Core.Path.{_≡_};
 ghost use Prim.Native.Nat.{_+_, _≤_};
 ghost use Rattle.listing.specs.Names.{codeNames};
-ghost use Rattle.listing.specs.Listing.{nameOf, spaced};
-ghost use Rattle.listing.specs.Putting.{farthest, Puts};
-use crate::text;
+ghost use Rattle.text.specs.Text.{spaced};
+ghost use Rattle.listing.specs.Listing.{nameOf};
+ghost use Rattle.text.specs.Putting.{farthest, Puts};
 
 // Twelve bytes for each code: the length of its name, then the name, filled up by spaces.
 const NAMES: [u8; 528] = *b"\

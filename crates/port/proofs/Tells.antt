@@ -11,7 +11,7 @@ use Rattle.emit.specs.Answers.{Answers}
 use Rattle.routine.specs.Routine.{Assembles}
 use Rattle.orders.specs.declared.answer.Answer as order
 use Rattle.orders.specs.Answered.{Asked}
-use Rattle.channel.specs.Answers.{AnswersOrder}
+use Rattle.answering.specs.Answers.{AnswersOrder}
 use Rattle.port.specs.Emission.{answerNumbers, Tells, TellsRoutine}
 use Rattle.port.specs.Order.{orderNumbers, orderCounter, TellsOrder}
 

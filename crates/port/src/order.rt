@@ -1,7 +1,7 @@
 // The seven orders for C and Rust: an order's bytes with the context, the label counter and the bindings that follow it.
 ghost use mathlib.Core.Path.{_≡_};
 ghost use mathlib.Core.List.{[], _∷_};
-ghost use Rattle.channel.specs.Answers.{asking};
+ghost use Rattle.answering.specs.Answers.{asking};
 ghost use Rattle.machine.specs.State.{freshState};
 ghost use Rattle.port.specs.Order.{orderNumbers, orderCounter, TellsOrder};
 use orders::answer::Answer;
@@ -67,7 +67,7 @@ pub extern "C" fn axcut_order(
     ensures { λ r. ⌜ TellsOrder (now (context .entry)) (asking (now (order .entry)) (now (bindings .entry)) (now (counter .entry)) (now («records_out» .entry)) (now («context_out» .entry))) r (now (value .exit)) (now (count .exit)) (now (counter .exit)) (now («records_out» .entry)) (now («records_out» .exit)) (now («context_out» .entry)) (now («context_out» .exit)) ⌝ }
 {
     let before = *counter;
-    let answer = channel::order::order(records_out, context_out, context, before, order, bindings);
+    let answer = answering::order::order(records_out, context_out, context, before, order, bindings);
     let after = counter_after(answer, before);
     *counter = after;
     told(answer, value, count)

@@ -64,7 +64,7 @@ fn ask(
     let room = room_of(orders, records_out.len());
     if used <= context.len() {
         if room <= records_out.len() {
-            return channel::order::order(
+            return answering::order::order(
                 &mut records_out[..room],
                 context_out,
                 &context[..used],

@@ -1,6 +1,6 @@
 use borrow.Author.Needs.{needs}
 use Rattle.listing.specs.Listing.{line}
-use Rattle.listing.proofs.Putting.{_⨟_}
+use Rattle.text.proofs.Putting.{_⨟_}
 use Rattle.listing.proofs.lines.put_line.Statement.{statement}
 use Rattle.listing.proofs.lines.put_line.Tie as tie
 

@@ -2,8 +2,8 @@ use Prim.Native.Nat.{_*_, _-_, _≤_}
 use native.Mathlib.Omega.{arith}
 use Rattle.listing.specs.Names.{codeNames}
 use Rattle.listing.specs.Listing.{lines}
-use Rattle.listing.specs.Putting.{Puts}
-use Rattle.listing.proofs.Putting.{same-length}
+use Rattle.text.specs.Putting.{Puts}
+use Rattle.text.proofs.Putting.{same-length}
 use Rattle.listing.proofs.Accepted.{few-records, record-whole, record-code}
 use Rattle.listing.proofs.Parts.{no-lines, line-more, all-lines}
 use Rattle.listing.proofs.lines.put_lines.Statement.{statement}

@@ -1,6 +1,6 @@
 use borrow.Author.Needs.{needs}
 use Rattle.listing.specs.Listing.{operands}
-use Rattle.listing.proofs.Putting.{_⨟_}
+use Rattle.text.proofs.Putting.{_⨟_}
 use Rattle.listing.proofs.lines.put_operands.Statement.{statement}
 use Rattle.listing.proofs.lines.put_operands.Tie as tie
 

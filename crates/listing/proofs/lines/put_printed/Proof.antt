@@ -1,7 +1,7 @@
 use borrow.Author.Needs.{needs}
 use mathlib.Core.Path.{sym, _∙_}
 use native.Mathlib.Omega.{arith}
-use Rattle.listing.proofs.Putting.{at-most}
+use Rattle.text.proofs.Putting.{at-most}
 use Rattle.listing.proofs.Whole.{printed-listing, printed-refusal}
 use Rattle.listing.proofs.lines.put_printed.Statement.{statement}
 use Rattle.listing.proofs.lines.put_printed.Tie as tie

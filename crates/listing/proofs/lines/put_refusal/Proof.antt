@@ -1,7 +1,7 @@
 use borrow.Author.Needs.{needs}
-use Rattle.listing.specs.Text.{digits}
+use Rattle.text.specs.Text.{digits}
 use Rattle.listing.specs.Listing.{refusal}
-use Rattle.listing.proofs.Putting.{_⨟_}
+use Rattle.text.proofs.Putting.{_⨟_}
 use Rattle.listing.proofs.lines.put_refusal.Statement.{statement}
 use Rattle.listing.proofs.lines.put_refusal.Tie as tie
 

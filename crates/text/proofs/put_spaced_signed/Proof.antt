@@ -1,0 +1,13 @@
+use borrow.Author.Needs.{needs}
+use Rattle.text.proofs.Putting.{_⨟_}
+use Rattle.text.proofs.put_spaced_signed.Statement.{statement}
+use Rattle.text.proofs.put_spaced_signed.Tie as tie
+
+pub put-spaced-signed-spec : {M : Type 1} → statement M
+put-spaced-signed-spec =
+    tie.close
+    (tie.spec
+    (λ c κs. search needs)
+    (λ c κs. search needs)
+    (λ c. search needs)
+    (λ c. c .before .before .before .before .before .before .put-byte .ensures ⨟ c .before .before .put-signed .ensures))
