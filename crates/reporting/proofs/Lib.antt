@@ -1,0 +1,1 @@
+pub mod Rows  -- the lines of variables, put one after the other

@@ -1,0 +1,75 @@
+-- The line of an order's answer: `3 load: refused 5, a variable of the wrong kind for the order`. A refusal's number and values are document 01's, 'Causes and numbers', by
+-- the `causeOf` that the order function's contract cites.
+use Prim.Native.Nat.{ℕ, _-_}
+use mathlib.Core.Bool.{cond}
+use mathlib.Core.List.{List, [], _∷_, _++_}
+use lib.Dec.{eqb}
+use Rattle.records.specs.declared.order.Order.{Order}
+use Rattle.records.specs.declared.order.Order.the-variants.{Put, Compute, Copy, Drop, Store, Load, Print}
+use Rattle.records.specs.declared.order.OrderRead.{OrderRead}
+use Rattle.records.specs.declared.order.OrderRead.the-variants as read
+use Rattle.records.specs.Orders.{orderRead}
+use Rattle.text.specs.Text.{ascii, decimal}
+use Rattle.orders.specs.declared.answer.Answer.{Answer}
+use Rattle.orders.specs.declared.answer.Answer.the-variants.{Accepted, Context, Malformed, Missing, Kind, Count, Position, Labels, Room}
+use Rattle.orders.specs.Answered.{causeOf}
+use Rattle.reporting.specs.Parts.{counted}
+
+unfoldable pub orderName : Order → List ℕ
+orderName (Put value) = ascii "put"
+orderName (Compute operation a b) = ascii "compute"
+orderName (Copy a n) = ascii "copy"
+orderName Drop = ascii "drop"
+orderName (Store n tag) = ascii "store"
+orderName (Load n) = ascii "load"
+orderName (Print newline a) = ascii "print"
+
+-- `order` where the record is malformed
+unfoldable pub readName : OrderRead → List ℕ
+readName (read.Whole order) = orderName order
+readName (read.Malformed place) = ascii "order"
+
+-- the order's number in the list, and its name
+unfoldable pub start : ℕ → List ℕ → List ℕ
+start number order = decimal number ++ ascii " " ++ readName (orderRead order) ++ ascii ": "
+
+-- what to look at, for each number that an order is refused with
+unfoldable pub causeWords : ℕ → List ℕ
+causeWords n =
+    cond (eqb n 1) (ascii "malformed context or bindings")
+    (cond (eqb n 2) (ascii "malformed order, or not its number of bindings")
+    (cond (eqb n 4) (ascii "a place that is not in the context, or too few variables")
+    (cond (eqb n 5) (ascii "a variable of the wrong kind for the order")
+    (cond (eqb n 7) (ascii "a copy's count above 2147483647")
+    (cond (eqb n 8) (ascii "too many variables, a position above 266 needed")
+    (cond (eqb n 9) (ascii "labels above 2147483647 needed, let the counter start afresh")
+    (cond (eqb n 10) (ascii "an output is too short") [])))))))
+
+-- the value beside a number: the record's place for 2, the bytes needed for 10
+unfoldable pub causeValue : ℕ → ℕ → List ℕ
+causeValue n value = cond (eqb n 2) (counted " at place " value) (counted ", " value ++ ascii " bytes needed")
+
+-- a refusal, by its number and values
+unfoldable pub refusal : List ℕ → List ℕ
+refusal [] = []
+refusal (n ∷ []) = counted "refused " n ++ (ascii ", " ++ causeWords n)
+refusal (n ∷ value ∷ values) = counted "refused " n ++ causeValue n value ++ (ascii ", " ++ causeWords n)
+
+-- so many records, and the labels that they drew
+unfoldable pub acceptance : ℕ → ℕ → List ℕ
+acceptance records labels = counted "accepted, records " records ++ counted ", labels " labels
+
+-- `before` is the label counter that went in
+unfoldable pub outcome : ℕ → Answer → List ℕ
+outcome before (Accepted records counter bindings) = acceptance records (counter - before)
+outcome before Context = refusal (causeOf Context)
+outcome before (Malformed place) = refusal (causeOf (Malformed place))
+outcome before Missing = refusal (causeOf Missing)
+outcome before Kind = refusal (causeOf Kind)
+outcome before Count = refusal (causeOf Count)
+outcome before Position = refusal (causeOf Position)
+outcome before Labels = refusal (causeOf Labels)
+outcome before (Room bytes) = refusal (causeOf (Room bytes))
+
+unfoldable pub orderLine : ℕ → List ℕ → ℕ → Answer → List ℕ
+orderLine number order before answer = start number order ++ outcome before answer ++ ascii "\n"

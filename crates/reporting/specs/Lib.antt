@@ -1,0 +1,6 @@
+-- What the contracts of `reporting` cite: every byte of the lines that operators of a channel read.
+pub mod Parts  -- words, then a number
+pub mod Answers  -- the line of an order's answer
+pub mod Stops  -- the line of a run that did not end
+pub mod Cells  -- the line of each variable
+pub mod Counts  -- what is printed, and how many blocks are where
