@@ -47,12 +47,12 @@ module _ (ext : ℕ → Bool) (registers stack : ℕ → ℕ) where
       rw (e, append-assoc) (ap (λ (z : List ℕ). cellLine v (ext v) (variableIn ext registers stack v) ++ z) (lines-more (suc v) k))
 
 module _ (context registers stack : List ℕ) where
-  pub no-lines : (o : List ℕ) (i : ℕ) → Puts (82 * 0) o i o i (firstLines context registers stack 0)
+  pub no-lines : (o : List ℕ) (i : ℕ) → Puts (83 * 0) o i o i (firstLines context registers stack 0)
   unfolding firstLines cellLines
   no-lines o i = nothing o i
 
-  module _ (k : ℕ) {i j : ℕ} {o o′ : List ℕ} (so-far : Puts (82 * k) o i o′ j (firstLines context registers stack k)) where
-    pub line-more : {o″ : List ℕ} {n : ℕ} → Puts 82 o′ j o″ n (lineOf context registers stack k) → Puts (82 * (k + 1)) o i o″ n (firstLines context registers stack (k + 1))
+  module _ (k : ℕ) {i j : ℕ} {o o′ : List ℕ} (so-far : Puts (83 * k) o i o′ j (firstLines context registers stack k)) where
+    pub line-more : {o″ : List ℕ} {n : ℕ} → Puts 83 o′ j o″ n (lineOf context registers stack k) → Puts (83 * (k + 1)) o i o″ n (firstLines context registers stack (k + 1))
     unfolding firstLines lineOf
     line-more p =
         let z : 0 + k ≡ k = omega arith in
@@ -61,19 +61,19 @@ module _ (context registers stack : List ℕ) where
         in
         rw e (at-most (so-far ⨟ p) (omega arith))
 
-    pub all-lines : (n : ℕ) → k ≤ n → n ≤ k → Puts (82 * n) o i o′ j (firstLines context registers stack n)
-    all-lines n g h = subst (λ (m : ℕ). Puts (82 * m) o i o′ j (firstLines context registers stack m)) (le-antisymm g h) so-far
+    pub all-lines : (n : ℕ) → k ≤ n → n ≤ k → Puts (83 * n) o i o′ j (firstLines context registers stack n)
+    all-lines n g h = subst (λ (m : ℕ). Puts (83 * m) o i o′ j (firstLines context registers stack m)) (le-antisymm g h) so-far
 
 -- what a context's check decides
 module _ (s : List ℕ) (state : State) (o : List ℕ) (i : ℕ) where
-  pub of-malformed : {place : ℕ} → checkedContext s ≡ Malformed place → Puts 10906 o i o i (variableLines s state)
+  pub of-malformed : {place : ℕ} → checkedContext s ≡ Malformed place → Puts 11039 o i o i (variableLines s state)
   unfolding variableLines firstLines cellLines
   of-malformed e = rw e (at-most (nothing o i) (omega arith))
 
-  pub of-many : {n : ℕ} → checkedContext s ≡ Good n → 133 < n → Puts 10906 o i o i (variableLines s state)
+  pub of-many : {n : ℕ} → checkedContext s ≡ Good n → 133 < n → Puts 11039 o i o i (variableLines s state)
   unfolding variableLines
   of-many {n} e h = rw (e, lt-leb n 133 h) (at-most (nothing o i) (omega arith))
 
-  pub of-few : {n j : ℕ} {o′ : List ℕ} → checkedContext s ≡ Good n → n ≤ 133 → Puts (82 * n) o i o′ j (firstLines s (state .registers) (state .stack) n) → Puts 10906 o i o′ j (variableLines s state)
+  pub of-few : {n j : ℕ} {o′ : List ℕ} → checkedContext s ≡ Good n → n ≤ 133 → Puts (83 * n) o i o′ j (firstLines s (state .registers) (state .stack) n) → Puts 11039 o i o′ j (variableLines s state)
   unfolding variableLines
   of-few {n} e h p = rw (e, le-leb n 133 h) (at-most p (omega arith))

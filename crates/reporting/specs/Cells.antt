@@ -17,9 +17,9 @@ use Rattle.reporting.specs.Parts.{counted}
 unfoldable pub blockWords : ℕ → List ℕ
 blockWords pointer = cond (eqb pointer 0) (ascii ", empty") (counted ", block " ((pointer - 65536) / 64))
 
--- an integer's word is signed, a tag is not
+-- an integer and a tag are signed
 unfoldable pub cellWords : Bool → Cell → List ℕ
-cellWords ext c = cond ext (ascii " integer " ++ signed (c .snd)) (counted " object, tag " (c .snd) ++ blockWords (c .fst))
+cellWords ext c = cond ext (ascii " integer " ++ signed (c .snd)) (ascii " object, tag " ++ signed (c .snd) ++ blockWords (c .fst))
 
 unfoldable pub cellLine : ℕ → Bool → Cell → List ℕ
 cellLine place ext c = decimal place ++ cellWords ext c ++ ascii "\n"

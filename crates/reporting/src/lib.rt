@@ -3,22 +3,11 @@ mod parts; // words, then a number
 pub mod answers; // the line of an order's answer
 pub mod stops; // the line of a run that did not end
 pub mod variables; // the line of each variable
+pub mod prints; // what a print order writes
 
 ghost use Prim.Native.Nat.{_+_, _≤_};
 ghost use Rattle.text.specs.Putting.{farthest, Puts};
-ghost use Rattle.reporting.specs.Counts.{printedText, blocksLine};
-
-// What the print routines write.
-pub fn put_printed(text: &mut [u8], at: usize, newline: bool, integer: u64) -> usize
-    requires { ⌜ at + 22 ≤ farthest ⌝ }
-    ensures { λ r. ⌜ Puts 22 (now (text .entry)) at (now (text .exit)) r (printedText newline integer) ⌝ }
-{
-    let next = text::put_signed(text, at, integer);
-    if newline {
-        return text::put_byte(text, next, b'\n');
-    }
-    next
-}
+ghost use Rattle.reporting.specs.Counts.{blocksLine};
 
 // How many blocks are on the linear list, on the lazy list, held, and past the frontier.
 pub fn put_blocks(

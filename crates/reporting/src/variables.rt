@@ -11,7 +11,6 @@ ghost use Rattle.instructions.specs.View.{wordsOf};
 ghost use Rattle.instructions.specs.Forms.{Sized};
 ghost use Rattle.heap.specs.Blocks.{cell};
 ghost use Rattle.positions.specs.Held.{heldIn};
-ghost use Rattle.reporting.specs.Parts.{counted};
 ghost use Rattle.reporting.specs.Cells.{blockWords, cellWords, cellLine, lineOf, firstLines, variableLines};
 use crate::parts;
 use machine::state::State;
@@ -29,10 +28,11 @@ fn put_block(text: &mut [u8], at: usize, pointer: u64) -> usize
 }
 
 fn put_object(text: &mut [u8], at: usize, pointer: u64, tag: u64) -> usize
-    requires { ⌜ at + 61 ≤ farthest ⌝ }
-    ensures { λ r. ⌜ Puts 61 (now (text .entry)) at (now (text .exit)) r (counted " object, tag " tag ++ blockWords pointer) ⌝ }
+    requires { ⌜ at + 62 ≤ farthest ⌝ }
+    ensures { λ r. ⌜ Puts 62 (now (text .entry)) at (now (text .exit)) r (ascii " object, tag " ++ signed tag ++ blockWords pointer) ⌝ }
 {
-    let next = parts::put_count(text, at, b" object, tag ", tag);
+    let tagged = text::put_bytes(text, at, b" object, tag ");
+    let next = text::put_signed(text, tagged, tag);
     put_block(text, next, pointer)
 }
 
@@ -45,8 +45,8 @@ fn put_integer(text: &mut [u8], at: usize, integer: u64) -> usize
 }
 
 fn put_value(text: &mut [u8], at: usize, ext: bool, pointer: u64, word: u64) -> usize
-    requires { ⌜ at + 61 ≤ farthest ⌝ }
-    ensures { λ r. ⌜ Puts 61 (now (text .entry)) at (now (text .exit)) r (cellWords ext (cell pointer word)) ⌝ }
+    requires { ⌜ at + 62 ≤ farthest ⌝ }
+    ensures { λ r. ⌜ Puts 62 (now (text .entry)) at (now (text .exit)) r (cellWords ext (cell pointer word)) ⌝ }
 {
     if ext {
         return put_integer(text, at, word);
@@ -55,8 +55,8 @@ fn put_value(text: &mut [u8], at: usize, ext: bool, pointer: u64, word: u64) -> 
 }
 
 fn put_cell(text: &mut [u8], at: usize, place: u64, ext: bool, pointer: u64, word: u64) -> usize
-    requires { ⌜ at + 82 ≤ farthest ⌝ }
-    ensures { λ r. ⌜ Puts 82 (now (text .entry)) at (now (text .exit)) r (cellLine place ext (cell pointer word)) ⌝ }
+    requires { ⌜ at + 83 ≤ farthest ⌝ }
+    ensures { λ r. ⌜ Puts 83 (now (text .entry)) at (now (text .exit)) r (cellLine place ext (cell pointer word)) ⌝ }
 {
     let value = text::put_decimal(text, at, place);
     let end = put_value(text, value, ext, pointer, word);
@@ -72,7 +72,7 @@ fn is_ext(context: &[u8], k: usize) -> bool
 }
 
 // The word at position p.
-fn word_at(registers: &[u64; 16], stack: &[u64; 320], table: &[u64; 267], p: u64) -> u64
+pub fn word_at(registers: &[u64; 16], stack: &[u64; 320], table: &[u64; 267], p: u64) -> u64
     requires { ⌜ Sized (now registers) (now stack) × Table (now table) × (p < 267) ⌝ }
     ensures { λ r. ⌜ r ≡ heldIn (wordsOf (now (registers .entry))) (wordsOf (now (stack .entry))) (location p) ⌝ }
 {
@@ -92,8 +92,8 @@ fn put_variable(
     table: &[u64; 267],
     k: usize,
 ) -> usize
-    requires { ⌜ (8 * k + 8 ≤ length (now context)) × (k < 133) × Sized (now registers) (now stack) × Table (now table) × (at + 82 ≤ farthest) ⌝ }
-    ensures { λ r. ⌜ Puts 82 (now (text .entry)) at (now (text .exit)) r (lineOf (now (context .entry)) (now (registers .entry)) (now (stack .entry)) k) ⌝ }
+    requires { ⌜ (8 * k + 8 ≤ length (now context)) × (k < 133) × Sized (now registers) (now stack) × Table (now table) × (at + 83 ≤ farthest) ⌝ }
+    ensures { λ r. ⌜ Puts 83 (now (text .entry)) at (now (text .exit)) r (lineOf (now (context .entry)) (now (registers .entry)) (now (stack .entry)) k) ⌝ }
 {
     let place = k as u64;
     let pointer = word_at(registers, stack, table, 2 * place);
@@ -112,8 +112,8 @@ fn put_first(
     table: &[u64; 267],
     count: usize,
 ) -> usize
-    requires { ⌜ (8 * count ≤ length (now context)) × (count ≤ 133) × Sized (now registers) (now stack) × Table (now table) × (at + 82 * count ≤ farthest) ⌝ }
-    ensures { λ r. ⌜ Puts (82 * count) (now (text .entry)) at (now (text .exit)) r (firstLines (now (context .entry)) (now (registers .entry)) (now (stack .entry)) count) ⌝ }
+    requires { ⌜ (8 * count ≤ length (now context)) × (count ≤ 133) × Sized (now registers) (now stack) × Table (now table) × (at + 83 * count ≤ farthest) ⌝ }
+    ensures { λ r. ⌜ Puts (83 * count) (now (text .entry)) at (now (text .exit)) r (firstLines (now (context .entry)) (now (registers .entry)) (now (stack .entry)) count) ⌝ }
 {
     let mut next = at;
     let mut k = 0;
@@ -126,8 +126,8 @@ fn put_first(
 
 // The line of each variable of a context; nothing where the context is malformed or has more than 133.
 pub fn put_variables(text: &mut [u8], at: usize, context: &[u8], state: State) -> usize
-    requires { ⌜ at + 10906 ≤ farthest ⌝ }
-    ensures { λ r. ⌜ Puts 10906 (now (text .entry)) at (now (text .exit)) r (variableLines (now (context .entry)) state) ⌝ }
+    requires { ⌜ at + 11039 ≤ farthest ⌝ }
+    ensures { λ r. ⌜ Puts 11039 (now (text .entry)) at (now (text .exit)) r (variableLines (now (context .entry)) state) ⌝ }
 {
     let checked = records::binding::check_context(context);
     match checked {

@@ -8,7 +8,7 @@ use Rattle.reporting.proofs.variables.put_first.Statement.{statement}
 use Rattle.reporting.proofs.variables.put_first.Tie as tie
 
 abbrev Inv-loop : tie.InvT-loop
-Inv-loop text₀ at context registers stack table count next₀ k₀ text next k = (k ≤ count) × Puts (82 * k) text₀ at text next (firstLines context registers stack k)
+Inv-loop text₀ at context registers stack table count next₀ k₀ text next k = (k ≤ count) × Puts (83 * k) text₀ at text next (firstLines context registers stack k)
 
 abbrev μ-loop : tie.MeasureT-loop
 μ-loop text₀ at context registers stack table count next₀ k₀ text next k = count - k

@@ -10,5 +10,6 @@ put-object-spec =
     (λ c. search needs)
     (λ c κs. search needs)
     (λ c κs. search needs)
+    (λ c κs. search needs)
     (λ c. search needs)
-    (λ c. c .before .before .before .before .before .before .put-count .ensures ⨟ c .before .before .put-block .ensures))
+    (λ c. c .before .before .before .before .before .before .before .before .before .before .put-bytes .ensures ⨟ c .before .before .before .before .before .before .put-signed .ensures ⨟ c .before .before .put-block .ensures))

@@ -1,9 +1,9 @@
 use borrow.Author.Needs.{needs}
 use native.Mathlib.Omega.{arith}
 use Rattle.text.proofs.Putting.{at-most, _⨟_}
-use Rattle.reporting.specs.Counts.{printedText}
-use Rattle.reporting.proofs.put_printed.Statement.{statement}
-use Rattle.reporting.proofs.put_printed.Tie as tie
+use Rattle.reporting.specs.Prints.{printedText}
+use Rattle.reporting.proofs.prints.put_printed.Statement.{statement}
+use Rattle.reporting.proofs.prints.put_printed.Tie as tie
 
 pub put-printed-spec : {M : Type 1} → statement M
 unfolding printedText
