@@ -25,6 +25,7 @@ type Outcome = Result<String, Refusal>;
 pub fn run(count: u64, seed: u64) -> bool {
     let mut random = Random::new(seed);
     let mut tally = Tally::default();
+    tally.compare_other_kinds();
     for input in inputs::limits(&mut random) {
         tally.compare(&input, &mut random);
     }
@@ -55,6 +56,18 @@ impl Tally {
                 self.count(input, expected, by_port(form, &input.bytes));
             }
             Question::List => self.compare_lists(input, random),
+        }
+    }
+
+    /// A kind that names no check is refused with 3, whatever the bytes.
+    fn compare_other_kinds(&mut self) {
+        for kind in [0, 4, 1 << 32 | 1, u64::MAX] {
+            let found = port::check_kind(kind, &[]);
+            self.answers += 1;
+            if (found.number, found.value) != (3, 0) {
+                self.different += 1;
+                println!("check of kind {kind}: {found:?}");
+            }
         }
     }
 
@@ -112,25 +125,16 @@ fn by_document(form: Form, bytes: &[u8]) -> Outcome {
 }
 
 fn by_port(form: Form, bytes: &[u8]) -> Outcome {
-    match form {
-        Form::Context => match port::check_context(bytes) {
-            0 => Ok(String::new()),
-            number => Err(Refusal {
-                number,
-                value: None,
-            }),
-        },
-        Form::Records => outcome(port::check_records(bytes), String::new()),
-        Form::Order => outcome(port::check_order(bytes), String::new()),
-    }
+    outcome(port::check(form, bytes), String::new())
 }
 
+/// Number 1 goes without a place: the word beside it is 0.
 fn outcome(Returned { number, value }: Returned, text: String) -> Outcome {
     match number {
         0 => Ok(text),
         number => Err(Refusal {
             number,
-            value: Some(value),
+            value: (number != 1 || value != 0).then_some(value),
         }),
     }
 }

@@ -3,7 +3,7 @@
 use crate::interpreter::{STACK_WORDS, State};
 use crate::lent::Lent;
 use crate::record::SIZE;
-use crate::request::Number;
+use crate::request::{Form, Number};
 
 /// Whether the port was linked. If not, none of the functions below may be called.
 pub const LINKED: bool = cfg!(port);
@@ -25,9 +25,7 @@ macro_rules! exported {
 }
 
 exported! {
-    fn axcut_check_context(context: *const u8, len: usize) -> u64;
-    fn axcut_check_records(records: *const u8, len: usize, place: *mut u64) -> u64;
-    fn axcut_check_order(order: *const u8, len: usize, place: *mut u64) -> u64;
+    fn axcut_check(kind: u64, bytes: *const u8, len: usize, place: *mut u64) -> u64;
     fn axcut_list(
         records: *const u8,
         len: usize,
@@ -100,8 +98,11 @@ exported! {
         value: *mut u64,
         count: *mut u64
     ) -> u64;
-    fn axcut_entry(registers: *mut [u64; 16], stack: *mut [u64; STACK_WORDS]) -> ();
-    fn axcut_fresh(registers: *mut [u64; 16], stack: *mut [u64; STACK_WORDS]) -> ();
+    fn axcut_start(
+        fresh: bool,
+        registers: *mut [u64; 16],
+        stack: *mut [u64; STACK_WORDS]
+    ) -> ();
     fn axcut_run(
         records: *const u8,
         len: usize,
@@ -127,22 +128,20 @@ pub struct Returned {
 #[derive(Debug, PartialEq, Eq)]
 pub struct Damaged;
 
-/// The number alone: 0, or 1 for a malformed context.
-pub fn check_context(context: &[u8]) -> u64 {
-    unsafe { axcut_check_context(context.as_ptr(), context.len()) }
+/// The value is the place of the first bad or surplus record, 0 for a context.
+pub fn check(form: Form, bytes: &[u8]) -> Returned {
+    let kind = match form {
+        Form::Context => 1,
+        Form::Records => 2,
+        Form::Order => 3,
+    };
+    check_kind(kind, bytes)
 }
 
-/// The value is the place of the first bad or surplus record.
-pub fn check_records(records: &[u8]) -> Returned {
-    let mut value = 0;
-    let number = unsafe { axcut_check_records(records.as_ptr(), records.len(), &mut value) };
-    Returned { number, value }
-}
-
-/// The value is the place of the first bad or surplus record.
-pub fn check_order(order: &[u8]) -> Returned {
-    let mut value = 0;
-    let number = unsafe { axcut_check_order(order.as_ptr(), order.len(), &mut value) };
+/// The same by the kind's number, which may be any.
+pub fn check_kind(kind: u64, bytes: &[u8]) -> Returned {
+    let mut value = u64::MAX;
+    let number = unsafe { axcut_check(kind, bytes.as_ptr(), bytes.len(), &mut value) };
     Returned { number, value }
 }
 
@@ -359,21 +358,20 @@ pub struct Ran {
 
 /// The state with which a routine is entered.
 pub fn entry() -> State {
-    let mut state = State {
-        registers: [1; 16],
-        stack: [1; STACK_WORDS],
-    };
-    unsafe { axcut_entry(&mut state.registers, &mut state.stack) };
-    state
+    start(false)
 }
 
 /// The state from which a list of orders starts.
 pub fn fresh() -> State {
+    start(true)
+}
+
+fn start(fresh: bool) -> State {
     let mut state = State {
         registers: [1; 16],
         stack: [1; STACK_WORDS],
     };
-    unsafe { axcut_fresh(&mut state.registers, &mut state.stack) };
+    unsafe { axcut_start(fresh, &mut state.registers, &mut state.stack) };
     state
 }
 

@@ -25,20 +25,10 @@ pub fn answer(request: &Request, channel: &mut Option<Channel>) -> Answer {
 }
 
 fn check(form: Form, bytes: &[u8]) -> Answer {
-    match form {
-        Form::Context => match port::check_context(bytes) {
-            0 => Answer::Accepted,
-            number => Answer::Refused(number, None),
-        },
-        Form::Records => accepted_or_refused(port::check_records(bytes)),
-        Form::Order => accepted_or_refused(port::check_order(bytes)),
-    }
-}
-
-fn accepted_or_refused(returned: Returned) -> Answer {
-    match returned.number {
-        0 => Answer::Accepted,
-        number => Answer::Refused(number, Some(returned.value)),
+    match port::check(form, bytes) {
+        Returned { number: 0, .. } => Answer::Accepted,
+        Returned { number: 1, .. } => Answer::Refused(1, None),
+        Returned { number, value } => Answer::Refused(number, Some(value)),
     }
 }
 

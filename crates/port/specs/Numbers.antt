@@ -1,5 +1,6 @@
 -- An answer as two numbers: document 01's number, 0 where the input is accepted, and the value that goes with it.
 use Prim.Native.Nat.{ℕ}
+use mathlib.Core.Bool.{Bool, cond}
 use mathlib.Core.List.{List, [], _∷_}
 use lib.ListN.{getD}
 use mathlib.Core.Path.{_≡_}
@@ -7,6 +8,8 @@ use Rattle.listing.specs.declared.Listed.{Listed}
 use Rattle.listing.specs.declared.Listed.the-variants.{Text, Malformed, Short}
 use Rattle.machine.specs.declared.run.Answer.{Answer}
 use Rattle.machine.specs.declared.run.Answer.the-variants as run
+use Rattle.machine.specs.declared.state.State.{State}
+use Rattle.machine.specs.State.{entryState, freshState}
 use Rattle.machine.specs.Run.{Done}
 use Rattle.instructions.specs.View.{View}
 
@@ -28,6 +31,10 @@ runNumbers (run.Ended steps) = 0 ∷ steps ∷ 0 ∷ []
 runNumbers (run.Malformed place) = 2 ∷ 0 ∷ place ∷ []
 runNumbers (run.Fault steps place) = 11 ∷ steps ∷ place ∷ []
 runNumbers (run.Limit limit) = 12 ∷ limit ∷ 0 ∷ []
+
+-- the state to start from: the fresh routine's, else the one at a routine's entry
+abbrev pub startState : Bool → State
+startState fresh = cond fresh freshState entryState
 
 -- these three numbers, beside a state and a heap seen as v, are what a run gives
 pub record Gives (n s p : ℕ) (v : View) (d : Done) : Type 0 where

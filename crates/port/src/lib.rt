@@ -2,17 +2,13 @@
 ghost use mathlib.Core.Path.{_≡_};
 ghost use lib.ListN.{length};
 ghost use Rattle.records.specs.Bytes.{stored};
-ghost use Rattle.records.specs.Checked.{causeOf};
-ghost use Rattle.records.specs.Contexts.{checkedContext, contextCause};
-ghost use Rattle.records.specs.Instructions.{checkedCodes};
-ghost use Rattle.records.specs.Orders.{orderRead, orderCause};
 ghost use Rattle.listing.specs.Names.{codeNames};
 ghost use Rattle.listing.specs.Listing.{listed, listedText};
 ghost use Rattle.instructions.specs.View.{view, wordsOf};
-ghost use Rattle.machine.specs.State.{entryState};
 ghost use Rattle.machine.specs.Run.{ran};
-ghost use Rattle.port.specs.Numbers.{numberIn, valueIn, listedNumbers, Gives};
+ghost use Rattle.port.specs.Numbers.{numberIn, valueIn, listedNumbers, startState, Gives};
 
+pub mod check; // bytes checked: a context, instruction records, an order
 pub mod emission; // the operations of code.rs, memory.rs and into_routine.rs
 pub mod query; // the queries of utils.rs and config.rs
 pub mod order; // the seven orders
@@ -20,52 +16,6 @@ pub mod order; // the seven orders
 use listing::Listed;
 use machine::run::Answer;
 use machine::state::State;
-use records::check::Checked;
-use records::order::OrderRead;
-
-#[no_mangle]
-pub extern "C" fn axcut_check_context(context: &[u8]) -> u64
-    ensures { λ r. ⌜ r ≡ numberIn (contextCause (checkedContext (now (context .entry)))) ⌝ }
-{
-    match records::binding::check_context(context) {
-        Checked::Good(_) => 0,
-        Checked::Malformed(_) => 1,
-    }
-}
-
-#[no_mangle]
-pub extern "C" fn axcut_check_records(records: &[u8], place: &mut u64) -> u64
-    ensures number { λ r. ⌜ r ≡ numberIn (causeOf (checkedCodes 65536 (now (records .entry)))) ⌝ }
-    ensures value { λ r. ⌜ now (place .exit) ≡ valueIn (causeOf (checkedCodes 65536 (now (records .entry)))) ⌝ }
-{
-    match records::code::check_codes(records, 65536) {
-        Checked::Good(_) => {
-            *place = 0;
-            0
-        }
-        Checked::Malformed(bad) => {
-            *place = bad as u64;
-            2
-        }
-    }
-}
-
-#[no_mangle]
-pub extern "C" fn axcut_check_order(order: &[u8], place: &mut u64) -> u64
-    ensures number { λ r. ⌜ r ≡ numberIn (orderCause (orderRead (now (order .entry)))) ⌝ }
-    ensures value { λ r. ⌜ now (place .exit) ≡ valueIn (orderCause (orderRead (now (order .entry)))) ⌝ }
-{
-    match records::order::read_order(order) {
-        OrderRead::Whole(_) => {
-            *place = 0;
-            0
-        }
-        OrderRead::Malformed(bad) => {
-            *place = bad as u64;
-            2
-        }
-    }
-}
 
 // The listing of at most 2,730 records: its bytes, the place of a bad record, or the bytes needed.
 #[no_mangle]
@@ -90,13 +40,23 @@ pub extern "C" fn axcut_list(records: &[u8], text: &mut [u8], value: &mut u64) -
     }
 }
 
-// The state with which a routine is entered.
-#[no_mangle]
-pub extern "C" fn axcut_entry(registers: &mut [u64; 16], stack: &mut [u64; 320])
-    ensures registers { λ r. ⌜ now (registers .exit) ≡ entryState .registers ⌝ }
-    ensures stack { λ r. ⌜ now (stack .exit) ≡ entryState .stack ⌝ }
+fn start(fresh: bool) -> State
+    ensures { λ r. ⌜ r ≡ startState fresh ⌝ }
 {
-    let state = machine::state::entry();
+    if fresh {
+        machine::state::fresh()
+    } else {
+        machine::state::entry()
+    }
+}
+
+// The state with which a routine is entered, or that a list of orders starts from.
+#[no_mangle]
+pub extern "C" fn axcut_start(fresh: bool, registers: &mut [u64; 16], stack: &mut [u64; 320])
+    ensures registers { λ r. ⌜ now (registers .exit) ≡ startState fresh .registers ⌝ }
+    ensures stack { λ r. ⌜ now (stack .exit) ≡ startState fresh .stack ⌝ }
+{
+    let state = start(fresh);
     let words = state.registers;
     let below = state.stack;
     *registers = words;

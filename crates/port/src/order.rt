@@ -2,7 +2,6 @@
 ghost use mathlib.Core.Path.{_≡_};
 ghost use mathlib.Core.List.{[], _∷_};
 ghost use Rattle.answering.specs.Answers.{asking};
-ghost use Rattle.machine.specs.State.{freshState};
 ghost use Rattle.port.specs.Order.{orderNumbers, orderCounter, TellsOrder};
 use orders::answer::Answer;
 
@@ -67,21 +66,15 @@ pub extern "C" fn axcut_order(
     ensures { λ r. ⌜ TellsOrder (now (context .entry)) (asking (now (order .entry)) (now (bindings .entry)) (now (counter .entry)) (now («records_out» .entry)) (now («context_out» .entry))) r (now (value .exit)) (now (count .exit)) (now (counter .exit)) (now («records_out» .entry)) (now («records_out» .exit)) (now («context_out» .entry)) (now («context_out» .exit)) ⌝ }
 {
     let before = *counter;
-    let answer = answering::order::order(records_out, context_out, context, before, order, bindings);
+    let answer = answering::order::order(
+        records_out,
+        context_out,
+        context,
+        before,
+        order,
+        bindings,
+    );
     let after = counter_after(answer, before);
     *counter = after;
     told(answer, value, count)
-}
-
-// The state that a list of orders starts from: the fresh routine's.
-#[no_mangle]
-pub extern "C" fn axcut_fresh(registers: &mut [u64; 16], stack: &mut [u64; 320])
-    ensures registers { λ r. ⌜ now (registers .exit) ≡ freshState .registers ⌝ }
-    ensures stack { λ r. ⌜ now (stack .exit) ≡ freshState .stack ⌝ }
-{
-    let state = machine::state::fresh();
-    let words = state.registers;
-    let below = state.stack;
-    *registers = words;
-    *stack = below;
 }

@@ -7,7 +7,7 @@ use crate::answer::Answer;
 use crate::lent::Lent;
 use crate::port::{self, Memory, Query, Returned};
 use crate::record::{Record, SIZE};
-use crate::request::{Arithmetic, Condition, Emission, Operand, Operation};
+use crate::request::{Arithmetic, Condition, Emission, Form, Operand, Operation};
 
 /// More room than an operation needs: the largest, a store of 133 variables, writes 4,275 records.
 const AMPLE: usize = 4_500 * SIZE;
@@ -47,7 +47,7 @@ impl List {
     /// The whole list, which given records may make malformed or too long.
     fn answer(self) -> Answer {
         let needed = self.bytes.len() as u64;
-        if let Returned { number: 2, value } = port::check_records(&self.bytes) {
+        if let Returned { number: 2, value } = port::check(Form::Records, &self.bytes) {
             return Answer::Refused(2, Some(value));
         }
         if self.room.is_some_and(|room| room < needed) {

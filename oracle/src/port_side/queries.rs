@@ -4,7 +4,7 @@ use super::{TOO_LONG, context};
 use crate::answer::Answer;
 use crate::context::{Ids, Kind};
 use crate::port::{self, Returned};
-use crate::request::Query;
+use crate::request::{Form, Query};
 
 /// Registers have the words 0..15, spill p has 16 + p.
 pub const REGISTERS: u64 = 16;
@@ -45,7 +45,7 @@ fn variables(ids: &Ids) -> Option<Vec<u8>> {
 
 /// What the port answers to an id that no binding can hold.
 fn missing(context: &[u8]) -> Returned {
-    let number = match port::check_context(context) {
+    let number = match port::check(Form::Context, context).number {
         0 => 4,
         number => number,
     };

@@ -1,9 +1,9 @@
 use borrow.Author.Needs.{needs}
-use Rattle.port.proofs.axcut_check_context.Statement.{statement}
-use Rattle.port.proofs.axcut_check_context.Tie as tie
+use Rattle.port.proofs.check.check_context.Statement.{statement}
+use Rattle.port.proofs.check.check_context.Tie as tie
 
-pub axcut-check-context-spec : {M : Type 1} → statement M
-axcut-check-context-spec =
+pub check-context-spec : {M : Type 1} → statement M
+check-context-spec =
     tie.close
     (tie.spec
     (λ c κs. search needs)
