@@ -1,0 +1,361 @@
+//! A channel: orders go in, their records run on a state and heap of its own.
+
+use crate::ffi;
+use crate::machine::{State, BLOCK_WORDS, MOST_BLOCKS};
+use crate::order::{Binding, Kind, Order, BINDING_SIZE};
+use crate::refusal::{Cause, Refusal};
+use crate::RECORD_SIZE;
+use std::ops::RangeInclusive;
+
+/// Bytes that are enough for the records of every order on a context that orders reach.
+const RECORDS_ROOM: usize = 102_624;
+
+/// Bytes that are enough for the context after it.
+const CONTEXT_ROOM: usize = 1_064;
+
+/// An integer that a print order printed.
+#[derive(Debug, Clone, Copy, PartialEq, Eq)]
+pub struct Print {
+    /// The integer.
+    pub integer: i64,
+    /// Whether a newline follows.
+    pub newline: bool,
+}
+
+/// What an accepted order did.
+#[derive(Debug, Clone, PartialEq, Eq)]
+pub struct Accepted {
+    /// Its instruction records.
+    pub records: Vec<u8>,
+    /// The labels drawn; empty where it drew none.
+    pub labels: RangeInclusive<u64>,
+    /// What it printed: one integer for a print order, else none.
+    pub prints: Vec<Print>,
+    /// The steps of the run.
+    pub steps: u64,
+}
+
+/// What a variable holds.
+#[derive(Debug, Clone, Copy, PartialEq, Eq)]
+pub enum Variable {
+    /// An object's tag.
+    Object(u64),
+    /// An integer.
+    Integer(i64),
+}
+
+/// The context answered last, and the state and heap that the last run left.
+#[derive(Debug, Clone)]
+pub struct Channel {
+    context: Vec<u8>,
+    counter: u64,
+    state: State,
+    heap: Vec<u64>,
+    /// Lent to each order for its records and the context after it.
+    rooms: (Vec<u8>, Vec<u8>),
+    failed: Option<Refusal>,
+}
+
+impl Channel {
+    /// A fresh channel beside a heap of 2 to 1,048,576 blocks; 2 plus the blocks that its stores
+    /// acquire are enough.
+    pub fn new(blocks: usize) -> Result<Channel, Refusal> {
+        if !(2..=MOST_BLOCKS).contains(&blocks) {
+            return Err(Refusal::new(Cause::Malformed, 0, 0));
+        }
+        Ok(Channel {
+            context: Vec::new(),
+            counter: 0,
+            state: State::fresh(),
+            heap: vec![0; blocks * BLOCK_WORDS],
+            rooms: (vec![0; RECORDS_ROOM], vec![0; CONTEXT_ROOM]),
+            failed: None,
+        })
+    }
+
+    /// Emits an order's records and runs them. A refusal with 1 to 10 changes nothing. A fault (11:
+    /// a division by zero or of the least integer by -1, a heap too small) ends the channel: every
+    /// later order is refused with it. A load must name the kinds that its object was stored with:
+    /// other kinds are not noticed here, and what the variables hold is then no longer theirs.
+    pub fn order(&mut self, order: &Order) -> Result<Accepted, Refusal> {
+        self.order_bytes(&order.bytes(), &order.bindings(self.bindings()))
+    }
+
+    /// The same for an order's record and the bindings that follow it, as any bytes.
+    pub fn order_bytes(&mut self, order: &[u8], bindings: &[u8]) -> Result<Accepted, Refusal> {
+        if let Some(refusal) = self.failed {
+            return Err(refusal);
+        }
+        let (records, context, counter) = self.emit(order, bindings)?;
+        let prints = self.prints(order);
+        let limit = (records.len() / RECORD_SIZE) as u64;
+        let ran = self.state.run(&records, &mut self.heap, &[0; 9], limit);
+        self.failed = ran.err();
+        let steps = ran?;
+        let labels = self.counter + 1..=counter;
+        self.context = context;
+        self.counter = counter;
+        Ok(Accepted {
+            records,
+            labels,
+            prints,
+            steps,
+        })
+    }
+
+    /// The order's records, the context after it and the counter after it.
+    fn emit(&mut self, order: &[u8], bindings: &[u8]) -> Result<(Vec<u8>, Vec<u8>, u64), Refusal> {
+        let (records, context) = &mut self.rooms;
+        let mut counter = self.counter;
+        let told = ffi::order(
+            &self.context,
+            order,
+            bindings,
+            &mut counter,
+            records,
+            context,
+        );
+        if told.number != 0 {
+            return Err(Refusal::told(told.number, told.value));
+        }
+        let records = &records[..told.value as usize * RECORD_SIZE];
+        let context = &context[..told.bindings as usize * BINDING_SIZE];
+        Ok((records.to_vec(), context.to_vec(), counter))
+    }
+
+    /// What an accepted order prints: the run does not tell what its print call got, so the
+    /// variable is read before it.
+    fn prints(&self, order: &[u8]) -> Vec<Print> {
+        let Some(Order::Print(a, newline)) = Order::print_of_checked(order) else {
+            return Vec::new();
+        };
+        let integer = self.state.word(a, true);
+        integer
+            .map(|word| Print {
+                integer: word as i64,
+                newline,
+            })
+            .into_iter()
+            .collect()
+    }
+
+    fn bindings(&self) -> usize {
+        self.context.len() / BINDING_SIZE
+    }
+
+    /// The variables, from left to right.
+    pub fn context(&self) -> Vec<Binding> {
+        self.context
+            .chunks(BINDING_SIZE)
+            .map(Binding::of_checked)
+            .collect()
+    }
+
+    /// What each variable holds.
+    pub fn variables(&self) -> Vec<Variable> {
+        let held = |(binding, place): (Binding, u32)| {
+            let word = self.state.word(place, true).unwrap_or(0);
+            match binding.kind {
+                Kind::Linked => Variable::Object(word),
+                Kind::Ext => Variable::Integer(word as i64),
+            }
+        };
+        self.context().into_iter().zip(0..).map(held).collect()
+    }
+
+    /// The last label drawn.
+    pub fn counter(&self) -> u64 {
+        self.counter
+    }
+
+    /// Starts the labels afresh, as each order's records may be used apart from the others.
+    pub fn reset_counter(&mut self) {
+        self.counter = 0;
+    }
+
+    /// The machine's registers and stack.
+    pub fn state(&self) -> &State {
+        &self.state
+    }
+
+    /// The heap's words, eight to a block.
+    pub fn heap(&self) -> &[u64] {
+        &self.heap
+    }
+}
+
+#[cfg(test)]
+mod tests {
+    use super::{Channel, Print, Variable, CONTEXT_ROOM, RECORDS_ROOM};
+    use crate::{list, Arithmetic, Kind, Order, RECORD_SIZE};
+
+    fn played(blocks: usize, orders: &[Order]) -> Channel {
+        let mut channel = Channel::new(blocks).unwrap();
+        for order in orders {
+            channel.order(order).unwrap();
+        }
+        channel
+    }
+
+    #[test]
+    fn an_object_keeps_its_fields() {
+        let mut channel = played(
+            3,
+            &[
+                Order::Put(230),
+                Order::Put(-6),
+                Order::Store(2, 7),
+                Order::Copy(0, 2),
+                Order::Drop,
+            ],
+        );
+        assert_eq!(
+            channel.variables(),
+            [Variable::Object(7), Variable::Object(7)]
+        );
+        channel
+            .order(&Order::Load(vec![Kind::Ext, Kind::Ext]))
+            .unwrap();
+        let fields = [
+            Variable::Object(7),
+            Variable::Integer(230),
+            Variable::Integer(-6),
+        ];
+        assert_eq!(channel.variables(), fields);
+    }
+
+    #[test]
+    fn labels_and_records_are_document_01s() {
+        let mut channel = Channel::new(3).unwrap();
+        let put = channel.order(&Order::Put(5)).unwrap();
+        assert_eq!(list(&put.records).unwrap(), "1 records\n1 MOVI 5 0 0 0 5\n");
+        assert!(put.labels.is_empty());
+        let store = channel.order(&Order::Store(1, 9)).unwrap();
+        assert_eq!(store.records.len() / RECORD_SIZE, 59);
+        assert_eq!((store.labels, channel.counter()), (1..=13, 13));
+        channel.reset_counter();
+        let load = channel.order(&Order::Load(vec![Kind::Ext])).unwrap();
+        assert_eq!((load.records.len() / RECORD_SIZE, load.labels), (10, 1..=2));
+    }
+
+    #[test]
+    fn a_print_gives_the_integer_from_register_and_spill() {
+        let puts: Vec<Order> = (0..133).map(|i| Order::Put(i - 50)).collect();
+        let mut channel = played(2, &puts);
+        for place in [0, 5, 6, 132] {
+            let accepted = channel.order(&Order::Print(place, place == 6)).unwrap();
+            let print = Print {
+                integer: i64::from(place) - 50,
+                newline: place == 6,
+            };
+            assert_eq!(accepted.prints, [print]);
+        }
+        assert_eq!(channel.order(&Order::Put(0)).unwrap_err().number, 8);
+        assert_eq!(channel.variables().len(), 133);
+    }
+
+    #[test]
+    fn a_refusal_changes_nothing() {
+        let mut channel = played(3, &[Order::Put(1), Order::Store(1, 2)]);
+        let before = (
+            channel.variables(),
+            channel.counter(),
+            channel.state().clone(),
+            channel.heap().to_vec(),
+        );
+        let refused = [
+            (Order::Load(vec![Kind::Ext; 4_097]), 1),
+            (Order::Print(1, false), 4),
+            (Order::Compute(Arithmetic::Add, 0, 0), 5),
+            (Order::Copy(0, 1 << 31), 7),
+            (Order::Copy(0, 133), 8),
+        ];
+        for (order, number) in refused {
+            assert_eq!(
+                channel.order(&order).unwrap_err().number,
+                number,
+                "{order:?}"
+            );
+        }
+        let after = (
+            channel.variables(),
+            channel.counter(),
+            channel.state().clone(),
+            channel.heap().to_vec(),
+        );
+        assert_eq!(before, after);
+    }
+
+    #[test]
+    fn any_bytes_may_go_in_as_an_order() {
+        let mut channel = played(2, &[Order::Put(3)]);
+        let print = Order::Print(0, true).bytes();
+        assert_eq!(channel.order_bytes(&print, &[]).unwrap().prints.len(), 1);
+        assert_eq!(channel.order_bytes(&print[..23], &[]).unwrap_err().place, 1);
+        assert_eq!(channel.order_bytes(&[], &[]).unwrap_err().number, 2);
+        assert_eq!(channel.order_bytes(&print, &[0xA7]).unwrap_err().number, 1);
+        assert_eq!(
+            channel
+                .order_bytes(&print, &context(false, 1))
+                .unwrap_err()
+                .number,
+            2
+        );
+    }
+
+    #[test]
+    fn a_fault_ends_the_channel() {
+        let mut channel = played(2, &[Order::Put(1), Order::Put(0)]);
+        let fault = channel
+            .order(&Order::Compute(Arithmetic::Div, 0, 1))
+            .unwrap_err();
+        assert_eq!(fault.number, 11);
+        assert_eq!(channel.order(&Order::Drop), Err(fault));
+        for blocks in [0, 1, 1_048_577] {
+            assert_eq!(Channel::new(blocks).unwrap_err().number, 2);
+        }
+    }
+
+    /// Every order on every context of one kind up to 133 variables fits the rooms that channels
+    /// lend, and one needs all of it.
+    #[test]
+    fn the_largest_order_fits() {
+        let mut most = 0;
+        for linked in [false, true] {
+            for last in 1..=133 {
+                let mut channel = Channel::new(2).unwrap();
+                channel.context = context(linked, last);
+                for order in orders(last, linked) {
+                    let bindings = order.bindings(channel.bindings());
+                    if let Ok((records, after, _)) = channel.emit(&order.bytes(), &bindings) {
+                        most = most.max(records.len());
+                        assert!(after.len() <= CONTEXT_ROOM);
+                    }
+                }
+            }
+        }
+        assert_eq!(most, RECORDS_ROOM);
+    }
+
+    fn context(linked: bool, variables: u32) -> Vec<u8> {
+        let kind = if linked { Kind::Linked } else { Kind::Ext };
+        (0..variables)
+            .flat_map(|id| crate::Binding { kind, id }.bytes())
+            .collect()
+    }
+
+    fn orders(variables: u32, linked: bool) -> Vec<Order> {
+        let mut orders = vec![
+            Order::Put(1),
+            Order::Drop,
+            Order::Print(variables - 1, true),
+        ];
+        orders.extend((1..=variables).map(|n| Order::Store(n, 1)));
+        orders.push(Order::Copy(variables - 1, 133 - variables));
+        let kinds = if linked { Kind::Linked } else { Kind::Ext };
+        orders.extend((0..=134 - variables).map(|n| Order::Load(vec![kinds; n as usize])));
+        let divide = |a: u32| Order::Compute(Arithmetic::Div, a, variables - 1);
+        orders.extend((0..variables.min(8)).map(divide));
+        orders
+    }
+}

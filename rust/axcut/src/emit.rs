@@ -1,0 +1,300 @@
+//! Records of operations and routines.
+
+use crate::ffi::{self, Told};
+use crate::order::{context_bytes, Arithmetic, Binding};
+use crate::refusal::Refusal;
+use crate::RECORD_SIZE;
+
+/// Where an operation's input or output stands.
+#[derive(Debug, Clone, Copy, PartialEq, Eq)]
+pub enum Operand {
+    /// 4 to 15.
+    Register(u8),
+    /// 1 to 255.
+    Spill(u8),
+}
+
+impl Operand {
+    fn word(self) -> u64 {
+        match self {
+            Operand::Register(register) => u64::from(register),
+            Operand::Spill(spill) => 16 + u64::from(spill),
+        }
+    }
+
+    fn of_word(word: u64) -> Operand {
+        match word {
+            0..=15 => Operand::Register(word as u8),
+            _ => Operand::Spill((word - 16) as u8),
+        }
+    }
+}
+
+/// When a jump is taken.
+#[derive(Debug, Clone, Copy, PartialEq, Eq)]
+#[allow(missing_docs)]
+pub enum Condition {
+    Equal,
+    NotEqual,
+    Less,
+    LessOrEqual,
+    Greater,
+    GreaterOrEqual,
+}
+
+/// An operation that draws no label. The target comes first.
+#[derive(Debug, Clone, Copy, PartialEq, Eq)]
+#[allow(missing_docs)]
+pub enum Operation {
+    Label(u32),
+    Jump(Operand),
+    JumpLabel(u32),
+    JumpLabelFixed(u32),
+    JumpLabelIf(Condition, Operand, Operand, u32),
+    JumpLabelIfZero(Condition, Operand, u32),
+    LoadImmediate(Operand, i64),
+    LoadLabel(Operand, u32),
+    AddAndJump(Operand, i64),
+    Arithmetic(Arithmetic, Operand, Operand, Operand),
+    Mov(Operand, Operand),
+    Compare(Operand, Operand),
+    CompareImmediate(Operand, i64),
+}
+
+impl Operation {
+    fn numbered(self) -> ffi::Operation {
+        let plain = |number: u64, operands: &[Operand], label: u32, immediate: i64| {
+            let mut words = [0; 3];
+            for (word, operand) in words.iter_mut().zip(operands) {
+                *word = operand.word();
+            }
+            ffi::Operation {
+                number,
+                operands: words,
+                label,
+                immediate: immediate as u64,
+            }
+        };
+        match self {
+            Operation::Label(label) => plain(1, &[], label, 0),
+            Operation::Jump(x) => plain(2, &[x], 0, 0),
+            Operation::JumpLabel(label) => plain(3, &[], label, 0),
+            Operation::JumpLabelFixed(label) => plain(4, &[], label, 0),
+            Operation::JumpLabelIf(condition, x, y, label) => {
+                plain(5 + condition as u64, &[x, y], label, 0)
+            }
+            Operation::JumpLabelIfZero(condition, x, label) => {
+                plain(11 + condition as u64, &[x], label, 0)
+            }
+            Operation::LoadImmediate(x, value) => plain(17, &[x], 0, value),
+            Operation::LoadLabel(x, label) => plain(18, &[x], label, 0),
+            Operation::AddAndJump(x, value) => plain(19, &[x], 0, value),
+            Operation::Arithmetic(operation, x, y, z) => {
+                plain(20 + operation as u64, &[x, y, z], 0, 0)
+            }
+            Operation::Mov(x, y) => plain(25, &[x, y], 0, 0),
+            Operation::Compare(x, y) => plain(26, &[x, y], 0, 0),
+            Operation::CompareImmediate(x, value) => plain(27, &[x], 0, value),
+        }
+    }
+}
+
+/// An operation on blocks.
+#[derive(Debug, Clone, Copy, PartialEq, Eq)]
+pub enum Memory<'a> {
+    /// One pointer fewer to a block.
+    EraseBlock(Operand),
+    /// So many more.
+    ShareBlockN(Operand, u64),
+    /// The last so many variables of a context become an object.
+    Store(&'a [Binding], u64),
+    /// The object that follows a context becomes these variables.
+    Load(&'a [Binding], &'a [Binding]),
+}
+
+/// Asks without room for the bytes needed, then with as many.
+fn written(mut ask: impl FnMut(&mut [u8]) -> Told) -> Result<Vec<u8>, Refusal> {
+    let needed = match ask(&mut []) {
+        Told { number: 0, .. } => return Ok(Vec::new()),
+        Told { number: 10, value } => value,
+        Told { number, value } => return Err(Refusal::told(number, value)),
+    };
+    let mut out = vec![0; needed as usize];
+    match ask(&mut out) {
+        Told { number: 0, value } => {
+            out.truncate(value as usize * RECORD_SIZE);
+            Ok(out)
+        }
+        Told { number, value } => Err(Refusal::told(number, value)),
+    }
+}
+
+/// The records of an operation.
+pub fn operation(operation: Operation) -> Result<Vec<u8>, Refusal> {
+    let operation = operation.numbered();
+    written(|out| ffi::operation(&operation, out))
+}
+
+/// The records of an operation on blocks. The counter is the last label drawn; a refusal keeps it.
+pub fn memory(memory: Memory, counter: &mut u64) -> Result<Vec<u8>, Refusal> {
+    let (context, loaded) = match memory {
+        Memory::Store(context, _) => (context_bytes(context), Vec::new()),
+        Memory::Load(context, loaded) => (context_bytes(context), context_bytes(loaded)),
+        _ => (Vec::new(), Vec::new()),
+    };
+    let (number, operand, n) = match memory {
+        Memory::EraseBlock(operand) => (1, operand.word(), 0),
+        Memory::ShareBlockN(operand, n) => (2, operand.word(), n),
+        Memory::Store(_, n) => (3, 0, n),
+        Memory::Load(..) => (4, 0, 0),
+    };
+    let asked = ffi::Memory {
+        number,
+        operand,
+        n,
+        context: &context,
+        loaded: &loaded,
+    };
+    written(|out| ffi::memory(&asked, counter, out))
+}
+
+/// The records of a print of an operand, which keep the variables of a context.
+pub fn print(newline: bool, source: Operand, context: &[Binding]) -> Result<Vec<u8>, Refusal> {
+    let context = context_bytes(context);
+    written(|out| ffi::print(newline, source.word(), &context, out))
+}
+
+/// The records of a routine around a body.
+pub fn routine(body: &[u8], arguments: usize) -> Result<Vec<u8>, Refusal> {
+    written(|out| ffi::routine(body, arguments, out))
+}
+
+/// The operand of a variable of a context by its id: its Snd or its Fst.
+pub fn variable(context: &[Binding], id: u32, second: bool) -> Result<Operand, Refusal> {
+    match ffi::query(3, second, 0, id, &context_bytes(context)) {
+        Told { number: 0, value } => Ok(Operand::of_word(value)),
+        Told { number, value } => Err(Refusal::told(number, value)),
+    }
+}
+
+#[cfg(test)]
+mod tests {
+    use super::{
+        memory, operation, print, routine, variable, Condition, Memory, Operand, Operation,
+    };
+    use crate::{list, Arithmetic, Binding, Kind, RECORD_SIZE};
+
+    const R5: Operand = Operand::Register(5);
+    const R7: Operand = Operand::Register(7);
+
+    const CONDITIONS: [Condition; 6] = [
+        Condition::Equal,
+        Condition::NotEqual,
+        Condition::Less,
+        Condition::LessOrEqual,
+        Condition::Greater,
+        Condition::GreaterOrEqual,
+    ];
+
+    fn codes(records: &[u8]) -> Vec<u8> {
+        records
+            .chunks(RECORD_SIZE)
+            .map(|record| record[1])
+            .collect()
+    }
+
+    fn context(kinds: &[Kind]) -> Vec<Binding> {
+        kinds
+            .iter()
+            .zip(0..)
+            .map(|(kind, id)| Binding { kind: *kind, id })
+            .collect()
+    }
+
+    #[test]
+    fn operations_go_by_their_numbers() {
+        let x = Operation::Arithmetic(Arithmetic::Sub, R5, R5, R7);
+        assert_eq!(
+            list(&operation(x).unwrap()).unwrap(),
+            "1 records\n1 SUB 5 7 0 0 0\n"
+        );
+        for (condition, jump) in CONDITIONS.into_iter().zip(30..) {
+            let x = Operation::JumpLabelIf(condition, R5, R7, 9);
+            assert_eq!(codes(&operation(x).unwrap()), [25, jump]);
+            let x = Operation::JumpLabelIfZero(condition, R5, 9);
+            assert_eq!(codes(&operation(x).unwrap()), [28, jump]);
+        }
+    }
+
+    #[test]
+    fn operations_of_one_record() {
+        let single = [
+            (Operation::Label(9), 40),
+            (Operation::Jump(R5), 16),
+            (Operation::JumpLabel(9), 17),
+            (Operation::JumpLabelFixed(9), 18),
+            (Operation::LoadImmediate(R5, 1), 23),
+            (Operation::LoadLabel(R5, 9), 19),
+            (Operation::Arithmetic(Arithmetic::Add, R5, R5, R7), 1),
+            (Operation::Arithmetic(Arithmetic::Mul, R5, R5, R7), 10),
+            (Operation::Mov(R5, R7), 20),
+            (Operation::Compare(R5, R7), 25),
+            (Operation::CompareImmediate(R5, 1), 28),
+        ];
+        for (each, code) in single {
+            assert_eq!(codes(&operation(each).unwrap()), [code], "{each:?}");
+        }
+    }
+
+    #[test]
+    fn what_may_not_be_given_is_refused() {
+        assert_eq!(
+            operation(Operation::Jump(Operand::Register(3)))
+                .unwrap_err()
+                .number,
+            3
+        );
+        assert_eq!(
+            operation(Operation::Jump(Operand::Spill(0)))
+                .unwrap_err()
+                .number,
+            3
+        );
+        assert_eq!(operation(Operation::Label(0)).unwrap_err().number, 3);
+        assert_eq!(routine(&[], 6).unwrap_err().number, 6);
+        assert_eq!(routine(&[0; 24], 0).unwrap_err().place, 1);
+    }
+
+    #[test]
+    fn worked_numbers() {
+        let ext = context(&[Kind::Ext; 4]);
+        let mut counter = 0;
+        let records = memory(Memory::Store(&ext, 4), &mut counter).unwrap();
+        assert_eq!((records.len() / RECORD_SIZE, counter), (118, 26));
+        counter = 0;
+        let records = memory(Memory::Load(&[], &ext[..1]), &mut counter).unwrap();
+        assert_eq!((records.len() / RECORD_SIZE, counter), (10, 2));
+        counter = 0;
+        let records = memory(Memory::EraseBlock(Operand::Spill(1)), &mut counter).unwrap();
+        assert_eq!((records.len() / RECORD_SIZE, counter), (12, 3));
+        assert_eq!(memory(Memory::Load(&[], &[]), &mut counter), Ok(Vec::new()));
+        let records = print(true, R5, &ext[..1]).unwrap();
+        assert_eq!(records.len() / RECORD_SIZE, 6);
+        assert_eq!(routine(&[], 5).unwrap().len() / RECORD_SIZE, 30);
+    }
+
+    #[test]
+    fn a_refusal_keeps_the_counter() {
+        let mut counter = u64::from(u32::MAX >> 1);
+        let refusal = memory(Memory::ShareBlockN(R5, 1), &mut counter).unwrap_err();
+        assert_eq!((refusal.number, counter), (9, 2_147_483_647));
+    }
+
+    #[test]
+    fn a_variable_is_found_by_its_id() {
+        let seven = context(&[Kind::Linked; 7]);
+        assert_eq!(variable(&seven, 0, true), Ok(R5));
+        assert_eq!(variable(&seven, 6, false), Ok(Operand::Spill(1)));
+        assert_eq!(variable(&seven, 7, false).unwrap_err().number, 4);
+    }
+}

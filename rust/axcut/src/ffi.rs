@@ -1,0 +1,312 @@
+//! The exported functions, and safe ones over them: slices give pointer and length, and every
+//! output word is set by the call.
+
+use crate::machine::{REGISTERS, STACK_WORDS};
+
+/// The archive's functions, as `include/axcut.h` has them. Arrays go as pointers to their first
+/// word.
+mod exported {
+    extern "C" {
+        pub fn axcut_check(kind: u64, bytes: *const u8, length: usize, place: *mut u64) -> u64;
+        pub fn axcut_list(
+            records: *const u8,
+            length: usize,
+            text: *mut u8,
+            room: usize,
+            value: *mut u64,
+        ) -> u64;
+        pub fn axcut_start(fresh: bool, registers: *mut u64, stack: *mut u64);
+        pub fn axcut_run(
+            records: *const u8,
+            length: usize,
+            registers: *mut u64,
+            stack: *mut u64,
+            heap: *mut u64,
+            heap_words: usize,
+            words: *const u64,
+            limit: u64,
+            steps: *mut u64,
+            place: *mut u64,
+        ) -> u64;
+        pub fn axcut_operation(
+            operation: u64,
+            first: u64,
+            second: u64,
+            third: u64,
+            label: u32,
+            immediate: u64,
+            out: *mut u8,
+            room: usize,
+            value: *mut u64,
+        ) -> u64;
+        pub fn axcut_memory(
+            operation: u64,
+            operand: u64,
+            n: u64,
+            context: *const u8,
+            length: usize,
+            loaded: *const u8,
+            loaded_length: usize,
+            counter: *mut u64,
+            out: *mut u8,
+            room: usize,
+            value: *mut u64,
+        ) -> u64;
+        pub fn axcut_print(
+            newline: bool,
+            source: u64,
+            context: *const u8,
+            length: usize,
+            out: *mut u8,
+            room: usize,
+            value: *mut u64,
+        ) -> u64;
+        pub fn axcut_routine(
+            body: *const u8,
+            length: usize,
+            arguments: usize,
+            out: *mut u8,
+            room: usize,
+            value: *mut u64,
+        ) -> u64;
+        pub fn axcut_query(
+            query: u64,
+            second: bool,
+            at: u64,
+            id: u32,
+            context: *const u8,
+            length: usize,
+            value: *mut u64,
+        ) -> u64;
+        pub fn axcut_order(
+            context: *const u8,
+            length: usize,
+            order: *const u8,
+            order_length: usize,
+            bindings: *const u8,
+            bindings_length: usize,
+            counter: *mut u64,
+            records_out: *mut u8,
+            records_room: usize,
+            context_out: *mut u8,
+            context_room: usize,
+            value: *mut u64,
+            count: *mut u64,
+        ) -> u64;
+    }
+}
+
+/// What a function answered: 0 or the cause's number, and the word beside it.
+#[derive(Debug, Clone, Copy, PartialEq, Eq)]
+pub struct Told {
+    pub number: u64,
+    pub value: u64,
+}
+
+pub fn check(kind: u64, bytes: &[u8]) -> Told {
+    let mut value = 0;
+    let number = unsafe { exported::axcut_check(kind, bytes.as_ptr(), bytes.len(), &mut value) };
+    Told { number, value }
+}
+
+pub fn list(records: &[u8], text: &mut [u8]) -> Told {
+    let mut value = 0;
+    let number = unsafe {
+        exported::axcut_list(
+            records.as_ptr(),
+            records.len(),
+            text.as_mut_ptr(),
+            text.len(),
+            &mut value,
+        )
+    };
+    Told { number, value }
+}
+
+pub fn start(fresh: bool, registers: &mut [u64; REGISTERS], stack: &mut [u64; STACK_WORDS]) {
+    unsafe { exported::axcut_start(fresh, registers.as_mut_ptr(), stack.as_mut_ptr()) }
+}
+
+/// What a run answered.
+#[derive(Debug, Clone, Copy, PartialEq, Eq)]
+pub struct Ran {
+    pub number: u64,
+    pub steps: u64,
+    pub place: u64,
+}
+
+pub fn run(
+    records: &[u8],
+    registers: &mut [u64; REGISTERS],
+    stack: &mut [u64; STACK_WORDS],
+    heap: &mut [u64],
+    words: &[u64; 9],
+    limit: u64,
+) -> Ran {
+    let (mut steps, mut place) = (0, 0);
+    let number = unsafe {
+        exported::axcut_run(
+            records.as_ptr(),
+            records.len(),
+            registers.as_mut_ptr(),
+            stack.as_mut_ptr(),
+            heap.as_mut_ptr(),
+            heap.len(),
+            words.as_ptr(),
+            limit,
+            &mut steps,
+            &mut place,
+        )
+    };
+    Ran {
+        number,
+        steps,
+        place,
+    }
+}
+
+/// What axcut_operation takes beside its output.
+#[derive(Debug, Clone, Copy, Default)]
+pub struct Operation {
+    pub number: u64,
+    pub operands: [u64; 3],
+    pub label: u32,
+    pub immediate: u64,
+}
+
+pub fn operation(operation: &Operation, out: &mut [u8]) -> Told {
+    let [first, second, third] = operation.operands;
+    let mut value = 0;
+    let number = unsafe {
+        exported::axcut_operation(
+            operation.number,
+            first,
+            second,
+            third,
+            operation.label,
+            operation.immediate,
+            out.as_mut_ptr(),
+            out.len(),
+            &mut value,
+        )
+    };
+    Told { number, value }
+}
+
+/// What axcut_memory takes beside its counter and output.
+#[derive(Debug, Clone, Copy, Default)]
+pub struct Memory<'a> {
+    pub number: u64,
+    pub operand: u64,
+    pub n: u64,
+    pub context: &'a [u8],
+    pub loaded: &'a [u8],
+}
+
+pub fn memory(memory: &Memory, counter: &mut u64, out: &mut [u8]) -> Told {
+    let mut value = 0;
+    let number = unsafe {
+        exported::axcut_memory(
+            memory.number,
+            memory.operand,
+            memory.n,
+            memory.context.as_ptr(),
+            memory.context.len(),
+            memory.loaded.as_ptr(),
+            memory.loaded.len(),
+            counter,
+            out.as_mut_ptr(),
+            out.len(),
+            &mut value,
+        )
+    };
+    Told { number, value }
+}
+
+pub fn print(newline: bool, source: u64, context: &[u8], out: &mut [u8]) -> Told {
+    let mut value = 0;
+    let number = unsafe {
+        exported::axcut_print(
+            newline,
+            source,
+            context.as_ptr(),
+            context.len(),
+            out.as_mut_ptr(),
+            out.len(),
+            &mut value,
+        )
+    };
+    Told { number, value }
+}
+
+pub fn routine(body: &[u8], arguments: usize, out: &mut [u8]) -> Told {
+    let mut value = 0;
+    let number = unsafe {
+        exported::axcut_routine(
+            body.as_ptr(),
+            body.len(),
+            arguments,
+            out.as_mut_ptr(),
+            out.len(),
+            &mut value,
+        )
+    };
+    Told { number, value }
+}
+
+pub fn query(query: u64, second: bool, at: u64, id: u32, context: &[u8]) -> Told {
+    let mut value = 0;
+    let number = unsafe {
+        exported::axcut_query(
+            query,
+            second,
+            at,
+            id,
+            context.as_ptr(),
+            context.len(),
+            &mut value,
+        )
+    };
+    Told { number, value }
+}
+
+/// What axcut_order answered.
+#[derive(Debug, Clone, Copy, PartialEq, Eq)]
+pub struct Ordered {
+    pub number: u64,
+    pub value: u64,
+    pub bindings: u64,
+}
+
+pub fn order(
+    context: &[u8],
+    order: &[u8],
+    bindings: &[u8],
+    counter: &mut u64,
+    records_out: &mut [u8],
+    context_out: &mut [u8],
+) -> Ordered {
+    let (mut value, mut count) = (0, 0);
+    let number = unsafe {
+        exported::axcut_order(
+            context.as_ptr(),
+            context.len(),
+            order.as_ptr(),
+            order.len(),
+            bindings.as_ptr(),
+            bindings.len(),
+            counter,
+            records_out.as_mut_ptr(),
+            records_out.len(),
+            context_out.as_mut_ptr(),
+            context_out.len(),
+            &mut value,
+            &mut count,
+        )
+    };
+    Ordered {
+        number,
+        value,
+        bindings: count,
+    }
+}

@@ -1,0 +1,26 @@
+//! Safe functions over the proved AxCut x86-64 back end (`libport.a`).
+//!
+//! [`Channel`] puts orders to the library and runs their records; [`emit`] writes the records of
+//! operations and routines; [`check`] and [`list`] look at bytes. `include/axcut.h` says what each
+//! exported function does, `docs/LIBRARY.md` what a gateway lends and owes.
+
+#![deny(unsafe_code)]
+#![warn(missing_docs)]
+
+mod channel;
+mod checking;
+pub mod emit;
+#[allow(unsafe_code)]
+mod ffi;
+mod machine;
+mod order;
+mod refusal;
+
+pub use channel::{Accepted, Channel, Print, Variable};
+pub use checking::{check, list, Form};
+pub use machine::{State, BLOCK_WORDS, MOST_BLOCKS, STACK_WORDS};
+pub use order::{Arithmetic, Binding, Kind, Order, BINDING_SIZE, ORDER_SIZE};
+pub use refusal::{Cause, Refusal};
+
+/// Bytes of an instruction record.
+pub const RECORD_SIZE: usize = 24;

@@ -1,0 +1,127 @@
+//! Why an input is refused.
+
+use std::fmt;
+
+/// The causes, by document 01's numbers.
+#[derive(Debug, Clone, Copy, PartialEq, Eq)]
+#[repr(u64)]
+pub enum Cause {
+    /// Context not whole records, bad mark, kind or zero byte, over 4,096.
+    Context = 1,
+    /// Malformed instruction or order, too many, or a heap of the wrong size.
+    Malformed = 2,
+    /// An operand or label that may not be given.
+    Operand = 3,
+    /// Id or place not in the context, or more to store than there are variables.
+    Missing = 4,
+    /// A variable of the wrong kind for the order.
+    Kind = 5,
+    /// More than 5 arguments.
+    Arguments = 6,
+    /// Share count or a copy's number above 2^31 - 1.
+    Count = 7,
+    /// Position above 266 needed.
+    Position = 8,
+    /// Counter plus labels needed above 2^31 - 1.
+    Labels = 9,
+    /// Output too short.
+    Room = 10,
+    /// Machine fault within the limit.
+    Fault = 11,
+    /// Step limit reached before the end.
+    Limit = 12,
+}
+
+const CAUSES: [(Cause, &str); 12] = [
+    (Cause::Context, "malformed context"),
+    (
+        Cause::Malformed,
+        "malformed record, or a heap of the wrong size",
+    ),
+    (Cause::Operand, "operand or label that may not be given"),
+    (Cause::Missing, "no such variable in the context"),
+    (Cause::Kind, "variable of the wrong kind"),
+    (Cause::Arguments, "more than 5 arguments"),
+    (Cause::Count, "count above 2^31 - 1"),
+    (Cause::Position, "position above 266 needed"),
+    (Cause::Labels, "labels above 2^31 - 1 needed"),
+    (Cause::Room, "output too short"),
+    (Cause::Fault, "machine fault"),
+    (Cause::Limit, "step limit reached"),
+];
+
+/// A refusal: nothing was written, and no label was drawn.
+#[derive(Debug, Clone, Copy, PartialEq, Eq)]
+pub struct Refusal {
+    /// 1 to 12.
+    pub number: u64,
+    /// The bytes needed (10), the steps done (11) or the limit (12); else 0.
+    pub value: u64,
+    /// The record's place, from 1 (2, 11), or 0 for a heap of the wrong size; else 0.
+    pub place: u64,
+}
+
+impl Refusal {
+    pub(crate) fn new(cause: Cause, value: u64, place: u64) -> Refusal {
+        Refusal {
+            number: cause as u64,
+            value,
+            place,
+        }
+    }
+
+    /// A refusal by number with the one word beside it: a place for 2, else a value.
+    pub(crate) fn told(number: u64, word: u64) -> Refusal {
+        match number {
+            2 => Refusal {
+                number,
+                value: 0,
+                place: word,
+            },
+            _ => Refusal {
+                number,
+                value: word,
+                place: 0,
+            },
+        }
+    }
+
+    /// The number as a cause.
+    pub fn cause(&self) -> Option<Cause> {
+        self.row().map(|(cause, _)| *cause)
+    }
+
+    /// The cause in words.
+    pub fn words(&self) -> &'static str {
+        self.row().map_or("unknown cause", |(_, words)| words)
+    }
+
+    fn row(&self) -> Option<&'static (Cause, &'static str)> {
+        CAUSES
+            .iter()
+            .find(|(cause, _)| *cause as u64 == self.number)
+    }
+}
+
+impl fmt::Display for Refusal {
+    fn fmt(&self, f: &mut fmt::Formatter) -> fmt::Result {
+        write!(f, "refused with {}: {}", self.number, self.words())
+    }
+}
+
+impl std::error::Error for Refusal {}
+
+#[cfg(test)]
+mod tests {
+    use super::{Cause, Refusal};
+
+    #[test]
+    fn a_number_has_its_cause_and_words() {
+        let refusal = Refusal::told(10, 48);
+        assert_eq!(refusal.cause(), Some(Cause::Room));
+        assert_eq!((refusal.value, refusal.place), (48, 0));
+        assert_eq!(refusal.to_string(), "refused with 10: output too short");
+        assert_eq!(Refusal::told(2, 3).place, 3);
+        assert_eq!(Refusal::told(13, 0).cause(), None);
+    }
+}
