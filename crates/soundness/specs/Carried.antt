@@ -24,7 +24,8 @@ use Rattle.bridge.specs.Sizes.{objectSizes}
 use Rattle.bridge.specs.Variables.{variables}
 use Rattle.orders.specs.Answered.{placesIn}
 use Rattle.orders.specs.Plain.{integerOf, listOf, result, plainly, AsStored}
-use Rattle.soundness.specs.Claims.{Channel, stateOf, acquires, changes, Owed}
+use Rattle.playing.specs.Playing.{Channel}
+use Rattle.soundness.specs.Claims.{stateOf, acquires, changes, Owed}
 use Rattle.soundness.specs.Ending.{start}
 use Rattle.soundness.specs.Appending.{Performed}
 

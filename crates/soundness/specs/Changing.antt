@@ -32,7 +32,8 @@ use Rattle.contexts.specs.Kinds.{ext-left, ext-right, ext-take, ext-made, ext-m
 use Rattle.contexts.specs.ValueKinds.{count-joined, count-first, count-copies, integer-at, kinds-moved}
 use Rattle.orders.specs.Plain.{integerOf, listOf, result, plainly, AsStored}
 use Rattle.orders.specs.Writes.{made, madeAll, kindAt, treeOf, contextAfter, present, kindsOk, asked}
-use Rattle.soundness.specs.Claims.{Channel, acquires, changes, Owed}
+use Rattle.playing.specs.Playing.{Channel}
+use Rattle.soundness.specs.Claims.{acquires, changes, Owed}
 use Rattle.soundness.specs.Ending.{start}
 use Rattle.soundness.specs.Appending.{Performed, put-does, compute-does}
 use Rattle.soundness.specs.Copying.{among, copy-does}

@@ -1,25 +1,22 @@
 -- Demand 3: the heap stays sound for every list of orders. One claim on the whole list; this file and the definitions it cites are all that it says.
--- `answerTo`, `recordsOf` and `orderContext` are what the contract of the order function cites, and `ran` is what the contract of the machine's run cites.
+-- `fresh` and what an item does to a channel are what the contracts of `playing::channel` cite.
 -- From document 01, 'Order record', 'Plain machine of demand 3' and the lines on the heap in 'Instruction record'.
 use Prim.Native.Nat.{ℕ, _+_, _*_, _-_, _≤_, _<_}
 use mathlib.Core.Path.{_≡_}
 use mathlib.Core.Bool.{Bool, true, false, _&&_, cond}
 use mathlib.Core.List.{List, [], _∷_}
-use lib.ListN.{length, replicate}
+use lib.ListN.{length}
 use Rattle.records.specs.declared.check.Checked.the-variants.{Good}
 use Rattle.records.specs.declared.order.Order.{Order}
 use Rattle.records.specs.declared.order.Order.the-variants.{Put, Compute, Copy, Drop, Store, Load, Print}
 use Rattle.records.specs.Contexts.{checkedContext}
 use Rattle.records.specs.ReadBack.{Bytes}
-use Rattle.trees.specs.Tree.{size}
-use Rattle.layout.specs.Config.{base, HEAP, FREE}
+use Rattle.layout.specs.Config.{HEAP, FREE}
 use Rattle.printing.specs.Print.{printName}
 use Rattle.printing.specs.Registers.{extAt}
-use Rattle.instructions.specs.View.{View}
 use Rattle.instructions.specs.Step.{Call}
 use Rattle.machine.specs.declared.run.Answer.the-variants.{Ended}
-use Rattle.machine.specs.State.{see, freshState}
-use Rattle.machine.specs.Run.{Done, ran}
+use Rattle.machine.specs.Run.{Done}
 use Rattle.heap.specs.Values.{Values, nil, countOf, valueAt, KindsFrom}
 use Rattle.heap.specs.Words.{memoryOf}
 use Rattle.heap.specs.WordLemmas.{layout}
@@ -27,8 +24,10 @@ use Rattle.heap.specs.Orders.{State}
 use Rattle.heap.specs.Claims.{HeapAfter}
 use Rattle.bridge.specs.Sizes.{objectSizes}
 use Rattle.bridge.specs.Variables.{variablesIn}
-use Rattle.orders.specs.Answered.{Asked, accepted, orderIs, placesIn, orderTree, orderContext, answerTo, recordsOf}
+use Rattle.orders.specs.Answered.{Asked, orderIs, placesIn}
 use Rattle.orders.specs.Plain.{integerOf, resultDefined, plainly, AsStored}
+use Rattle.playing.specs.Playing.{Channel, fresh}
+use Rattle.playing.specs.Playing as play
 
 -- one item of a list: any bytes as order and bindings, any counter and output lengths, any nine words
 pub record Item : Type 0 where
@@ -37,28 +36,18 @@ pub record Item : Type 0 where
   pub bindings-bytes : Bytes (asked .bindings)
   pub words : ℕ → ℕ
 
--- the context that was answered last, and the registers, stack and heap that the last run left
-pub record Channel : Type 0 where
-  pub context : List ℕ
-  pub view : View
-
--- the fresh routine, on a zeroed heap of so many blocks
-abbrev pub fresh : ℕ → Channel
-fresh blocks = record { context = []; view = see freshState (replicate (8 * blocks) 0) }
-
+-- an item on a channel: whether it is accepted, how many records it has, their run, and the channel after it
 abbrev pub isAccepted : Channel → Item → Bool
-isAccepted ch it = accepted (answerTo base (ch .context) (it .asked))
+isAccepted ch it = play.isAccepted ch (it .asked)
 
--- how many records an order has, and their run with that number as the step limit
 abbrev pub recordCount : Channel → Item → ℕ
-recordCount ch it = size (orderTree base (ch .context) (it .asked))
+recordCount ch it = play.recordCount ch (it .asked)
 
 abbrev pub runOf : Channel → Item → Done
-runOf ch it = ran (it .words) (recordsOf base (ch .context) (it .asked)) (recordCount ch it) (ch .view)
+runOf ch it = play.runOf ch (it .asked) (it .words)
 
--- an accepted order's context and what its run leaves; a refused order leaves all as it was
 abbrev pub next : Channel → Item → Channel
-next ch it = cond (isAccepted ch it) (record { context = orderContext (ch .context) (it .asked); view = runOf ch it .last .state }) ch
+next ch it = play.next ch (it .asked) (it .words)
 
 -- what the user owes an accepted order: a load's own kinds, and no division fault
 abbrev pub Owed : List ℕ → Order → Values → Type 0

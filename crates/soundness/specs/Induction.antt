@@ -22,8 +22,9 @@ use Rattle.bridge.specs.Sizes.{objectSizes}
 use Rattle.bridge.specs.Variables.{variables}
 use Rattle.contexts.specs.Bindings.{good-none}
 use Rattle.orders.specs.Answered.{orderIs, placesIn}
-use Rattle.soundness.specs.Claims.{Item, fresh, isAccepted, reached, values, acquired, AllOwed, stateAfter, statesBefore, SoundChannel, LastRan, LastRefused, HeapStaysSound, acquires, Owed}
-use Rattle.soundness.specs.Accepting.{taken}
+use Rattle.playing.specs.Playing.{fresh}
+use Rattle.soundness.specs.Claims.{Item, isAccepted, reached, values, acquired, AllOwed, stateAfter, statesBefore, SoundChannel, LastRan, LastRefused, HeapStaysSound, acquires, Owed}
+use Rattle.playing.specs.Accepting.{taken}
 use Rattle.soundness.specs.Ending.{start}
 use Rattle.soundness.specs.Carried.{Carried, places-are}
 use Rattle.soundness.specs.Stepping.{SteppedAt, stepped}

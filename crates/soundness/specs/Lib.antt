@@ -1,6 +1,5 @@
 -- Demand 3. `Claims` and what it cites is all that the promise says; lemmas follow.
 pub mod Claims  -- the claim, and all that it says
-pub mod Accepting  -- what an accepted order says of its operands
 pub mod Ending  -- a tree that does something ends as a run of its records
 pub mod Appending  -- put and compute
 pub mod Copying  -- copy

@@ -30,8 +30,9 @@ use Rattle.printed.proofs.Printing.{print-does}
 use Rattle.orders.specs.Plain.{plainly}
 use Rattle.orders.specs.Writes.{treeOf, contextAfter, present, kindsOk, asked}
 use Rattle.orders.specs.Answered.{orderIs}
-use Rattle.soundness.specs.Claims.{Item, Channel, stateOf, Owed, acquires, callsOf, changes}
-use Rattle.soundness.specs.Accepting.{Taken}
+use Rattle.playing.specs.Playing.{Channel}
+use Rattle.soundness.specs.Claims.{Item, stateOf, Owed, acquires, callsOf, changes}
+use Rattle.playing.specs.Accepting.{Taken}
 use Rattle.soundness.specs.Ending.{start, heap-ok, Ends, ends}
 use Rattle.soundness.specs.Carried.{Carried, carried-on, carried-same}
 use Rattle.soundness.specs.Changing.{integer-held, changing-does}

@@ -1,0 +1,15 @@
+use borrow.Author.Needs.{needs}
+use mathlib.Core.Path.{sym}
+use lib.Seq.{length-take-le}
+use Rattle.playing.proofs.channel.run_records.Statement.{statement}
+use Rattle.playing.proofs.channel.run_records.Tie as tie
+
+pub run-records-spec : {M : Type 1} → statement M
+run-records-spec =
+    tie.close
+    (tie.spec
+    (λ c. search needs)
+    (λ c. sym (length-take-le _ _ (c .before .before .before .pre)))
+    (λ c κs. search needs)
+    (λ c. search needs)
+    (λ c. search needs))

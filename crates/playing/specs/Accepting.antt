@@ -1,0 +1,129 @@
+-- What an accepted order says of its context, its bindings, its operands and its outputs.
+use Prim.Native.Nat.{ℕ, _+_, _*_, _/_, _≤_}
+use mathlib.Core.Path.{_≡_, refl, sym, ap, _∙_}
+use mathlib.Core.Bool.{Bool, true, false, cond}
+use mathlib.Core.List.{List}
+use native.Mathlib.Omega.{arith}
+use lib.Dec.{ltb, leb, eqb}
+use lib.ListN.{length}
+use borrow.Author.Tests.{eqb-true, ltb-false, leb-true}
+use Rattle.records.specs.declared.check.Checked.{Checked}
+use Rattle.records.specs.declared.check.Checked.the-variants as checked
+use Rattle.records.specs.Contexts.{checkedContext}
+use Rattle.records.specs.Orders.{orderStarts}
+use Rattle.trees.specs.Tree.{Tree, labels, size}
+use Rattle.layout.specs.Config.{base}
+use Rattle.orders.specs.declared.answer.Answer.{Answer}
+use Rattle.orders.specs.declared.answer.Answer.the-variants.{Accepted, Malformed, Missing, Kind, Count, Position, Labels, Room}
+use Rattle.orders.specs.Writes.{wanted, countOk, treeOf, contextAfter, present, kindsOk, asked}
+use Rattle.orders.specs.Answered.{Asked, accepted, orderIs, granted, decided, onContext, answerTo}
+
+-- the answer to an accepted order of records t and the context after them
+abbrev pub acceptance : Asked → Tree → List ℕ → Answer
+acceptance q t after = Accepted (size t) (q .counter + labels t) (length after / 8)
+
+pub record Taken (context : List ℕ) (q : Asked) (k : ℕ) : Type 0 where
+  pub bindings-good : checkedContext (q .bindings) ≡ checked.Good (wanted (orderIs q))
+  pub starts : orderStarts (q .order) ≡ true
+  pub there : present context k (q .bindings) (orderIs q) ≡ true
+  pub of-kind : kindsOk context k (q .bindings) (orderIs q) ≡ true
+  pub counted : countOk (orderIs q) ≡ true
+  pub placed : asked context k (q .bindings) (orderIs q) ≤ 267
+  pub labelled : q .counter + labels (treeOf base context k (q .bindings) (orderIs q)) ≤ 2147483647
+  pub records-fit : 24 * size (treeOf base context k (q .bindings) (orderIs q)) ≤ q .recordsRoom
+  pub context-fits : length (contextAfter context k (q .bindings) (orderIs q)) ≤ q .contextRoom
+  pub answer : answerTo base context q ≡ acceptance q (treeOf base context k (q .bindings) (orderIs q)) (contextAfter context k (q .bindings) (orderIs q))
+
+-- a choice of which the second part is a refusal
+chosen : (b : Bool) (x y : Answer) → accepted y ≡ false → accepted (cond b x y) ≡ true → (b ≡ true) × (accepted x ≡ true)
+chosen true x y r e = (refl, e)
+chosen false x y r e = let z : _≡_ {A = ℕ} 0 1 = cc in absurd (omega arith)
+
+-- and of which the first is one
+passed : (b : Bool) (x y : Answer) → accepted x ≡ false → accepted (cond b x y) ≡ true → (b ≡ false) × (accepted y ≡ true)
+passed false x y r e = (refl, e)
+passed true x y r e = let z : _≡_ {A = ℕ} 0 1 = cc in absurd (omega arith)
+
+on-good : (c : Checked) (f : ℕ → Answer) → accepted (onContext c f) ≡ true → (k : ℕ) × (c ≡ checked.Good k) × (accepted (f k) ≡ true)
+on-good (checked.Good k) f e = (k, refl, e)
+on-good (checked.Malformed place) f e = let z : _≡_ {A = ℕ} 0 1 = cc in absurd (omega arith)
+
+module _ (q : Asked) (t : Tree) (after : List ℕ) where
+  pub record Granted : Type 0 where
+    pub labelled : q .counter + labels t ≤ 2147483647
+    pub records-fit : 24 * size t ≤ q .recordsRoom
+    pub context-fits : length after ≤ q .contextRoom
+    pub answer : granted q t after ≡ acceptance q t after
+
+  granted-if : accepted (granted q t after) ≡ true → Granted
+  granted-if e =
+      let a = passed (ltb 2147483647 (q .counter + labels t)) Labels _ refl e in
+      let b = passed (ltb (q .recordsRoom) (24 * size t)) (Room (24 * size t)) _ refl (a .1) in
+      let c = passed (ltb (q .contextRoom) (length after)) (Room (length after)) _ refl (b .1) in
+      record {
+        labelled = ltb-false 2147483647 (q .counter + labels t) (a .0);
+        records-fit = ltb-false (q .recordsRoom) (24 * size t) (b .0);
+        context-fits = ltb-false (q .contextRoom) (length after) (c .0);
+        answer = rw (a .0, b .0, c .0);
+      }
+
+module _ (context : List ℕ) (q : Asked) (k : ℕ) where
+  pub record Decided : Type 0 where
+    pub there : present context k (q .bindings) (orderIs q) ≡ true
+    pub of-kind : kindsOk context k (q .bindings) (orderIs q) ≡ true
+    pub counted : countOk (orderIs q) ≡ true
+    pub placed : asked context k (q .bindings) (orderIs q) ≤ 267
+    pub grants : Granted q (treeOf base context k (q .bindings) (orderIs q)) (contextAfter context k (q .bindings) (orderIs q))
+    pub answer : decided base context k q ≡ acceptance q (treeOf base context k (q .bindings) (orderIs q)) (contextAfter context k (q .bindings) (orderIs q))
+
+  decided-if : accepted (decided base context k q) ≡ true → Decided
+  decided-if e =
+      let a = chosen (present context k (q .bindings) (orderIs q)) _ Missing refl e in
+      let b = chosen (kindsOk context k (q .bindings) (orderIs q)) _ Kind refl (a .1) in
+      let c = chosen (countOk (orderIs q)) _ Count refl (b .1) in
+      let d = chosen (leb (asked context k (q .bindings) (orderIs q)) 267) _ Position refl (c .1) in
+      let g = granted-if q (treeOf base context k (q .bindings) (orderIs q)) (contextAfter context k (q .bindings) (orderIs q)) (d .1) in
+      record {
+        there = a .0;
+        of-kind = b .0;
+        counted = c .0;
+        placed = leb-true (asked context k (q .bindings) (orderIs q)) 267 (d .0);
+        grants = g;
+        answer = rw (a .0, b .0, c .0, d .0) (g .answer);
+      }
+
+-- an order that passes 1 and 2
+all-passed : (context : List ℕ) (q : Asked) {k m : ℕ} → checkedContext context ≡ checked.Good k → checkedContext (q .bindings) ≡ checked.Good m → orderStarts (q .order) ≡ true
+    → eqb m (wanted (orderIs q)) ≡ true → eqb (length (q .order)) 24 ≡ true → answerTo base context q ≡ decided base context k q
+unfolding answerTo
+all-passed context q c b s n w = rw (c, b, s, n, w)
+
+pub good-context : (context : List ℕ) (q : Asked) → accepted (answerTo base context q) ≡ true → (k : ℕ) × (checkedContext context ≡ checked.Good k)
+unfolding answerTo
+good-context context q e = let a = on-good (checkedContext context) _ e in (a .0, a .1)
+
+pub taken : (context : List ℕ) (q : Asked) (k : ℕ) → checkedContext context ≡ checked.Good k → accepted (answerTo base context q) ≡ true → Taken context q k
+unfolding answerTo
+taken context q k good e =
+    let a = on-good (checkedContext context) _ e in
+    let same : a .0 ≡ k = good-same (sym (a .1) ∙ good) in
+    let b = on-good (checkedContext (q .bindings)) _ (a .2) in
+    let c = chosen (orderStarts (q .order)) _ (Malformed 1) refl (b .2) in
+    let d = chosen (eqb (b .0) (wanted (orderIs q))) _ (Malformed 1) refl (c .1) in
+    let f = chosen (eqb (length (q .order)) 24) _ (Malformed 2) refl (d .1) in
+    let g = decided-if context q k (rw same at (f .1)) in
+    record {
+      bindings-good = b .1 ∙ ap checked.Good (eqb-true (b .0) (wanted (orderIs q)) (d .0));
+      starts = c .0;
+      there = g .there;
+      of-kind = g .of-kind;
+      counted = g .counted;
+      placed = g .placed;
+      labelled = g .grants .labelled;
+      records-fit = g .grants .records-fit;
+      context-fits = g .grants .context-fits;
+      answer = all-passed context q good (b .1) (c .0) (d .0) (f .0) ∙ g .answer;
+    }
+  where
+    good-same : {j : ℕ} → checked.Good j ≡ checked.Good k → j ≡ k
+    good-same e = cc
