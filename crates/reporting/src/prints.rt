@@ -35,13 +35,20 @@ fn put_whole(text: &mut [u8], at: usize, order: Order, state: State) -> usize
     requires { ⌜ at + 22 ≤ farthest ⌝ }
     ensures { λ r. ⌜ Puts 22 (now (text .entry)) at (now (text .exit)) r (printsOf order state) ⌝ }
 {
-    let Order::Print(newline, a) = order else {
-        return at;
-    };
-    if a < 133 {
-        return put_word(text, at, newline, a as u64, state);
+    match order {
+        Order::Put(_) => at,
+        Order::Compute(_, _, _) => at,
+        Order::Copy(_, _) => at,
+        Order::Drop => at,
+        Order::Store(_, _) => at,
+        Order::Load(_) => at,
+        Order::Print(newline, a) => {
+            if a < 133 {
+                return put_word(text, at, newline, a as u64, state);
+            }
+            at
+        }
     }
-    at
 }
 
 // What an order writes in a state, if it is a print order.
