@@ -1,8 +1,8 @@
 -- The item at a byte of a list, from where its parts end.
 use Prim.Native.Nat.{ℕ, _+_, _-_, _≤_, _<_, min}
-use mathlib.Core.Path.{_≡_, refl, sym, ap, _∙_}
+use mathlib.Core.Path.{_≡_, sym, ap, _∙_}
 use mathlib.Core.List.{List}
-use native.Mathlib.Nat.{min-le-left, min-le-right, min-eq-left, min-eq-right, add-zero}
+use native.Mathlib.Nat.{min-le-right, min-eq-left, min-eq-right, add-zero}
 use native.Mathlib.Decide.{decLt}
 use native.Mathlib.Omega.{arith}
 use lib.ListN.{length, take, drop, length-take, length-drop}

@@ -1,8 +1,8 @@
 -- From an order's answer, its two outputs and its records' run to what playing it leaves.
-use Prim.Native.Nat.{ℕ, _+_, _*_, _/_, _≤_, _^_}
+use Prim.Native.Nat.{ℕ, _*_, _≤_}
 use mathlib.Core.Path.{_≡_, refl, sym, ap, _∙_, subst}
-use mathlib.Core.Bool.{Bool, true, false, cond}
-use mathlib.Core.List.{List, [], _∷_, _++_}
+use mathlib.Core.Bool.{true, false}
+use mathlib.Core.List.{List, [], _∷_}
 use native.Mathlib.Omega.{arith}
 use lib.ListN.{length, replicate, take}
 use lib.Seq.{sets, sets-eq, take-at, take-all, length-sets}
@@ -26,11 +26,11 @@ use Rattle.orders.specs.declared.answer.Answer.{Answer}
 use Rattle.orders.specs.declared.answer.Answer.the-variants.{Accepted, Context, Malformed, Missing, Kind, Count, Position, Labels, Room}
 use Rattle.orders.proofs.answer.Answer.{the-type}
 use Rattle.orders.specs.Writes.{treeOf, contextAfter}
-use Rattle.orders.specs.Answered.{Asked, accepted, orderIs, orderTree, orderContext, answerTo, recordsOf, recordsOutput}
+use Rattle.orders.specs.Answered.{Asked, accepted, orderIs, orderTree, orderContext, answerTo, recordsOf}
 use Rattle.ordering.proofs.Leaving.{context-long, after-long}
 use Rattle.answering.specs.Answers.{AnswersOrder}
 use Rattle.playing.specs.Playing.{Channel, fresh, isAccepted, Plays}
-use Rattle.playing.specs.Accepting.{acceptance, good-context, taken}
+use Rattle.playing.specs.Accepting.{good-context, taken}
 
 -- a channel as it starts
 pub starts : (s : State) → s ≡ freshState → (blocks : ℕ) → record { context = []; view = see s (replicate (8 * blocks) 0) } ≡ fresh blocks

@@ -1,6 +1,6 @@
 // A channel, and one order played on it.
 ghost use mathlib.Core.Path.{_≡_};
-ghost use Prim.Native.Nat.{ℕ, _*_, _≤_, _<_};
+ghost use Prim.Native.Nat.{ℕ, _*_, _≤_};
 ghost use lib.ListN.{length, replicate, take};
 ghost use Rattle.instructions.specs.View.{wordsOf};
 ghost use Rattle.machine.specs.State.{see};

@@ -145,6 +145,8 @@ module _ (blocks : ℕ) where
     pub heap : HeapAfter objectSizes (layout 3) (statesBefore its) (stateAfter its)
     -- and there is such a block
     pub frontier-there : heap .frontier < blocks
+    -- the lent heap is those blocks
+    pub whole : reached its .view .size ≡ 8 * blocks
 
   -- the last item's run, if it was accepted
   abbrev pub LastRan : List Item → Type 0

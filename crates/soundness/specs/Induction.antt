@@ -85,7 +85,7 @@ module _ (blocks : ℕ) (most : blocks ≤ 1048576) where
       let s : HeapAfter objectSizes L (statesBefore blocks its) (stateAfter blocks its) = abstract-heap-stays-sound objectSizes L (statesBefore blocks its) (stateAfter blocks its) refl (f .run) in
       let e = frontier-unique (s .sound) (sound (f .represents .consistent)) in
       let low = f .low in
-      record { places = f .places; kinds = f .kinds; heap = s; frontier-there = omega arith }
+      record { places = f .places; kinds = f .kinds; heap = s; frontier-there = omega arith; whole = f .placed .words }
 
   last-ran : (its : List Item) → 2 + acquired blocks its ≤ blocks → AllOwed blocks its → LastRan blocks its
   last-ran [] h w = tt

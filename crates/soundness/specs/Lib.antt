@@ -10,3 +10,4 @@ pub mod Changing  -- each order that changes something
 pub mod Stepping  -- one accepted order
 pub mod Induction  -- the claim, by induction over the list
 pub mod Example  -- a list that meets the premises
+pub mod Counts  -- the blocks counted on a sound channel's words
