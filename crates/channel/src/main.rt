@@ -1,17 +1,17 @@
 // Plays lists of order records, from standard input or from the files named, each on a fresh channel, and prints what came of each order, what was printed,
-// and the variables and blocks at the end. The argument `listing` asks for the instructions too.
-ghost use mathlib.Core.Path.{_≡_};
-ghost use Prim.Native.Nat.{min};
+// and the variables and blocks at the end. A first argument `listing` asks for the instructions too.
+ghost use Prim.Native.Nat.{_<_, _≤_};
 use libc::STDERR_FILENO;
 use libc::STDIN_FILENO;
 use libc::STDOUT_FILENO;
+use machine::state::State;
 use orders::answer::Answer;
 use playing::channel::Channel;
 
 // What print calls leave in registers: nothing depends on it.
 const LEFT: u64 = 0x5A5A5A5A5A5A5A5A;
 
-// Where the next order starts, how many were played, the label counter, how many bytes were printed, whether a run did not end, and the channel.
+// Where the next order starts, its number, the label counter, how many bytes were printed, whether a run did not end, and the channel.
 struct Going {
     at: usize,
     number: u64,
@@ -25,7 +25,7 @@ fn start() -> Going {
     let channel = playing::channel::fresh();
     Going {
         at: 0,
-        number: 0,
+        number: 1,
         counter: 0,
         printed: 0,
         stopped: false,
@@ -33,31 +33,31 @@ fn start() -> Going {
     }
 }
 
-fn least(a: usize, b: usize) -> usize
-    ensures { λ r. ⌜ r ≡ min a b ⌝ }
-{
-    if a < b { a } else { b }
+fn show(text: &[u8], size: usize) {
+    if size <= text.len() {
+        io::write_all(STDOUT_FILENO, &text[..size]);
+    }
 }
 
-fn show(text: &[u8], size: usize) {
-    io::write_all(STDOUT_FILENO, &text[..least(size, text.len())]);
+// Where a listing of 2,730 records ends, or all of them.
+fn listing_end(from: usize, end: usize) -> usize
+    requires { ⌜ from < end ⌝ }
+    ensures { λ r. ⌜ (from < r) × (r ≤ end) ⌝ }
+{
+    if end - from < 65520 {
+        return end;
+    }
+    from + 65520
 }
 
 // Instructions, at most 2,730 to a listing.
 fn list(records: &[u8], text: &mut [u8]) {
     let mut from = 0;
     while from < records.len() {
-        let end = from + least(65520, records.len() - from);
+        let end = listing_end(from, records.len());
         let size = listing::print_records(&records[from..end], text);
         show(text, size);
         from = end;
-    }
-}
-
-fn list_if(asked: bool, records: &[u8], count: usize, text: &mut [u8]) {
-    if asked {
-        let end = least(24 * least(count, 65536), records.len());
-        list(&records[..end], text);
     }
 }
 
@@ -67,36 +67,6 @@ fn is_ended(ran: machine::run::Answer) -> bool {
         machine::run::Answer::Malformed(_) => false,
         machine::run::Answer::Fault(_, _) => false,
         machine::run::Answer::Limit(_) => false,
-    }
-}
-
-// The counter after an order.
-fn counter_after(answer: Answer, before: u64) -> u64 {
-    match answer {
-        Answer::Accepted(_, counter, _) => counter,
-        Answer::Context => before,
-        Answer::Malformed(_) => before,
-        Answer::Missing => before,
-        Answer::Kind => before,
-        Answer::Count => before,
-        Answer::Position => before,
-        Answer::Labels => before,
-        Answer::Room(_) => before,
-    }
-}
-
-// How many records an order was answered with.
-fn records_in(answer: Answer) -> usize {
-    match answer {
-        Answer::Accepted(count, _, _) => count,
-        Answer::Context => 0,
-        Answer::Malformed(_) => 0,
-        Answer::Missing => 0,
-        Answer::Kind => 0,
-        Answer::Count => 0,
-        Answer::Position => 0,
-        Answer::Labels => 0,
-        Answer::Room(_) => 0,
     }
 }
 
@@ -112,6 +82,43 @@ fn tell_stop(number: u64, order: &[u8], ran: machine::run::Answer) {
     show(&line, size);
 }
 
+// The first of them, if asked.
+fn list_first(records: &[u8], count: usize, text: &mut [u8], listed: bool) {
+    if !listed {
+        return;
+    }
+    if count <= records.len() / 24 {
+        let end = 24 * count;
+        list(&records[..end], text);
+    }
+}
+
+// What an accepted order prints goes after what was printed before.
+fn print(prints: &mut [u8], printed: usize, order: &[u8], state: State) -> usize {
+    if printed < 262144 {
+        return reporting::prints::put_print(prints, printed, order, state);
+    }
+    printed
+}
+
+// An order that was accepted, with so many records.
+fn accepted(
+    order: &[u8],
+    records: &[u8],
+    text: &mut [u8],
+    prints: &mut [u8],
+    listed: bool,
+    g: Going,
+    count: usize,
+    ran: machine::run::Answer,
+) -> usize {
+    let channel = g.channel;
+    let state = channel.state;
+    list_first(records, count, text, listed);
+    tell_stop(g.number, order, ran);
+    print(prints, g.printed, order, state)
+}
+
 // One order with its bindings; the next starts at `next`.
 fn item(
     order: &[u8],
@@ -125,26 +132,41 @@ fn item(
     next: usize,
 ) -> Going {
     let before = g.channel;
-    let number = word::sum(g.number, 1);
-    let played = playing::channel::play(before, heap, records, g.counter, order, bindings, [LEFT; 9]);
+    let played = playing::channel::play(
+        before,
+        heap,
+        records,
+        g.counter,
+        order,
+        bindings,
+        [LEFT; 9],
+    );
     let answer = played.answer;
     let ran = played.ran;
     let channel = played.channel;
-    tell(number, order, g.counter, answer);
-    list_if(listed, records, records_in(answer), text);
-    tell_stop(number, order, ran);
-    let printed = print(prints, g.printed, order, before, answer);
+    tell(g.number, order, g.counter, answer);
+    let Answer::Accepted(count, counter, _) = answer else {
+        return Going {
+            at: next,
+            number: word::sum(g.number, 1),
+            counter: g.counter,
+            printed: g.printed,
+            stopped: false,
+            channel,
+        };
+    };
+    let printed = accepted(order, records, text, prints, listed, g, count, ran);
     Going {
         at: next,
-        number,
-        counter: counter_after(answer, g.counter),
+        number: word::sum(g.number, 1),
+        counter,
         printed,
         stopped: !is_ended(ran),
         channel,
     }
 }
 
-// The order at the place that was reached.
+// The order at the byte that was reached, if there is one.
 fn turn(
     input: &[u8],
     heap: &mut [u64],
@@ -155,13 +177,29 @@ fn turn(
     g: Going,
 ) -> Going {
     let at = g.at;
+    if g.stopped {
+        return g;
+    }
+    if input.len() <= at {
+        return g;
+    }
     let found = playing::list::item_at(input, at);
     let middle = found.order_end;
     let end = found.end;
-    item(&input[at..middle], &input[middle..end], heap, records, text, prints, listed, g, end)
+    item(
+        &input[at..middle],
+        &input[middle..end],
+        heap,
+        records,
+        text,
+        prints,
+        listed,
+        g,
+        end,
+    )
 }
 
-// All orders of a list, up to a run that does not end.
+// All orders of a list, up to a run that does not end. All but the last have 24 bytes at least.
 fn play(
     input: &[u8],
     heap: &mut [u64],
@@ -171,11 +209,10 @@ fn play(
     listed: bool,
 ) -> Going {
     let mut g = start();
-    while g.at < input.len() {
-        if g.stopped {
-            return g;
-        }
+    let mut left = input.len() / 24 + 1;
+    while 0 < left {
         g = turn(input, heap, records, text, prints, listed, g);
+        left -= 1;
     }
     g
 }
@@ -183,12 +220,20 @@ fn play(
 fn show_prints(prints: &[u8], printed: usize) {
     io::write_all(STDOUT_FILENO, b"printed\n");
     show(prints, printed);
-    if 0 < printed {
-        if printed <= prints.len() {
-            if prints[printed - 1] != b'\n' {
-                io::write_all(STDOUT_FILENO, b"\n");
-            }
+    if printed == 0 {
+        return;
+    }
+    if printed <= prints.len() {
+        if prints[printed - 1] != b'\n' {
+            io::write_all(STDOUT_FILENO, b"\n");
         }
+    }
+}
+
+fn show_context(context: &[u8], used: usize, state: State, text: &mut [u8]) {
+    if used <= context.len() {
+        let size = reporting::variables::put_variables(text, 0, &context[..used], state);
+        show(text, size);
     }
 }
 
@@ -196,9 +241,7 @@ fn show_variables(channel: Channel, text: &mut [u8]) {
     io::write_all(STDOUT_FILENO, b"variables\n");
     let context = channel.context;
     let state = channel.state;
-    let used = least(channel.used, 1064);
-    let size = reporting::variables::put_variables(text, 0, &context[..used], state);
-    show(text, size);
+    show_context(&context, channel.used, state, text);
 }
 
 fn show_blocks(channel: Channel, heap: &[u64]) {
@@ -206,6 +249,81 @@ fn show_blocks(channel: Channel, heap: &[u64]) {
     let registers = state.registers;
     let blocks = playing::blocks::count_blocks(&registers, heap);
     let mut line = [0u8; 256];
-    let size = reporting::put_blocks(&mut line, 0, blocks.linear, blocks.lazy, blocks.held, blocks.untouched);
+    let size = reporting::put_blocks(
+        &mut line,
+        0,
+        blocks.linear,
+        blocks.lazy,
+        blocks.held,
+        blocks.untouched,
+    );
     show(&line, size);
+}
+
+// A list played on a channel of its own.
+fn channel(input: &[u8], text: &mut [u8], listed: bool) {
+    let mut heap = [0u64; 65536];
+    let mut records = [0u8; 102624];
+    let mut prints = [0u8; 262144];
+    let g = play(input, &mut heap, &mut records, text, &mut prints, listed);
+    let last = g.channel;
+    show_prints(&prints, g.printed);
+    show_variables(last, text);
+    show_blocks(last, &heap);
+}
+
+// What can be read of a file, played.
+fn channel_from(file: i32, listed: bool) {
+    let mut input = [0u8; 262145];
+    let mut text = [0u8; listing::LONGEST];
+    let n = io::read_full(file, &mut input);
+    if 262144 < n {
+        io::write_all(STDERR_FILENO, b"a list of more than 262144 bytes is not played\n");
+        return;
+    }
+    channel(&input[..n], &mut text, listed);
+}
+
+fn channel_of(name: &[u8], listed: bool) {
+    let file = os::open_read(name);
+    if file < 0 {
+        os::fail(name);
+        return;
+    }
+    io::write_all(STDOUT_FILENO, name);
+    io::write_all(STDOUT_FILENO, b"\n");
+    channel_from(file, listed);
+    libc::close(file);
+}
+
+// Whether the first argument asks for the instructions.
+fn asks_listing() -> bool {
+    let mut word = io::buffer();
+    let n = os::arg(1, &mut word);
+    check::same(&word[..n], b"listing")
+}
+
+fn play_argument(i: usize, listed: bool) {
+    let mut name = io::buffer();
+    let n = os::arg(i, &mut name);
+    channel_of(&name[..n], listed);
+}
+
+fn play_files(first: usize, count: usize, listed: bool) {
+    let mut i = first;
+    while i < count {
+        play_argument(i, listed);
+        i += 1;
+    }
+}
+
+fn main() {
+    let count = os::arg_count();
+    let listed = asks_listing();
+    let first = if listed { 2 } else { 1 };
+    if count <= first {
+        channel_from(STDIN_FILENO, listed);
+        return;
+    }
+    play_files(first, count, listed);
 }
