@@ -5,7 +5,7 @@ ghost use mathlib.Core.List.{List};
 ghost use Prim.Native.Nat.{ℕ, _+_, _*_, _<_, _≤_, _^_};
 ghost use lib.Dec.{ltb, eqb};
 ghost use lib.ListN.{length};
-ghost use Rattle.printing.specs.Registers.{extAt};
+ghost use Rattle.records.specs.Contexts.{extAt};
 ghost use Rattle.orders.specs.Writes.{wanted, countOk, present, kindsOk, asked};
 use records::order::Order;
 

@@ -2,7 +2,7 @@
 -- From a configuration whose words show a heap that represents values (`Represents`: what holds after every list of orders), each performs the abstract heap's
 -- operation, word by word, and keeps what lies below its variables. `variables ext c 0 k` are the context's first k variables as pairs of words.
 use mathlib.Core.Bool.{Bool, false}
-use mathlib.Core.List.{List, [], _∷_, _++_}
+use mathlib.Core.List.{[], _∷_, _++_}
 use mathlib.Core.Logic.{_≢_}
 use mathlib.Core.Path.{_≡_}
 use Prim.Native.Nat.{ℕ, _+_, _*_, _≤_, _<_}

@@ -7,7 +7,7 @@ use native.Mathlib.Omega.{arith}
 use Rattle.heap.specs.GrowthLemmas.{reachable-below}
 use Rattle.positions.specs.HeldLemmas.{keeps-sub}
 use Rattle.positions.specs.Runs.{so}
-use Rattle.bridge.specs.Claims.{MemoryDoes, MemoryDoesWhatItNames}
+use Rattle.bridge.specs.Claims.{MemoryDoesWhatItNames}
 use Rattle.bridge.specs.DropOrder.{drop-order, share-performs}
 use Rattle.bridge.specs.LoadOrder.{load-order}
 use Rattle.bridge.specs.StoreOrder.{store-performs}

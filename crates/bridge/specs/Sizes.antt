@@ -1,12 +1,8 @@
 -- How an object's values lie in its blocks: 3 in the last one, 2 in each other one but the first, and what is left in the first. From memory.rs.
 use mathlib.Core.List.{List, [], _∷_}
-use mathlib.Core.Path.{_≡_, refl, ap}
 use Prim.Native.Nat.{ℕ, zero, suc, _-_, _≤_, min}
 use native.Mathlib.Omega.{arith}
 use lib.ListN.{length}
-use Rattle.memory.specs.Objects.{chunks}
-use Rattle.heap.specs.Blocks.{Cell}
-use Rattle.heap.specs.Values.{lengths}
 
 -- k values in blocks before those of the sizes xs
 abbrev pub otherSizes : ℕ → List ℕ → List ℕ
@@ -22,7 +18,3 @@ pub other-sizes-most : (k : ℕ) (xs : List ℕ) → length xs ≤ length (other
 other-sizes-most zero xs = omega arith
 other-sizes-most (suc zero) xs = omega arith
 other-sizes-most (suc (suc k)) xs = omega (arith, other-sizes-most k (2 ∷ xs))
-
-pub lengths-length : (chunks : List (List Cell)) → length (lengths chunks) ≡ length chunks
-lengths-length [] = refl
-lengths-length (c ∷ chunks) = ap suc (lengths-length chunks)

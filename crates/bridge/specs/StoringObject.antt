@@ -4,7 +4,6 @@ use mathlib.Core.List.{List, [], _∷_, _++_, append-assoc, append-nil}
 use mathlib.Core.Logic.{_≢_}
 use mathlib.Core.Path.{_≡_, refl, sym, _∙_, ap, subst}
 use Prim.Native.Nat.{ℕ, zero, suc, _+_, _-_, _*_, _≤_, _<_, min}
-use native.Mathlib.Decide.{decLt}
 use native.Mathlib.Nat.{zero-add}
 use native.Mathlib.Omega.{arith}
 use lib.ListN.{length}
@@ -24,23 +23,20 @@ use Rattle.heap.specs.RoomLemmas.{reachable-counted, store-room}
 use Rattle.heap.specs.StoreLemmas.{store-object}
 use Rattle.heap.specs.Values.{concat, lengths}
 use Rattle.heap.specs.Words.{blockFields}
+use Rattle.heap.specs.GrowthLemmas.{lengths-length}
 use Rattle.positions.specs.Held.{held, Keeps, Placed}
-use Rattle.positions.specs.HeldLemmas.{keeps-refl, keeps-trans, keeps-sub, keeps-register, placed-keeps, location-grows, location-fits}
+use Rattle.positions.specs.HeldLemmas.{keeps-refl, keeps-trans, keeps-sub, keeps-register, placed-keeps, location-grows, location-fits, location-order}
 use Rattle.positions.specs.Runs.{Does, one, then, weaken, so}
 use Rattle.bridge.specs.Acquiring.{Low, heap-ok}
 use Rattle.bridge.specs.LoadingBlock.{counted}
 use Rattle.bridge.specs.Shown.{L, heapOf, regroup}
-use Rattle.bridge.specs.Sizes.{otherSizes, other-sizes-most, lengths-length}
+use Rattle.bridge.specs.Sizes.{otherSizes, other-sizes-most}
 use Rattle.bridge.specs.Storing.{store-field, store-values}
 use Rattle.bridge.specs.StoringBlock.{BlockWritten, filled-last, filled-other, store-block}
 use Rattle.bridge.specs.Variables.{variables, variables-append, variables-length, variables-pointers, variables-kept}
 
 below : (p q a : ℕ) → p ≤ q → a < location p → a ≢ location q
-below p q a h l = by (decLt p q)
-  where
-    by : Dec (p < q) → a ≢ location q
-    by (yes z) = omega (arith, location-grows p q z .1)
-    by (no z) = let t : p ≡ q = omega arith in omega (arith, ap location t)
+below p q a h l = omega (arith, location-order p q h)
 
 module _ (ext : ℕ → Bool) where
   -- what the code leaves: the object's blocks, and all that lies below

@@ -2,7 +2,7 @@
 -- From code.rs, function by function. An operand is a word: below 16 a register, else a spill, which goes by TEMP where no instruction takes it.
 use Prim.Native.Nat.{ℕ}
 use mathlib.Core.Path.{refl}
-use mathlib.Core.Bool.{Bool, cond}
+use mathlib.Core.Bool.{cond}
 use mathlib.Core.List.{List, [], _∷_, _++_}
 use lib.Dec.{ltb, eqb}
 use Rattle.records.specs.declared.code.Code.{Code}

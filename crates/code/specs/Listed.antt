@@ -1,7 +1,7 @@
 -- Records as a list: a plain tree's, and a conditional jump's.
 use Prim.Native.Nat.{ℕ, _+_}
-use mathlib.Core.Path.{_≡_, refl, sym}
-use mathlib.Core.List.{List, [], _∷_}
+use mathlib.Core.Path.{_≡_, refl}
+use mathlib.Core.List.{List}
 use native.Mathlib.Omega.{arith}
 use Rattle.records.specs.Codes.{fields, fieldsOf}
 use Rattle.trees.specs.Tree.{Tree, nop, leaf, seq, skip-if-zero, if-zero, labels, flatAt, flat}

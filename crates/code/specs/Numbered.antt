@@ -8,7 +8,7 @@ use Rattle.records.specs.declared.code.Code.{Code}
 use Rattle.records.specs.declared.code.Code.the-variants.{ADD, ADDRM, ADDMR, SUB, SUBRM, SUBMR, IMUL, IMULRM, IMULMR}
 use Rattle.records.specs.declared.code.Fields.{Fields}
 use Rattle.records.specs.Codes.{fields, fieldsOf}
-use Rattle.trees.specs.Tree.{Tree, straight, leaf}
+use Rattle.trees.specs.Tree.{straight, leaf}
 use Rattle.emit.specs.declared.cursor.Cursor.{Cursor}
 use Rattle.emit.specs.Emitted.{Emitted, Emits}
 use Rattle.emit.specs.Laws.{grown}

@@ -9,7 +9,7 @@ use Rattle.records.specs.declared.order.Operation.{Operation}
 use Rattle.records.specs.declared.order.Operation.the-variants.{Add, Sub, Mul, Div, Rem}
 use Rattle.trees.specs.Tree.{Tree, straight, leaf, seq, labels, size}
 use Rattle.layout.specs.Config.{Config, TEMP, RETURN1, RETURN2}
-use Rattle.code.specs.Code.{byNumber, moveFrom, moveTo, toRegister, toSpill, intoRegister, throughTemp, commutative, subtraction, divideBy, divideKept, restored, quotient, remainder, arithmetic, compareWords, compareImmediate, loadImmediate, loadLabel, moved}
+use Rattle.code.specs.Code.{moveFrom, moveTo, toRegister, toSpill, intoRegister, throughTemp, commutative, subtraction, divideBy, divideKept, restored, quotient, remainder, arithmetic, compareWords, compareImmediate, loadImmediate, loadLabel, moved}
 
 -- no labels, and at most n records
 pub record Plain (t : Tree) (n : ℕ) : Type 0 where

@@ -1,7 +1,7 @@
 // Each operation's records written from a cursor on, for operands that are registers or spills of the frame.
 ghost use mathlib.Core.Path.{_≡_};
-ghost use mathlib.Core.List.{[], _∷_, _++_};
-ghost use Prim.Native.Nat.{_+_, _≤_, _<_, _^_};
+ghost use mathlib.Core.List.{[], _∷_};
+ghost use Prim.Native.Nat.{_+_, _<_, _^_};
 ghost use Rattle.emit.specs.Emitted.{fieldsList, Emitted, Emits};
 ghost use Rattle.layout.specs.Config.{base};
 ghost use Rattle.code.specs.Code.{compareWords, compareImmediate, loadImmediate, loadLabel, moved, commutative, subtraction, quotient, remainder, arithmetic, jumpTo, addAndJump, conditionNumber, jumpIf, jumpIfWords, jumpIfZero};

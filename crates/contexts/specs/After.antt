@@ -12,9 +12,8 @@ use Rattle.records.specs.declared.binding.Kind.{Kind}
 use Rattle.records.specs.declared.binding.Kind.the-variants.{Linked, Ext}
 use Rattle.records.specs.declared.order.Order.{Order}
 use Rattle.records.specs.declared.order.Order.the-variants.{Put, Compute, Copy, Drop, Store, Load, Print}
-use Rattle.records.specs.Contexts.{checkedContext}
+use Rattle.records.specs.Contexts.{checkedContext, extAt}
 use Rattle.heap.specs.Values.{Value, integer, object, Values, nil, cons, countOf, joined, firstOf, restOf, valueAt, copies, KindsFrom}
-use Rattle.printing.specs.Registers.{extAt}
 use Rattle.orders.specs.Writes.{made, madeAll, wanted, kindAt, contextAfter, present, asked}
 use Rattle.orders.specs.Plain.{integerOf, listOf, result, plainly, AsStored}
 use Rattle.contexts.specs.Bindings.{good-length, good-append, good-take, good-made, good-made-all}

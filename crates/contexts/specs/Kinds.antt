@@ -9,9 +9,8 @@ use lib.Seq.{getD-append-add, getD-take}
 use Rattle.records.specs.declared.binding.Kind.{Kind}
 use Rattle.records.specs.declared.binding.Kind.the-variants.{Linked, Ext}
 use Rattle.records.specs.Bytes.{le}
-use Rattle.records.specs.Contexts.{bindingBytes}
+use Rattle.records.specs.Contexts.{bindingBytes, extAt}
 use Rattle.memory.specs.Objects.{extIn}
-use Rattle.printing.specs.Registers.{extAt}
 use Rattle.orders.specs.Writes.{made, madeAll, kindAt}
 
 module _ (s t : List ℕ) (k : ℕ) (long : length s ≡ 8 * k) (x : ℕ) where

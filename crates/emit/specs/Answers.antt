@@ -1,11 +1,10 @@
 -- What an operation answers and leaves in its output, where nothing but the labels or the room can refuse it.
 -- From document 01, 'Causes and numbers': 9 before 10, a refusal writes nothing, output bytes past the records stay.
-use Prim.Native.Nat.{ℕ, _+_, _*_, _/_}
+use Prim.Native.Nat.{ℕ, _+_, _/_}
 use mathlib.Core.Bool.{Bool, true, false, cond}
 use mathlib.Core.Path.{_≡_}
 use mathlib.Core.List.{List, [], _∷_}
 use lib.Dec.{ltb}
-use lib.ListN.{length}
 use lib.Seq.{sets}
 use Rattle.records.specs.declared.code.Code.{Code}
 use Rattle.records.specs.ReadBack.{joined, codeBytes}

@@ -1,4 +1,4 @@
--- Laws of emission: parts in a row, a part whose labels go on from the last, labels drawn late, skipped and chosen parts.
+-- Laws of emission: parts in a row, a part whose labels go on from the last, labels drawn late, a choice of two parts.
 use Prim.Native.Nat.{ℕ, _+_, _*_}
 use mathlib.Core.Bool.{true}
 use mathlib.Core.Path.{_≡_, refl, ap, sym, _∙_, subst}
@@ -11,7 +11,7 @@ use Rattle.records.specs.declared.code.Code.the-variants.{JEL, JMPL, LAB}
 use Rattle.records.specs.declared.code.Fields.{Fields}
 use Rattle.records.specs.Bytes.{stored}
 use Rattle.records.specs.Instructions.{fieldsBytes}
-use Rattle.trees.specs.Tree.{Tree, straight, nop, seq, skip-if-zero, if-zero, labels, size, flatAt, flat}
+use Rattle.trees.specs.Tree.{Tree, straight, nop, seq, if-zero, labels, flatAt, flat}
 use Rattle.trees.specs.Flat.{flat-from, length-flat}
 use Rattle.emit.specs.declared.cursor.Cursor.{Cursor}
 use Rattle.emit.specs.Emitted.{written, fieldsList, Emitted, Emits}
@@ -79,17 +79,6 @@ pub _⨟_ : {o o₁ o₂ : List ℕ} {p p₁ p₂ : Cursor} {t u : Tree} → Emi
 _⨟_ {p = p} {t = t} {u} d e =
     let k : flat u (p .counter + labels t) ≡ flatAt u (p .counter) (0 + labels t) = flat-from u (p .counter) (labels t) ∙ ap (flatAt u (p .counter)) (sym (zero-add (labels t))) in
     grown (seq t u) (then (λ c. fieldsList (flat u c)) (listed d) (listed e)) (rw (fields-append (flat t (p .counter)) (flatAt u (p .counter) (0 + labels t)), ← k)) refl
-
--- a part that is skipped
-pub skipped : {x : Code} (f : straight x ≡ true) (l : ℕ) {t : Tree} {o o₁ o₂ o₃ : List ℕ} {p p₁ p₂ p₃ : Cursor}
-    → Emitted o p o₁ p₁ (fieldsList (x ∷ JEL l ∷ [])) 0
-    → Emits o₁ p₁ o₂ p₂ t
-    → Emitted o₂ p₂ o₃ p₃ (fieldsList (LAB l ∷ [])) 1
-    → l ≡ p .counter + labels t + 1
-    → Emits o p o₃ p₃ (skip-if-zero x f t)
-skipped {x} f l {t} {p = p} d e g k =
-    let k′ : p .counter + (0 + labels t + 1) ≡ l = omega arith in
-    grown (skip-if-zero x f t) (then₀ (λ c. fieldsList (flat t c)) d (listed e) ⨾ g) (rw (k′, fields-append (flat t (p .counter)) (LAB l ∷ []))) (omega arith)
 
 -- the same records from a cursor at the same byte with another counter
 moved : {o o′ : List ℕ} {p p′ q : Cursor} {xs : List Fields} {n : ℕ} (m : ℕ) → Emitted o p o′ q xs n → p′ .at ≡ p .at → Emitted o p′ o′ (record { at = q .at; counter = p′ .counter + m }) xs m

@@ -2,8 +2,7 @@
 use Prim.Native.Nat.{ℕ, _+_, _*_, _/_, _≤_, _<_}
 use mathlib.Core.Bool.{Bool, true, false, cond}
 use mathlib.Core.Path.{_≡_, refl, sym, ap, _∙_}
-use mathlib.Core.List.{List, [], _∷_, _++_}
-use native.Mathlib.Nat.{add-zero, add-suc, suc-add}
+use mathlib.Core.List.{List, [], _∷_}
 use native.Mathlib.Omega.{arith}
 use lib.Dec.{ltb}
 use lib.ListN.{length}
@@ -21,9 +20,8 @@ use Rattle.trees.specs.Flat.{length-flat}
 use Rattle.emit.specs.declared.cursor.Cursor.{Cursor}
 use Rattle.emit.specs.declared.answer.Answer.{Answer}
 use Rattle.emit.specs.declared.answer.Answer.the-variants.{Written, Labels, Room}
-use Rattle.emit.specs.Emitted.{written, fieldsList, Emitted, Emits}
-use Rattle.emit.specs.Answers.{granted, accepted, output, Answers}
-use Rattle.emit.specs.Laws.{listed, length-fields}
+use Rattle.emit.specs.Emitted.{written, fieldsList, Emits}
+use Rattle.emit.specs.Answers.{granted, accepted, Answers}
 
 pub bytes-long : (f : Fields) → length (fieldsBytes f) ≡ 24
 unfolding fieldsBytes le

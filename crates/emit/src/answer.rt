@@ -1,7 +1,6 @@
 // What an operation answers.
 ghost use mathlib.Core.Path.{_≡_};
-ghost use mathlib.Core.Bool.{Bool};
-ghost use Prim.Native.Nat.{_+_, _*_, _<_, _^_};
+ghost use Prim.Native.Nat.{_+_, _<_, _^_};
 ghost use Rattle.emit.specs.Answers.{granted, accepted};
 use crate::cursor::Cursor;
 

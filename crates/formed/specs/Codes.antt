@@ -1,68 +1,15 @@
 -- An instruction is well formed by the bounds of its operands alone: what its code does not use is zero in its record.
-use Prim.Native.Nat.{ℕ, _-_, _/_, _%_, _^_, _<_}
+use Prim.Native.Nat.{ℕ, _^_, _<_}
 use mathlib.Core.Path.{_≡_, refl, _∙_}
-use mathlib.Core.Bool.{Bool, true, false, _&&_}
+use mathlib.Core.Bool.{true, false}
 use native.Mathlib.Omega.{arith}
-use lib.Dec.{ltb, eqb}
-use lib.ListN.{getD}
 use borrow.Author.Tests.{lt-ltb, ne-eqb}
 use Rattle.records.specs.declared.code.Code.{Code}
-use Rattle.records.specs.declared.code.Code.the-variants.{ADD, ADDRM, ADDMR, ADDI, ADDIM, SUB, SUBRM, SUBMR, SUBI, IMUL, IMULRM, IMULMR, IDIV, IDIVM, CQO, JMP, JMPL, JMPLN, LEAL, MOV, MOVS, MOVL, MOVI, MOVIM, CMP, CMPRM, CMPMR, CMPI, CMPIM, JEL, JNEL, JLL, JLEL, JGL, JGEL, PUSH, POP, CALL, RET, LAB, NOEXECSTACK, TEXT, GLOBAL, EXTERN}
-use Rattle.records.specs.Codes.{fieldsOf, readers, codeOf}
-use Rattle.records.specs.Instructions.{used, labelOk, operandsOk, fieldsOk}
+use Rattle.records.specs.declared.code.Code.the-variants.{ADD, ADDRM, ADDMR, ADDI, ADDIM, SUB, SUBRM, SUBMR, SUBI, IMUL, IMULRM, IMULMR, IDIV, IDIVM, CQO, JMPL, MOV, MOVS, MOVL, MOVI, MOVIM, CMPI, CMPIM, JEL, PUSH, POP, CALL, LAB}
+use Rattle.records.specs.Codes.{fieldsOf}
+use Rattle.records.specs.Instructions.{labelOk}
 use Rattle.records.specs.ReadBack.{WellFormedCode}
-use Rattle.records.proofs.Uses.{usesTable}
-
--- whether a code uses a label
-abbrev labelled : Code → Bool
-labelled c = eqb (getD usesTable (fieldsOf c .code - 1) 0 / 4 % 2) 1
-
-ok-fields : (c : Code) → fieldsOk (fieldsOf c) ≡ ltb (fieldsOf c .a) 16 && ltb (fieldsOf c .b) 16 && labelOk (labelled c) (fieldsOf c .label) && true && true
-unfolding fieldsOk operandsOk used codeOf readers
-ok-fields (ADD a b) = refl
-ok-fields (ADDRM a b o) = refl
-ok-fields (ADDMR a o b) = refl
-ok-fields (ADDI a v) = refl
-ok-fields (ADDIM a o v) = refl
-ok-fields (SUB a b) = refl
-ok-fields (SUBRM a b o) = refl
-ok-fields (SUBMR a o b) = refl
-ok-fields (SUBI a v) = refl
-ok-fields (IMUL a b) = refl
-ok-fields (IMULRM a b o) = refl
-ok-fields (IMULMR a o b) = refl
-ok-fields (IDIV a) = refl
-ok-fields (IDIVM a o) = refl
-ok-fields CQO = refl
-ok-fields (JMP a) = refl
-ok-fields (JMPL l) = refl
-ok-fields (JMPLN l) = refl
-ok-fields (LEAL a l) = refl
-ok-fields (MOV a b) = refl
-ok-fields (MOVS a b o) = refl
-ok-fields (MOVL a b o) = refl
-ok-fields (MOVI a v) = refl
-ok-fields (MOVIM a o v) = refl
-ok-fields (CMP a b) = refl
-ok-fields (CMPRM a b o) = refl
-ok-fields (CMPMR a o b) = refl
-ok-fields (CMPI a v) = refl
-ok-fields (CMPIM a o v) = refl
-ok-fields (JEL l) = refl
-ok-fields (JNEL l) = refl
-ok-fields (JLL l) = refl
-ok-fields (JLEL l) = refl
-ok-fields (JGL l) = refl
-ok-fields (JGEL l) = refl
-ok-fields (PUSH a) = refl
-ok-fields (POP a) = refl
-ok-fields (CALL l) = refl
-ok-fields RET = refl
-ok-fields (LAB l) = refl
-ok-fields NOEXECSTACK = refl
-ok-fields TEXT = refl
-ok-fields (GLOBAL l) = refl
-ok-fields (EXTERN l) = refl
+use Rattle.records.proofs.CodesBack.{labelled, ok-fields}
 
 module _ (c : Code) (a : fieldsOf c .a < 16) (b : fieldsOf c .b < 16) (o : fieldsOf c .offset < 2 ^ 64) (v : fieldsOf c .value < 2 ^ 64) where
   general : fieldsOf c .label < 2 ^ 32 → labelOk (labelled c) (fieldsOf c .label) ≡ true → WellFormedCode c

@@ -9,6 +9,7 @@ use borrow.Author.Tests.{eqb-true, leb-true}
 use Rattle.records.specs.declared.order.Order.{Order}
 use Rattle.records.specs.declared.order.Order.the-variants.{Put, Compute, Copy, Drop, Store, Load, Print}
 use Rattle.records.specs.ReadBack.{WellFormedOrder}
+use Rattle.records.specs.Contexts.{extAt}
 use Rattle.trees.specs.Tree.{Tree, nop, seq, size}
 use Rattle.layout.specs.Config.{base}
 use Rattle.code.specs.Code.{moved}
@@ -16,7 +17,6 @@ use Rattle.code.specs.Sizes.{plain-arithmetic, plain-load-immediate, plain-mov}
 use Rattle.memory.specs.Blocks.{eraseBlock, shareBlock}
 use Rattle.memory.specs.Objects.{fst, snd, extIn}
 use Rattle.memory.specs.Sizes.{erase-size, share-size, store-object-size, object-size}
-use Rattle.printing.specs.Registers.{extAt}
 use Rattle.printing.specs.Sizes.{print-size}
 use Rattle.orders.specs.Writes.{copyVariable, copyTo, treeOf, present, asked}
 use Rattle.formed.specs.Formed.{Formed, none, _then_}

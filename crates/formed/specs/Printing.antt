@@ -6,14 +6,13 @@ use native.Mathlib.Omega.{arith}
 use lib.Dec.{eqb}
 use lib.ListN.{length, take, drop, length-take}
 use Rattle.records.specs.ReadBack.{Each}
-use Rattle.records.proofs.Each.{each-drop}
+use Rattle.records.proofs.Each.{each-drop, each-append}
 use Rattle.layout.specs.Config.{base}
 use Rattle.printing.specs.Registers.{registersOf, registersTo, registersToSave, firstBackup, backupsUsed}
 use Rattle.printing.specs.Print.{moves, movesBack, pushes, pops, saveRegisters, restoreRegisters, printName, callPrint, printI64}
 use Rattle.formed.specs.Formed.{Formed, none, one, _then_}
 use Rattle.formed.specs.Codes.{addi, subi, mov, movl, push, pop, call}
 use Rattle.formed.specs.Choices.{either, on-operand, offset-fits, stack, temp, block-register}
-use Rattle.formed.specs.Records.{each-append}
 
 -- a list of registers
 abbrev Registers : List ℕ → Type 0

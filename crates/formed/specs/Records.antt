@@ -1,15 +1,11 @@
 -- The records of a tree that is flattened are well formed: its own, and the jumps and labels that flattening adds.
 use Prim.Native.Nat.{ℕ, _+_, _^_, _<_}
-use mathlib.Core.List.{List, [], _∷_, _++_}
 use native.Mathlib.Omega.{arith}
 use Rattle.records.specs.ReadBack.{Each, WellFormedCode}
+use Rattle.records.proofs.Each.{each-append}
 use Rattle.trees.specs.Tree.{Tree, nop, leaf, seq, skip-if-zero, if-zero, labels, flatAt}
 use Rattle.formed.specs.Formed.{Formed, none, one, _then_, skipped, chosen}
 use Rattle.formed.specs.Codes.{jel, jmpl, lab}
-
-pub each-append : {A : Type 0} (P : A → Type 0) (xs ys : List A) → Each P xs → Each P ys → Each P (xs ++ ys)
-each-append P [] ys p q = q
-each-append P (x ∷ xs) ys p q = (p .0, each-append P xs ys (p .1) q)
 
 -- where n labels above the counter c are drawn already, and the last that the tree draws is below 2^31
 pub formed-records : (t : Tree) (c n : ℕ) → Formed t → c + (n + labels t) < 2 ^ 31 → Each WellFormedCode (flatAt t c n)

@@ -21,7 +21,8 @@ use Rattle.instructions.specs.Step.{Config, config, end, step}
 use Rattle.structured.specs.Evaluation.{done}
 use Rattle.structured.specs.Claims.{Reaches}
 use Rattle.structured.proofs.Steps.{drop-part, after}
-use Rattle.routine.specs.Routine.{argument, moveArguments, head, cleanup}
+use Rattle.routine.specs.Routine.{argument, head, cleanup}
+use Rattle.routine.proofs.Assembling.{head-length}
 use Rattle.framing.specs.Claims.{SavedIn, SetUp, Returned, routine, fresh, Returns, RoutineReturns}
 use Rattle.framing.proofs.Through.{through, reached, ended}
 
@@ -139,13 +140,6 @@ exits words registers b s =
     }
 
 -- ---- the whole
-
-moves-length : (n : ℕ) → length (moveArguments n) ≡ n
-moves-length zero = refl
-moves-length (suc n) = omega (arith, moves-length n)
-
-head-length : (n : ℕ) → length (head base n) ≡ 16 + n
-head-length n = omega (arith, moves-length n)
 
 module _ (words : ℕ → ℕ) (n : ℕ) (body : List Code) (v : View) where
   abbrev p : List Code

@@ -1,11 +1,11 @@
 -- Records one after the other, none of which jumps, at a place of a list; and the return.
-use Prim.Native.Nat.{ℕ, zero, suc, _+_, _-_, _≤_, _<_}
+use Prim.Native.Nat.{ℕ, suc, _+_, _-_, _≤_, _<_}
 use mathlib.Core.Path.{_≡_, refl, ap, _∙_}
 use mathlib.Core.List.{List, [], _∷_, _++_}
 use mathlib.Core.Option.{Option, none, some}
 use native.Mathlib.Omega.{arith}
 use native.Mathlib.Nat.{add-zero, zero-add}
-use lib.ListN.{length, drop, getElem?}
+use lib.ListN.{length, drop}
 use Rattle.records.specs.declared.code.Code.{Code}
 use Rattle.instructions.specs.Step.{Config, Outcome, next, jump, end, fault, step}
 use Rattle.machine.specs.declared.run.Answer.the-variants.{Ended}
@@ -13,8 +13,7 @@ use Rattle.machine.specs.Run.{runs}
 use Rattle.machine.specs.Run as machine
 use Rattle.structured.specs.Evaluation.{done}
 use Rattle.structured.specs.Claims.{Reaches}
-use Rattle.structured.proofs.Labels.{nil-cons}
-use Rattle.structured.proofs.Steps.{drop-one, after, stepped}
+use Rattle.structured.proofs.Steps.{drop-one, at-drop, after, stepped}
 
 abbrev onNext : Outcome → (Config → Option Config) → Option Config
 onNext (next c) k = k c
@@ -29,12 +28,6 @@ through words (x ∷ xs) c = onNext (step words x c) (λ d. through words xs d)
 
 unlike : {A : Type 0} {d : Config} → none ≡ some d → A
 unlike e = let z : _≡_ {A = ℕ} 0 1 = cc in absurd (omega arith)
-
-at-drop : (p : List Code) (i : ℕ) {x : Code} {xs : List Code} → drop i p ≡ x ∷ xs → getElem? p i ≡ some x
-at-drop [] zero e = absurd (nil-cons e)
-at-drop [] (suc i) e = absurd (nil-cons e)
-at-drop (y ∷ ys) zero e = cc
-at-drop (y ∷ ys) (suc i) e = at-drop ys i e
 
 module _ (words : ℕ → ℕ) (p : List Code) where
   pub reached : (xs : List Code) (i : ℕ) (rest : List Code) (c d : Config) → drop i p ≡ xs ++ rest → through words xs c ≡ some d → Reaches words p (length xs) i (i + length xs) c d

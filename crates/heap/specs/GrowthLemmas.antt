@@ -6,13 +6,12 @@ use native.Mathlib.Decide.{ℕ-discrete}
 use native.Mathlib.Omega.{arith}
 use lib.ListN.{length, length-append}
 use Rattle.heap.specs.Counting.{occ}
-use Rattle.heap.specs.Blocks.{Layout, Cell, cell, pointers, Memory}
+use Rattle.heap.specs.Blocks.{Layout, Cell, Memory}
 use Rattle.heap.specs.Reachability.{ReachableCount}
 use Rattle.heap.specs.Values.{Values, countOf, concat, lengths}
 use Rattle.heap.specs.Orders.{Order, plain, Legal, Performs, puts, makes-copies, drops, stores-none, stores-some, loads-none, loads-last, loads-shared}
-use Rattle.heap.specs.Invariant.{Consistent, spare, Represents}
-use Rattle.heap.specs.CountingLemmas.{occ-pointers, length-le}
-use Rattle.heap.specs.BlockLemmas.{block-once}
+use Rattle.heap.specs.Invariant.{Consistent, Represents}
+use Rattle.heap.specs.CountingLemmas.{length-le}
 use Rattle.heap.specs.ValueLemmas.{hold-count}
 use Rattle.heap.specs.ConsistencyLemmas.{reachable-held}
 use Rattle.heap.specs.RoomLemmas.{reachable-counted}
@@ -30,7 +29,7 @@ reachable-below {k = k} g r =
         at b (yes z) = omega arith
         at b (no z) = omega (arith, r .once b, reachable-held g (r .listed b z) .is-live)
 
-lengths-length : (chunks : List (List Cell)) → length (lengths chunks) ≡ length chunks
+pub lengths-length : (chunks : List (List Cell)) → length (lengths chunks) ≡ length chunks
 lengths-length [] = refl
 lengths-length (c ∷ chunks) = ap suc (lengths-length chunks)
 

@@ -1,6 +1,6 @@
 -- The temporaries of a variable. From document 01: equal ids, `variable_temporary` takes the first; `fresh_temporary` is past the last.
 use Prim.Native.Nat.{ℕ, zero, suc, _+_, _*_}
-use mathlib.Core.Bool.{Bool, cond}
+use mathlib.Core.Bool.{cond}
 use mathlib.Core.List.{List}
 use lib.Dec.{ltb, eqb}
 use lib.ListN.{drop}

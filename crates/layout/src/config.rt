@@ -15,8 +15,6 @@ pub const RETURN1: u8 = 4;
 
 pub const RETURN2: u8 = 5;
 
-pub const FIELDS_PER_BLOCK: u64 = 3;
-
 // The spill that holds register 4 while a load borrows it.
 pub const SPILL_TEMP: u64 = 16;
 

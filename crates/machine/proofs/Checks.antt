@@ -1,8 +1,8 @@
 -- A list of records that a check accepts is whole, and each record of it is well formed.
-use Prim.Native.Nat.{ℕ, zero, suc, _-_, _*_, _≤_, _<_, min}
+use Prim.Native.Nat.{ℕ, zero, suc, _*_, _≤_, _<_, min}
 use mathlib.Core.Path.{_≡_, refl, sym, ap, _∙_}
 use mathlib.Core.Bool.{Bool, true, false, _&&_, cond}
-use mathlib.Core.List.{List, []}
+use mathlib.Core.List.{List}
 use native.Mathlib.Omega.{arith}
 use lib.Dec.{ltb, eqb}
 use lib.ListN.{length, drop, length-drop}
@@ -19,9 +19,7 @@ use Rattle.instructions.specs.View.{View, view}
 use Rattle.instructions.specs.Memory.{heapOk}
 use Rattle.machine.specs.Run.{Done, causeOf, Leaves, codesOf, started, ran}
 use Rattle.machine.specs.Loop.{Listed, Ends}
-
-unlike : {A : Type 0} → _≡_ {A = ℕ} 0 1 → A
-unlike e = absurd (omega arith)
+use Rattle.machine.proofs.Running.{unlike}
 
 -- each record from place k on passes the test
 module _ (ok : List ℕ → Bool) (size limit : ℕ) (s : List ℕ) where

@@ -16,7 +16,6 @@ use Rattle.records.specs.Instructions.{fieldsIn, fieldsOk}
 use Rattle.records.specs.ReadBack.{codeIn}
 use Rattle.records.proofs.CodesRead.{ok-code}
 use Rattle.instructions.specs.declared.instruction.Compared.{Compared}
-use Rattle.instructions.specs.declared.instruction.Compared.the-variants.{Absent}
 use Rattle.instructions.specs.declared.instruction.Pair.{Pair}
 use Rattle.instructions.specs.declared.instruction.Went.{Went}
 use Rattle.instructions.specs.declared.instruction.Went.the-variants.{Next, Called, Jump, End, Fault}
@@ -52,7 +51,7 @@ code-past zero k s h = refl
 code-past (suc n) zero s h = absurd (omega arith)
 code-past (suc n) (suc k) s h = code-past n k (drop 24 s) (omega arith)
 
-unlike : {A : Type 0} → _≡_ {A = ℕ} 0 1 → A
+pub unlike : {A : Type 0} → _≡_ {A = ℕ} 0 1 → A
 unlike e = absurd (omega arith)
 
 -- what follows a record's answer w, with the state t, the pair q and the calls made before it

@@ -7,10 +7,9 @@ use native.Mathlib.Omega.{arith}
 use lib.Dec.{eqb}
 use lib.ListN.{getD}
 use borrow.Author.Tests.{lt-ltb, le-ltb, eqb-true, eqb-false, ne-eqb}
-use Rattle.records.specs.declared.code.Code.{Code}
-use Rattle.records.specs.declared.code.Code.the-variants.{ADD, ADDRM, ADDMR, ADDI, ADDIM, SUB, SUBRM, SUBMR, SUBI, IMUL, IMULRM, IMULMR, IDIV, IDIVM, CQO, JMP, JMPL, JMPLN, LEAL, MOV, MOVS, MOVL, MOVI, MOVIM, CMP, CMPRM, CMPMR, CMPI, CMPIM, JEL, JNEL, JLL, JLEL, JGL, JGEL, PUSH, POP, CALL, RET, LAB, NOEXECSTACK, TEXT, GLOBAL, EXTERN}
+use Rattle.records.specs.declared.code.Code.the-variants.{EXTERN}
 use Rattle.records.specs.declared.code.Fields.{Fields}
-use Rattle.records.specs.Codes.{fieldsOf, readers, codeOf}
+use Rattle.records.specs.Codes.{readers, codeOf}
 use Rattle.instructions.specs.Step.{Config, Outcome, fault, arithmetic, step}
 use Rattle.instructions.specs.Forms.{operandOf, resultOf, holdsOf}
 use Rattle.instructions.proofs.Forms.{NoneFrom, none-from}

@@ -11,7 +11,6 @@ ghost use Rattle.machine.specs.Loop.{Listed, labWith, First, turnOf, End
 use crate::state::State;
 use crate::step;
 use instructions::instruction::NONE;
-use instructions::instruction::Pair;
 use instructions::instruction::Went;
 use instructions::memory;
 use records::bytes;

@@ -29,7 +29,7 @@ module _ (words : ℕ → ℕ) (v : View) (u : Tree) where
   answered : {o : Evaluated} → evaluate words u (fresh v) ≡ o → Answers (length (flat u 0)) (started words (flat u 0) (length (flat u 0)) v) o
   answered e = subst (Answers (length (flat u 0)) (started words (flat u 0) (length (flat u 0)) v)) e answers
 
-  ends : {Q : Config → Type 0} → Does words u (fresh v) Q → EndsWith words (flat u 0) v Q
+  pub ends : {Q : Config → Type 0} → Does words u (fresh v) Q → EndsWith words (flat u 0) v Q
   ends r = let e = answered (r .run) in record { steps = e .0; within = e .1; last = r .to; run = e .2; post = r .post }
 
   faults : (t : ℕ) → Stops words u (fresh v) t → FaultsWith words (flat u 0) v t

@@ -1,10 +1,10 @@
 -- Code for one block: sharing, erasing, acquiring and releasing it, and its fields stored and loaded, as trees.
 -- From memory.rs. An operand is a word: below 16 a register, else a spill, which goes by TEMP where an instruction wants a register.
-use Prim.Native.Nat.{ℕ, zero, suc, _+_, _*_}
+use Prim.Native.Nat.{ℕ, zero, suc}
 use mathlib.Core.Path.{refl}
 use mathlib.Core.Bool.{cond}
 use lib.Dec.{ltb}
-use Rattle.records.specs.declared.code.Code.the-variants.{ADDI, ADDIM, MOV, MOVS, MOVL, MOVI, MOVIM, CMPI, CMPIM}
+use Rattle.records.specs.declared.code.Code.the-variants.{ADDI, ADDIM, MOV, MOVS, MOVL, MOVIM, CMPI, CMPIM}
 use Rattle.trees.specs.Tree.{Tree, nop, leaf, seq, skip-if-zero, if-zero}
 use Rattle.layout.specs.Config.{Config, STACK, TEMP, HEAP, FREE, stackOffset, fstOffset, blockBytes, MINUSONE}
 

@@ -6,8 +6,8 @@ use mathlib.Core.Path.{refl}
 use mathlib.Core.Bool.{Bool, true, false, not, _&&_, cond}
 use mathlib.Core.List.{List}
 use lib.Dec.{ltb, eqb}
-use lib.ListN.{getD}
 use Rattle.records.specs.declared.code.Code.the-variants.{ADDIM, MOVS, MOVL, MOVIM, CMPIM}
+use Rattle.records.specs.Contexts.{extAt}
 use Rattle.trees.specs.Tree.{Tree, nop, leaf, seq, if-zero}
 use Rattle.layout.specs.Config.{Config, STACK, TEMP, HEAP, RETURN1, SPILLTEMP, stackOffset, fstOffset, sndOffset, MINUSONE}
 use Rattle.layout.specs.Positions.{location}
@@ -22,7 +22,7 @@ snd v = location (2 * v + 1)
 
 -- whether variable v is an integer, where the binding records s start with that of variable `first`
 abbrev pub extIn : List ℕ → ℕ → ℕ → Bool
-extIn s first v = eqb (getD s (8 * (v - first) + 2) 0) 1
+extIn s first v = extAt s (v - first)
 
 -- a zero in the Fst of each of the first n fields
 abbrev pub storeZeros : ℕ → Tree

@@ -1,5 +1,4 @@
 // One block, from memory.rs: erased, shared, acquired, released; a field stored and loaded.
-ghost use mathlib.Core.Path.{_≡_};
 ghost use Prim.Native.Nat.{_+_, _<_, _≤_, _^_};
 ghost use Rattle.emit.specs.Emitted.{fieldsList, Emitted, Emits};
 ghost use lib.ListN.{length};

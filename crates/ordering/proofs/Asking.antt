@@ -11,9 +11,9 @@ use Rattle.records.proofs.Conditions.{and-left, and-right}
 use Rattle.records.specs.declared.order.Operation.{Operation}
 use Rattle.records.specs.declared.order.Order.{Order}
 use Rattle.records.specs.declared.order.Order.the-variants.{Put, Compute, Copy, Drop, Store, Load, Print}
+use Rattle.records.specs.Contexts.{extAt}
 use Rattle.layout.specs.Config.{base}
 use Rattle.memory.specs.LoadAnswered.{loadFits}
-use Rattle.printing.specs.Registers.{extAt}
 use Rattle.orders.specs.Writes.{present, asked}
 use Rattle.ordering.specs.After.{countAfter}
 

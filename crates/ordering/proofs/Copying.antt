@@ -1,13 +1,12 @@
--- One variable of those to copy, one byte of those to keep, one binding of those to make.
+-- One variable of those to copy, one binding of those to make.
 use Prim.Native.Nat.{ℕ, zero, suc, _+_, _*_, _-_, _≤_, _<_}
 use mathlib.Core.Path.{_≡_, refl, sym}
 use mathlib.Core.Bool.{Bool}
 use mathlib.Core.List.{List}
-use native.Mathlib.Nat.{add-zero, add-suc}
 use native.Mathlib.Numerals.{add-one}
 use native.Mathlib.Omega.{arith}
-use lib.ListN.{length, getD, set, take, drop, length-append, drop-of-length-le}
-use lib.Seq.{sets, drop-cons, getD-take, length-take-le}
+use lib.ListN.{length, length-append}
+use lib.Seq.{sets}
 use Rattle.records.specs.declared.binding.Kind.{Kind}
 use Rattle.records.specs.declared.binding.Binding.{Binding}
 use Rattle.records.specs.Bytes.{le, stored}
@@ -26,22 +25,6 @@ next-copy ext a v (suc n) h = let e : suc n - 1 ≡ n = omega arith in rw (e, ad
 
 pub none-copied : {o : List ℕ} {p : Cursor} (ext : Bool) (a v : ℕ) {n : ℕ} → n ≡ 0 → Emits o p o p (copyTo base ext a v n)
 none-copied ext a v e = rw e emits-nop
-
--- one byte copied of those left
-pub next-byte : (o s : List ℕ) (at i count : ℕ) → i < count → count ≤ length s
-    → sets o (at + i) (drop i (take count s)) ≡ sets (set o (at + i) (getD s i 0)) (at + (i + 1)) (drop (i + 1) (take count s))
-next-byte o s at i count h l =
-    let m = length-take-le count s l in
-    rw (drop-cons (take count s) i 0 (omega arith), getD-take count s i 0 h, add-one i, add-suc at i)
-
-pub no-byte : (o s : List ℕ) (at : ℕ) → sets o (at + 0) (drop 0 s) ≡ sets o at s
-no-byte o s at = rw add-zero
-
-pub copied : (o s t : List ℕ) (at count : ℕ) {i : ℕ} → count ≤ i → count ≤ length s → sets o (at + i) (drop i (take count s)) ≡ t → o ≡ t
-copied o s t at count {i} h l e =
-    let m = length-take-le count s l in
-    let z : length (take count s) ≤ i = omega arith in
-    rw (drop-of-length-le (take count s) z) at e
 
 pub binding-long : (b : Binding) → length (bindingBytes b) ≡ 8
 unfolding bindingBytes le

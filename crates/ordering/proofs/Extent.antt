@@ -6,6 +6,7 @@ use mathlib.Core.List.{List}
 use native.Mathlib.Omega.{arith}
 use Rattle.records.specs.declared.order.Order.{Order}
 use Rattle.records.specs.declared.order.Order.the-variants.{Put, Compute, Copy, Drop, Store, Load, Print}
+use Rattle.records.specs.Contexts.{extAt}
 use Rattle.trees.specs.Tree.{nop, seq, labels, size}
 use Rattle.layout.specs.Config.{base}
 use Rattle.code.specs.Code.{moved}
@@ -13,7 +14,6 @@ use Rattle.code.specs.Sizes.{plain-mov, plain-arithmetic, plain-load-immediate}
 use Rattle.memory.specs.Blocks.{eraseBlock, shareBlock}
 use Rattle.memory.specs.Objects.{fst, snd, extIn}
 use Rattle.memory.specs.Sizes.{within, erase-size, share-size, store-object-size, object-size}
-use Rattle.printing.specs.Registers.{extAt}
 use Rattle.printing.specs.Sizes.{print-size}
 use Rattle.orders.specs.Writes.{copyVariable, copyTo, treeOf, present, asked}
 use Rattle.ordering.proofs.Asking.{copy-there, copy-asks, copies-few, store-there, store-fits, load-few}

@@ -1,11 +1,10 @@
 -- The context after an order: how long it is, and that what is kept and what is made or brought are it.
-use Prim.Native.Nat.{ℕ, zero, suc, _+_, _*_, _-_, _≤_, _<_}
+use Prim.Native.Nat.{ℕ, _*_, _-_, _≤_, _<_}
 use mathlib.Core.Path.{_≡_, subst}
-use mathlib.Core.Bool.{Bool, _&&_}
+use mathlib.Core.Bool.{Bool}
 use mathlib.Core.List.{List, _++_, append-nil}
 use native.Mathlib.Omega.{arith}
-use lib.Dec.{ltb}
-use lib.ListN.{length, take, drop, length-append}
+use lib.ListN.{length, take, length-append}
 use lib.Seq.{sets, take-all, take-length, length-take-le}
 use Rattle.records.specs.declared.binding.Kind.{Kind}
 use Rattle.records.specs.declared.binding.Kind.the-variants.{Linked, Ext}
@@ -13,22 +12,14 @@ use Rattle.records.specs.declared.check.Checked.the-variants.{Good}
 use Rattle.records.specs.declared.order.Operation.{Operation}
 use Rattle.records.specs.declared.order.Order.{Order}
 use Rattle.records.specs.declared.order.Order.the-variants.{Put, Compute, Copy, Drop, Store, Load, Print}
-use Rattle.records.specs.Checked.{firstBad, places, checked}
+use Rattle.records.specs.Checked.{places, checked}
 use Rattle.records.specs.Contexts.{bindingStarts, checkedContext}
-use Rattle.records.proofs.Checking.{passed}
+use Rattle.records.proofs.Checking.{all-checked}
 use Rattle.records.proofs.BindingsRead.{context-within}
 use Rattle.records.proofs.Storing.{sets-then}
 use Rattle.orders.specs.Writes.{made, madeAll, kindAt, wanted, contextAfter}
 use Rattle.ordering.specs.After.{countAfter}
 use Rattle.ordering.proofs.Copying.{binding-long, made-long}
-
--- a list that is accepted has all its records checked
-all-checked : (ok : List ℕ → Bool) (size limit : ℕ) (s : List ℕ) (k n m : ℕ) → firstBad ok size limit s k n ≡ Good m → m ≡ k + n
-unfolding firstBad
-all-checked ok size limit s k zero m e = let q : m ≡ k = cc in omega arith
-all-checked ok size limit s k (suc n) m e =
-    let p = passed (ltb k limit && ok (drop (size * k) s)) (firstBad ok size limit s (suc k) n) (suc k) e in
-    omega (arith, all-checked ok size limit s (suc k) n m (p .1))
 
 -- a context that is accepted is its bindings, and no byte more
 pub context-long : (s : List ℕ) (n : ℕ) → checkedContext s ≡ Good n → length s ≡ 8 * n

@@ -6,6 +6,7 @@ use mathlib.Core.List.{List}
 use Rattle.records.specs.declared.order.Operation.{Operation}
 use Rattle.records.specs.declared.order.Order.{Order}
 use Rattle.records.specs.declared.order.Order.the-variants.{Put, Compute, Copy, Drop, Store, Load, Print}
+use Rattle.records.specs.Contexts.{extAt}
 use Rattle.trees.specs.Tree.{Tree, nop, seq}
 use Rattle.emit.specs.declared.cursor.Cursor.{Cursor}
 use Rattle.emit.specs.Emitted.{Emits}
@@ -14,7 +15,6 @@ use Rattle.code.specs.Code.{loadImmediate, arithmetic}
 use Rattle.memory.specs.Blocks.{eraseBlock, shareBlock}
 use Rattle.memory.specs.Objects.{fst, snd, extIn, storeObject, loadObject}
 use Rattle.printing.specs.Print.{printI64}
-use Rattle.printing.specs.Registers.{extAt}
 use Rattle.orders.specs.Writes.{copyTo, treeOf}
 
 -- the same records under another name

@@ -27,18 +27,6 @@ pub fn count_after(k: u64, order: Order) -> u64
     }
 }
 
-// The first `count` bytes of `from`, from byte `at` on.
-fn copy_bytes(out: &mut [u8], at: usize, from: &[u8], count: usize)
-    requires { ⌜ (count ≤ length (now from)) × (at + count ≤ length (now out)) ⌝ }
-    ensures { λ r. ⌜ now (out .exit) ≡ sets (now (out .entry)) at (take count (now (from .entry))) ⌝ }
-{
-    let mut i = 0;
-    while i < count {
-        out[at + i] = from[i];
-        i += 1;
-    }
-}
-
 // The bindings of n made variables, from byte `at` on.
 fn make_bindings(out: &mut [u8], at: usize, kind: Kind, place: u64, n: u64)
     requires { ⌜ (place + n < 2 ^ 32) × (at + 8 * n ≤ length (now out)) ⌝ }
@@ -68,7 +56,7 @@ fn keep_and_make(out: &mut [u8], context: &[u8], kept: u64, kind: Kind, n: u64)
     ensures { λ r. ⌜ now (out .exit) ≡ sets (now (out .entry)) 0 (take (8 * kept) (now (context .entry)) ++ madeAll kind kept n) ⌝ }
 {
     let end = (8 * kept) as usize;
-    copy_bytes(out, 0, context, end);
+    records::bytes::copy_bytes(out, 0, context, end);
     make_bindings(out, end, kind, kept, n);
 }
 
@@ -78,8 +66,8 @@ fn keep_and_bring(out: &mut [u8], context: &[u8], kept: u64, bindings: &[u8])
     ensures { λ r. ⌜ now (out .exit) ≡ sets (now (out .entry)) 0 (take (8 * kept) (now (context .entry)) ++ now (bindings .entry)) ⌝ }
 {
     let end = (8 * kept) as usize;
-    copy_bytes(out, 0, context, end);
-    copy_bytes(out, end, bindings, bindings.len());
+    records::bytes::copy_bytes(out, 0, context, end);
+    records::bytes::copy_bytes(out, end, bindings, bindings.len());
 }
 
 // The kind of variable a.

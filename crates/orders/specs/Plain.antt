@@ -1,25 +1,22 @@
 -- The plain machine that never frees, fed the orders that were accepted. From document 01, 'Plain machine of demand 3'.
-use Prim.Native.Nat.{ℕ, suc, _-_, _^_}
+use Prim.Native.Nat.{ℕ, _-_, _^_}
 use mathlib.Core.Path.{_≡_}
-use mathlib.Core.Bool.{Bool, true, false, not, _&&_}
+use mathlib.Core.Bool.{Bool, true, not, _&&_}
 use mathlib.Core.List.{List}
 use lib.Dec.{eqb}
 use Rattle.records.specs.declared.order.Operation.{Operation}
 use Rattle.records.specs.declared.order.Operation.the-variants.{Add, Sub, Mul, Div, Rem}
 use Rattle.records.specs.declared.order.Order.{Order}
 use Rattle.records.specs.declared.order.Order.the-variants.{Put, Compute, Copy, Drop, Store, Load, Print}
+use Rattle.records.specs.Contexts.{extAt}
 use Rattle.word.specs.Words.{sum, difference, product, quotient, remainder}
-use Rattle.printing.specs.Registers.{extAt}
+pub use Rattle.heap.specs.Orders.{listOf}
 use Rattle.heap.specs.Values.{Value, integer, object, Values, nil, cons, countOf, joined, firstOf, restOf, valueAt, copies, KindsFrom}
 
--- a value's integer, and its list
+-- a value's integer
 abbrev pub integerOf : Value → ℕ
 integerOf (integer w) = w
 integerOf (object tag vs) = 0
-
-abbrev pub listOf : Value → Values
-listOf (integer w) = nil
-listOf (object tag vs) = vs
 
 -- wrapped at 2^64; quotients and remainders are signed and truncate toward zero
 abbrev pub result : Operation → ℕ → ℕ → ℕ

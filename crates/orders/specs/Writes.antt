@@ -2,21 +2,20 @@
 -- `context` is the bytes of k bindings, `bindings` those that follow a load; variables go by place, from 0, and a made variable's id is its place.
 use Prim.Native.Nat.{ℕ, zero, suc, _+_, _*_, _-_}
 use mathlib.Core.Bool.{Bool, true, not, _&&_, cond}
-use mathlib.Core.List.{List, [], _∷_, _++_}
+use mathlib.Core.List.{List, [], _++_}
 use lib.Dec.{ltb, leb, eqb}
-use lib.ListN.{getD, take}
+use lib.ListN.{take}
 use Rattle.records.specs.declared.binding.Kind.{Kind}
 use Rattle.records.specs.declared.binding.Kind.the-variants.{Linked, Ext}
 use Rattle.records.specs.declared.order.Order.{Order}
 use Rattle.records.specs.declared.order.Order.the-variants.{Put, Compute, Copy, Drop, Store, Load, Print}
-use Rattle.records.specs.Contexts.{bindingBytes}
+use Rattle.records.specs.Contexts.{bindingBytes, extAt}
 use Rattle.trees.specs.Tree.{Tree, nop, seq}
 use Rattle.layout.specs.Config.{Config}
 use Rattle.code.specs.Code.{loadImmediate, moved, arithmetic}
 use Rattle.memory.specs.Blocks.{eraseBlock, shareBlock}
 use Rattle.memory.specs.Objects.{fst, snd, extIn, storeObject, loadObject}
 use Rattle.printing.specs.Print.{printI64}
-use Rattle.printing.specs.Registers.{extAt}
 
 -- the bytes of a made variable's binding
 abbrev pub made : Kind → ℕ → List ℕ

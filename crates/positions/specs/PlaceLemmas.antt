@@ -1,17 +1,17 @@
 -- The place that a register and an offset name: a spill's word of the stack, a block's word of the heap; and what is read and written there.
-use mathlib.Core.Path.{_≡_, refl, sym, _∙_}
+use mathlib.Core.Path.{_≡_, refl}
 use mathlib.Core.Bool.{Bool, true, false, cond}
-use mathlib.Core.Option.{Option, some}
+use mathlib.Core.Option.{some}
 use Prim.Native.Nat.{ℕ, _+_, _-_, _*_, _/_, _%_, _^_, _≤_, _<_}
 use native.Mathlib.Omega.{arith}
-use lib.Dec.{leb, ltb, eqb}
-use borrow.Author.Tests.{eq-eqb, lt-ltb, le-ltb, lt-leb, le-leb, ltb-true, ltb-false}
+use lib.Dec.{ltb}
+use borrow.Author.Tests.{lt-ltb, lt-leb, le-leb, ltb-true, ltb-false}
 use Rattle.word.specs.Words.{sum}
 use Rattle.layout.specs.Config.{base, stackOffset}
 use Rattle.instructions.specs.declared.memory.Place.the-variants.{Stack, Heap}
 use Rattle.instructions.specs.declared.memory.Loaded.the-variants.{Word}
 use Rattle.instructions.specs.View.{View, putReg, putStk, putMem}
-use Rattle.instructions.specs.Memory.{Operand, register, memory, placeOf, valueOf, assigned}
+use Rattle.instructions.specs.Memory.{register, memory, placeOf, valueOf, assigned}
 use Rattle.positions.specs.Held.{stackWord, heldIn, operandAt, withOperand, PlacedAt, blockAddress}
 use Rattle.positions.specs.HeldLemmas.{held-register, held-spill}
 

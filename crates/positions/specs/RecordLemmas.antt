@@ -9,7 +9,7 @@ use Rattle.layout.specs.Config.{base, stackOffset}
 use Rattle.instructions.specs.declared.memory.Loaded.the-variants.{Word}
 use Rattle.instructions.specs.View.{View}
 use Rattle.instructions.specs.Memory.{Operand, register, memory, valueOf, assigned}
-use Rattle.instructions.specs.Step.{Config, moved, changed, dropped, Outcome, next, move, arithmetic, compare, step}
+use Rattle.instructions.specs.Step.{Config, moved, changed, dropped, next, move, arithmetic, compare, step}
 use Rattle.structured.specs.Evaluation.{evaluate, evaluated, done}
 use Rattle.positions.specs.Held.{held, withRegister, withSpill, withHeap, withPair, Placed, blockAddress}
 use Rattle.positions.specs.PlaceLemmas.{block-read, block-written, spill-read, spill-written}
@@ -24,20 +24,6 @@ module _ (c : Config) (dest src : Operand) {y : ℕ} where
 
   pub compares : {x : ℕ} → valueOf (c .state) src ≡ Word y → valueOf (c .state) dest ≡ Word x → compare dest src c ≡ next (withPair c x y)
   compares e d = rw (e, d)
-
--- a register and a spill
-module _ {N : ℕ} (c : Config) (v : Placed N c) (l : ℕ) (h : 16 ≤ l) (b : l < 272) (a : ℕ) where
-  pub into-register : (f : ℕ → ℕ → ℕ) → arithmetic f (register a) (memory 0 (stackOffset base l)) c ≡ next (dropped (withRegister c a (f (c .state .reg a) (held c l))))
-  into-register f = computes c (register a) (memory 0 (stackOffset base l)) f (spill-read (c .state) v l h b) refl refl
-
-  pub into-spill : (f : ℕ → ℕ → ℕ) → arithmetic f (memory 0 (stackOffset base l)) (register a) c ≡ next (dropped (withSpill c l (f (held c l) (c .state .reg a))))
-  into-spill f = computes c (memory 0 (stackOffset base l)) (register a) f refl (spill-read (c .state) v l h b) (spill-written (c .state) v l h b (f (held c l) (c .state .reg a)))
-
-  pub register-with-spill : compare (register a) (memory 0 (stackOffset base l)) c ≡ next (withPair c (c .state .reg a) (held c l))
-  register-with-spill = compares c (register a) (memory 0 (stackOffset base l)) (spill-read (c .state) v l h b) refl
-
-  pub spill-with-register : compare (memory 0 (stackOffset base l)) (register a) c ≡ next (withPair c (held c l) (c .state .reg a))
-  spill-with-register = compares c (memory 0 (stackOffset base l)) (register a) refl (spill-read (c .state) v l h b)
 
 module _ (words : ℕ → ℕ) where
   pub register-MOV : (c : Config) (a b : ℕ) → evaluate words (leaf (MOV a b) refl) c ≡ done (withRegister c a (c .state .reg b))

@@ -4,9 +4,9 @@ use mathlib.Core.Bool.{true, false}
 use Prim.Native.Nat.{ℕ}
 use lib.Dec.{eqb}
 use Rattle.records.specs.declared.code.Code.{Code}
-use Rattle.trees.specs.Tree.{Tree, leaf, seq, skip-if-zero, if-zero, straight}
+use Rattle.trees.specs.Tree.{Tree, seq, skip-if-zero, if-zero, straight}
 use Rattle.instructions.specs.Step.{Config, dropped, next, step}
-use Rattle.structured.specs.Evaluation.{done, evaluate, evaluated}
+use Rattle.structured.specs.Evaluation.{done, evaluate}
 use Rattle.positions.specs.Held.{withPair}
 
 pub record Does (words : ℕ → ℕ) (t : Tree) (c : Config) (Q : Config → Type 0) : Type 0 where

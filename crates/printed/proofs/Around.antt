@@ -8,12 +8,14 @@ use native.Mathlib.Omega.{arith}
 use lib.Dec.{eqb}
 use lib.ListN.{length, take, drop, length-drop}
 use Rattle.records.specs.declared.code.Code.the-variants.{MOV, CALL}
+use Rattle.records.specs.ReadBack.{Each}
+use Rattle.records.proofs.Each.{each-drop}
 use Rattle.trees.specs.Tree.{leaf, seq}
 use Rattle.instructions.specs.View.{View}
 use Rattle.instructions.specs.Step.{Call, Config}
 use Rattle.printing.specs.Print.{moves, pushes, saveRegisters, restoreRegisters, printName}
 use Rattle.positions.specs.Runs.{Does, so, then}
-use Rattle.printed.proofs.Each.{Each, Low, each-take, each-drop, each-join, each-both}
+use Rattle.printed.proofs.Each.{Low, each-take, each-join, each-both}
 use Rattle.printed.proofs.Stack.{stackAddress}
 use Rattle.printed.proofs.Saved.{Beside, Backed, Stacked, moves-do, pushes-do}
 use Rattle.printed.proofs.Restored.{backed-same, back-does, pops-do}

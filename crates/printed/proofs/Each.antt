@@ -5,12 +5,10 @@ use mathlib.Core.Bool.{Bool, true, false}
 use mathlib.Core.List.{List, [], _∷_, _++_}
 use native.Mathlib.Decide.{decLt}
 use native.Mathlib.Omega.{arith}
-use lib.ListN.{length, take, drop, length-append}
+use lib.ListN.{take, drop}
+use Rattle.records.specs.ReadBack.{Each}
+use Rattle.records.proofs.Each.{each-append}
 use Rattle.printing.specs.Registers.{registersOf, registersTo}
-
-abbrev pub Each : (ℕ → Type 0) → List ℕ → Type 0
-Each P [] = Unit {0}
-Each P (r ∷ rs) = P r × Each P rs
 
 module _ (P : ℕ → Type 0) where
   pub each-take : (n : ℕ) (rs : List ℕ) → Each P rs → Each P (take n rs)
@@ -18,19 +16,10 @@ module _ (P : ℕ → Type 0) where
   each-take (suc n) [] a = tt
   each-take (suc n) (r ∷ rs) a = (a .0, each-take n rs (a .1))
 
-  pub each-drop : (n : ℕ) (rs : List ℕ) → Each P rs → Each P (drop n rs)
-  each-drop zero rs a = a
-  each-drop (suc n) [] a = tt
-  each-drop (suc n) (r ∷ rs) a = each-drop n rs (a .1)
-
   pub each-join : (n : ℕ) (rs : List ℕ) → Each P (take n rs) → Each P (drop n rs) → Each P rs
   each-join zero rs a b = b
   each-join (suc n) [] a b = tt
   each-join (suc n) (r ∷ rs) a b = (a .0, each-join n rs (a .1) b)
-
-  each-append : (rs qs : List ℕ) → Each P rs → Each P qs → Each P (rs ++ qs)
-  each-append [] qs a b = b
-  each-append (r ∷ rs) qs a b = (a .0, each-append rs qs (a .1) b)
 
   each-first : (rs qs : List ℕ) → Each P (rs ++ qs) → Each P rs
   each-first [] qs a = tt
@@ -70,11 +59,3 @@ registers-low ext (suc k) h = each-append Low (registersTo ext k) (registersOf (
     by : (b : Bool) → Each Low (registersOf b k)
     by true = ((omega arith, omega arith), tt)
     by false = ((omega arith, omega arith), ((omega arith, omega arith), tt))
-
-pub registers-few : (ext : ℕ → Bool) (k : ℕ) → length (registersTo ext k) ≤ 2 * k
-registers-few ext zero = omega arith
-registers-few ext (suc k) = omega (arith, registers-few ext k, by (ext k), length-append (registersTo ext k) (registersOf (ext k) k))
-  where
-    by : (b : Bool) → length (registersOf b k) ≤ 2
-    by true = omega arith
-    by false = omega arith

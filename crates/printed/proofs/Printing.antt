@@ -1,39 +1,36 @@
 -- print_i64 of a position of the context: the source to TEMP if it is a spill, and the call with the registers of the first four variables saved around it.
 use Prim.Native.Nat.{ℕ, zero, suc, _+_, _*_, _≤_, _<_, min}
-use mathlib.Core.Path.{_≡_, refl, sym, ap, _∙_, subst}
+use mathlib.Core.Path.{_≡_, refl, sym, ap, _∙_}
 use mathlib.Core.Logic.{_≢_}
 use mathlib.Core.Bool.{Bool, true, false, cond}
 use mathlib.Core.List.{List, [], _∷_, _++_}
 use native.Mathlib.Decide.{decLt}
-use native.Mathlib.Nat.{add-zero}
 use native.Mathlib.Omega.{arith}
 use lib.Dec.{ltb}
 use lib.ListN.{length}
 use borrow.Author.Tests.{ltb-true, ltb-false}
 use Rattle.records.specs.declared.code.Code.the-variants.{MOV, MOVL, CALL}
-use Rattle.trees.specs.Tree.{Tree, nop, leaf, seq, size, flat}
-use Rattle.trees.specs.Flat.{length-flat}
+use Rattle.records.specs.Contexts.{extAt}
+use Rattle.trees.specs.Tree.{nop, leaf, seq}
 use Rattle.layout.specs.Config.{base, STACK, TEMP, stackOffset}
 use Rattle.layout.specs.Positions.{location}
 use Rattle.word.specs.Words.{choose}
-use Rattle.printing.specs.Registers.{extAt, registersToSave, firstBackup, backupsUsed}
+use Rattle.printing.specs.Registers.{registersToSave, firstBackup, backupsUsed}
+use Rattle.printing.specs.Sizes.{registers-most}
 use Rattle.printing.specs.Print.{saveRegisters, restoreRegisters, printName, printI64}
 use Rattle.instructions.specs.declared.instruction.Compared.the-variants.{Absent}
 use Rattle.instructions.specs.View.{View}
 use Rattle.instructions.specs.Step.{Call, Config, config}
-use Rattle.machine.specs.Run.{started}
-use Rattle.structured.specs.Evaluation.{evaluate}
-use Rattle.structured.specs.Claims.{Answers, TreeRunsWhole}
-use Rattle.structured.proofs.Trees.{tree-runs-whole}
 use Rattle.positions.specs.Held.{stackWord, held, withRegister, Placed}
 use Rattle.positions.specs.HeldLemmas.{upd-other, held-register, held-spill, location-low, location-high, location-fits}
 use Rattle.positions.specs.RecordLemmas.{spill-MOVL}
 use Rattle.positions.specs.Runs.{Does, go, so}
+use Rattle.meaning.proofs.Ran.{ends}
 use Rattle.heap.specs.Blocks.{Cell, cell}
 use Rattle.bridge.specs.Variables.{variable, variables}
 use Rattle.bridge.specs.Shown.{heapOf}
-use Rattle.printed.specs.Claims.{Prints, RunsTo, PrintKeepsAllVariables}
-use Rattle.printed.proofs.Each.{saved-of, registers-low, registers-few}
+use Rattle.printed.specs.Claims.{Prints, PrintKeepsAllVariables}
+use Rattle.printed.proofs.Each.{saved-of, registers-low}
 use Rattle.printed.proofs.Stack.{stackAddress}
 use Rattle.printed.proofs.Called.{callOf}
 use Rattle.printed.proofs.Around.{Around, around-does}
@@ -102,7 +99,7 @@ module _ (words : ℕ → ℕ) {N : ℕ} (ext : ℕ → Bool) (newline : Bool) (
   from-register : (x : ℕ) (d : Config) → x ≢ 0 → x < f → d .state .reg 0 ≡ stackAddress 57
       → Does words (seq (saveRegisters f used (registersToSave ext n)) (seq (seq (leaf (MOV 7 x) refl) (leaf (CALL (printName newline)) refl)) (restoreRegisters f used (registersToSave ext n)))) d
       (Around (d .state) (d .calls ++ (callOf newline (d .state .reg x) ∷ [])) f (registersToSave ext n))
-  from-register = around-does words f (omega arith) newline used (registersToSave ext n) (registers-low ext (min n 4) (omega arith)) (omega (arith, registers-few ext (min n 4)))
+  from-register = around-does words f (omega arith) newline used (registersToSave ext n) (registers-low ext (min n 4) (omega arith)) (omega (arith, registers-most ext (min n 4)))
 
   module _ (p : ℕ) (h : p < 2 * n) (k : p < 267) where
     abbrev w : ℕ
@@ -165,17 +162,7 @@ print-does words ext newline c k a v h b x =
       s .called,
     ))
 
--- a tree's records with their number as step limit
-module _ (words : ℕ → ℕ) (v : View) (u : Tree) where
-  answers : Answers (length (flat u 0)) (started words (flat u 0) (length (flat u 0)) v) (evaluate words u (config v Absent []))
-  unfolding TreeRunsWhole
-  answers = rw (length-flat u 0 0) (rw (add-zero (size u)) at (tree-runs-whole words u 0 0 v))
-
-  runs-to : {Q : Config → Type 0} → Does words u (config v Absent []) Q → RunsTo words (flat u 0) v Q
-  runs-to r =
-      record { last = r .to; run = subst (Answers (length (flat u 0)) (started words (flat u 0) (length (flat u 0)) v)) (r .run) answers; post = r .post }
-
 pub print-keeps-all-variables : PrintKeepsAllVariables
 unfolding PrintKeepsAllVariables
 print-keeps-all-variables words N v s n p newline h q l k =
-    rw q (runs-to words v (printI64 base newline (location p) (extAt s) n) (position-printed words (extAt s) newline (config v Absent []) n h p l k))
+    rw q (ends words v (printI64 base newline (location p) (extAt s) n) (position-printed words (extAt s) newline (config v Absent []) n h p l k))

@@ -6,6 +6,7 @@ use mathlib.Core.List.{List, [], _∷_}
 use native.Mathlib.Decide.{ℕ-discrete}
 use native.Mathlib.Omega.{arith}
 use lib.ListN.{length}
+use Rattle.records.specs.ReadBack.{Each}
 use Rattle.instructions.specs.View.{View, upd}
 use Rattle.instructions.specs.Step.{Call, Config}
 use Rattle.printing.specs.Print.{movesBack, pops}
@@ -13,7 +14,7 @@ use Rattle.positions.specs.Held.{withRegister}
 use Rattle.positions.specs.HeldLemmas.{upd-same, upd-other}
 use Rattle.positions.specs.RecordLemmas.{register-MOV}
 use Rattle.positions.specs.Runs.{Does, one, go, so, then}
-use Rattle.printed.proofs.Each.{Each, Low, each-both}
+use Rattle.printed.proofs.Each.{Low, each-both}
 use Rattle.printed.proofs.Stack.{stackAddress, pop-does}
 use Rattle.printed.proofs.Saved.{Beside, Backed, Stacked}
 

@@ -5,6 +5,7 @@ use mathlib.Core.Logic.{_≢_}
 use mathlib.Core.List.{List, [], _∷_}
 use native.Mathlib.Omega.{arith}
 use lib.ListN.{length}
+use Rattle.records.specs.ReadBack.{Each}
 use Rattle.instructions.specs.View.{View, upd, putReg, putStk}
 use Rattle.instructions.specs.Step.{Call, Config, changed}
 use Rattle.printing.specs.Print.{moves, pushes}
@@ -12,7 +13,7 @@ use Rattle.positions.specs.Held.{withRegister}
 use Rattle.positions.specs.HeldLemmas.{upd-same, upd-other}
 use Rattle.positions.specs.RecordLemmas.{register-MOV}
 use Rattle.positions.specs.Runs.{Does, one, go, so}
-use Rattle.printed.proofs.Each.{Each, Low}
+use Rattle.printed.proofs.Each.{Low}
 use Rattle.printed.proofs.Stack.{stackAddress, push-does}
 
 -- the spills and the heap are those of o, and the calls are z

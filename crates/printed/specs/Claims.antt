@@ -5,21 +5,16 @@ use Prim.Native.Nat.{ℕ, _+_, _*_, _≤_, _<_}
 use mathlib.Core.Path.{_≡_}
 use mathlib.Core.Bool.{Bool, false}
 use mathlib.Core.List.{List, [], _∷_, _++_}
-use lib.ListN.{length}
 use Rattle.records.specs.declared.check.Checked.the-variants.{Good}
-use Rattle.records.specs.declared.code.Code.{Code}
-use Rattle.records.specs.Contexts.{checkedContext}
+use Rattle.records.specs.Contexts.{checkedContext, extAt}
 use Rattle.layout.specs.Config.{base, STACK, HEAP, FREE}
 use Rattle.layout.specs.Positions.{location, positions}
-use Rattle.printing.specs.Registers.{extAt}
 use Rattle.printing.specs.Print.{printName, printRecords}
 use Rattle.instructions.specs.declared.instruction.Compared.the-variants.{Absent}
 use Rattle.instructions.specs.View.{View}
 use Rattle.instructions.specs.Step.{Config, config}
-use Rattle.machine.specs.Run.{started}
-use Rattle.structured.specs.Evaluation.{done}
-use Rattle.structured.specs.Claims.{Answers}
 use Rattle.positions.specs.Held.{held, Placed}
+use Rattle.meaning.specs.Claims.{EndsWith}
 
 -- from c to d a word was printed, and the n variables of these kinds and the heap are as they were
 pub record Prints (newline : Bool) (word : ℕ) (ext : ℕ → Bool) (n : ℕ) (c d : Config) : Type 0 where
@@ -35,16 +30,10 @@ pub record Prints (newline : Bool) (word : ℕ) (ext : ℕ → Bool) (n : ℕ) (
   pub heap-kept : d .state .mem ≡ c .state .mem
   pub size-kept : d .state .size ≡ c .state .size
 
--- the records run alone, from the first and with their number as step limit, to their end
-pub record RunsTo (words : ℕ → ℕ) (records : List Code) (v : View) (Q : Config → Type 0) : Type 0 where
-  pub last : Config
-  pub run : Answers (length records) (started words records (length records) v) (done last)
-  pub post : Q last
-
 -- print_i64 of any position of a context of n variables
 unfoldable pub PrintKeepsAllVariables : Type 0
 PrintKeepsAllVariables =
     (words : ℕ → ℕ) (blocks : ℕ) (v : View) (context : List ℕ) (n p : ℕ) (newline : Bool) → Placed blocks (config v Absent [])
     → checkedContext context ≡ Good n → p < 2 * n → p < positions base
-    → RunsTo words (printRecords base newline (location p) context (checkedContext context)) v
+    → EndsWith words (printRecords base newline (location p) context (checkedContext context)) v
     (Prints newline (held (config v Absent []) (location p)) (extAt context) n (config v Absent []))

@@ -10,14 +10,14 @@ use Rattle.records.specs.declared.check.Checked.{Checked}
 use Rattle.records.specs.declared.check.Checked.the-variants.{Good, Malformed}
 use Rattle.records.specs.declared.code.Code.{Code}
 use Rattle.records.specs.declared.code.Code.the-variants.{ADDI, SUBI, MOV, MOVL, PUSH, POP, CALL}
-use Rattle.records.specs.Contexts.{checkedContext}
+use Rattle.records.specs.Contexts.{checkedContext, extAt}
 use Rattle.trees.specs.Tree.{Tree, straight, nop, leaf, seq, size, flat}
 use Rattle.emit.specs.declared.answer.Answer.{Answer}
 use Rattle.emit.specs.declared.answer.Answer.the-variants.{Context, Operand}
 use Rattle.emit.specs.Answers.{granted, Answers}
 use Rattle.layout.specs.Config.{Config, base, STACK, TEMP, stackOffset}
 use Rattle.layout.specs.Positions.{operandOk}
-use Rattle.printing.specs.Registers.{extAt, registersToSave, firstBackup, backupsUsed}
+use Rattle.printing.specs.Registers.{registersToSave, firstBackup, backupsUsed}
 
 -- each register into the next free one, from f on
 abbrev pub moves : ℕ → List ℕ → Tree

@@ -5,11 +5,7 @@ use Prim.Native.Nat.{ℕ, zero, suc, _+_, _*_, _-_, _/_, _%_, _^_, min, max}
 use mathlib.Core.Bool.{Bool, cond}
 use mathlib.Core.List.{List, [], _∷_, _++_}
 use lib.Dec.{eqb}
-use lib.ListN.{getD}
-
--- whether variable v of the context s is an integer
-abbrev pub extAt : List ℕ → ℕ → Bool
-extAt s v = eqb (getD s (8 * v + 2) 0) 1
+pub use Rattle.records.specs.Contexts.{extAt}
 
 -- the registers of variable v, below 4: both of a linked one, an integer's Snd alone
 abbrev pub registersOf : Bool → ℕ → List ℕ

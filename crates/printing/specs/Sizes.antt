@@ -75,7 +75,7 @@ own-most : (ext : Bool) (v : ℕ) → length (registersOf ext v) ≤ 2
 own-most true v = omega arith
 own-most false v = omega arith
 
-registers-most : (ext : ℕ → Bool) (k : ℕ) → length (registersTo ext k) ≤ 2 * k
+pub registers-most : (ext : ℕ → Bool) (k : ℕ) → length (registersTo ext k) ≤ 2 * k
 registers-most ext zero = omega arith
 registers-most ext (suc k) = omega (arith, length-append (registersTo ext k) (registersOf (ext k) k), own-most (ext k) k, registers-most ext k)
 

@@ -2,7 +2,8 @@
 ghost use mathlib.Core.Path.{_≡_};
 ghost use Prim.Native.Nat.{_+_, _*_, _≤_, _<_};
 ghost use lib.ListN.{length};
-ghost use Rattle.printing.specs.Registers.{extAt, registersToSave, setOf, twoBits, firstBackup, backupsUsed};
+ghost use Rattle.records.specs.Contexts.{extAt};
+ghost use Rattle.printing.specs.Registers.{registersToSave, setOf, twoBits, firstBackup, backupsUsed};
 
 // The two bits of variable v: an integer's Snd alone.
 fn two_bits(context: &[u8], v: usize) -> u16

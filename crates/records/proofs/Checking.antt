@@ -41,6 +41,14 @@ pub passed : {m : ℕ} (b : Bool) (c : Checked) (place : ℕ) → cond b c (Malf
 passed true c place e = (refl, e)
 passed false c place e = (cc, cc)
 
+-- a list that is accepted has all its records checked
+pub all-checked : (ok : List ℕ → Bool) (size limit : ℕ) (s : List ℕ) (k n m : ℕ) → firstBad ok size limit s k n ≡ Good m → m ≡ k + n
+unfolding firstBad
+all-checked ok size limit s k zero m e = let q : m ≡ k = cc in omega arith
+all-checked ok size limit s k (suc n) m e =
+    let p = passed (ltb k limit && ok (drop (size * k) s)) (firstBad ok size limit s (suc k) n) (suc k) e in
+    omega (arith, all-checked ok size limit s (suc k) n m (p .1))
+
 -- a list that is accepted has no more records than the limit, all of them whole
 module _ (ok : List ℕ → Bool) (size limit : ℕ) (s : List ℕ) (whole : (t : List ℕ) → ok t ≡ true → size ≤ length t) where
   pub good-within : (k n m : ℕ) → firstBad ok size limit s k n ≡ Good m → k ≤ limit → size * k ≤ length s → (m ≤ limit) × (size * m ≤ length s)

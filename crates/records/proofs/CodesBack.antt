@@ -1,10 +1,10 @@
 -- An instruction written as a record and read back, and a record read as an instruction and written again.
-use Prim.Native.Nat.{ℕ, _≤_}
+use Prim.Native.Nat.{ℕ, _-_, _/_, _%_, _≤_}
 use mathlib.Core.Path.{_≡_, refl, _∙_}
-use mathlib.Core.Bool.{true, _&&_}
+use mathlib.Core.Bool.{Bool, true, _&&_}
 use mathlib.Core.List.{List, _++_}
 use native.Mathlib.Omega.{arith}
-use lib.Dec.{leb, eqb}
+use lib.Dec.{leb, ltb, eqb}
 use lib.ListN.{length, getD, drop}
 use borrow.Author.Tests.{le-leb, leb-true, eqb-true}
 use Rattle.records.specs.declared.code.Code.{Code}
@@ -12,61 +12,72 @@ use Rattle.records.specs.declared.code.Code.the-variants.{ADD, ADDRM, AD
 use Rattle.records.specs.declared.code.Fields.{Fields}
 use Rattle.records.specs.Bytes.{le, number}
 use Rattle.records.specs.Codes.{fields, fieldsOf, readers, codeOf}
-use Rattle.records.specs.Instructions.{fieldsBytes, fieldsIn, used, operandsOk, fieldsOk, codeStarts}
+use Rattle.records.specs.Instructions.{fieldsBytes, fieldsIn, used, labelOk, operandsOk, fieldsOk, codeStarts}
 use Rattle.records.specs.ReadBack.{Bytes, WellFormedCode, codeBytes, codeIn}
 use Rattle.records.proofs.Conditions.{and-right, both}
 use Rattle.records.proofs.CodesRead.{ok-code}
 use Rattle.records.proofs.Digits.{number-le, le-number, first-four}
 use Rattle.records.proofs.Joined.{Laws}
+use Rattle.records.proofs.Uses.{usesTable}
 use Rattle.records.proofs.Kept.{kept, kept-whole, kept-last, read-at}
 
--- an instruction is that of its fields
+-- whether a code uses a label
+abbrev pub labelled : Code → Bool
+labelled c = eqb (getD usesTable (fieldsOf c .code - 1) 0 / 4 % 2) 1
+
+-- an instruction is that of its fields, which are well formed by their bounds: what its code does not use is zero in its record
+code-facts : (c : Code) → (codeOf (fieldsOf c) ≡ c) × (fieldsOk (fieldsOf c) ≡ ltb (fieldsOf c .a) 16 && ltb (fieldsOf c .b) 16 && labelOk (labelled c) (fieldsOf c .label) && true && true)
+unfolding codeOf readers fieldsOk operandsOk used
+code-facts (ADD a b) = (refl, refl)
+code-facts (ADDRM a b o) = (refl, refl)
+code-facts (ADDMR a o b) = (refl, refl)
+code-facts (ADDI a v) = (refl, refl)
+code-facts (ADDIM a o v) = (refl, refl)
+code-facts (SUB a b) = (refl, refl)
+code-facts (SUBRM a b o) = (refl, refl)
+code-facts (SUBMR a o b) = (refl, refl)
+code-facts (SUBI a v) = (refl, refl)
+code-facts (IMUL a b) = (refl, refl)
+code-facts (IMULRM a b o) = (refl, refl)
+code-facts (IMULMR a o b) = (refl, refl)
+code-facts (IDIV a) = (refl, refl)
+code-facts (IDIVM a o) = (refl, refl)
+code-facts CQO = (refl, refl)
+code-facts (JMP a) = (refl, refl)
+code-facts (JMPL l) = (refl, refl)
+code-facts (JMPLN l) = (refl, refl)
+code-facts (LEAL a l) = (refl, refl)
+code-facts (MOV a b) = (refl, refl)
+code-facts (MOVS a b o) = (refl, refl)
+code-facts (MOVL a b o) = (refl, refl)
+code-facts (MOVI a v) = (refl, refl)
+code-facts (MOVIM a o v) = (refl, refl)
+code-facts (CMP a b) = (refl, refl)
+code-facts (CMPRM a b o) = (refl, refl)
+code-facts (CMPMR a o b) = (refl, refl)
+code-facts (CMPI a v) = (refl, refl)
+code-facts (CMPIM a o v) = (refl, refl)
+code-facts (JEL l) = (refl, refl)
+code-facts (JNEL l) = (refl, refl)
+code-facts (JLL l) = (refl, refl)
+code-facts (JLEL l) = (refl, refl)
+code-facts (JGL l) = (refl, refl)
+code-facts (JGEL l) = (refl, refl)
+code-facts (PUSH a) = (refl, refl)
+code-facts (POP a) = (refl, refl)
+code-facts (CALL l) = (refl, refl)
+code-facts RET = (refl, refl)
+code-facts (LAB l) = (refl, refl)
+code-facts NOEXECSTACK = (refl, refl)
+code-facts TEXT = (refl, refl)
+code-facts (GLOBAL l) = (refl, refl)
+code-facts (EXTERN l) = (refl, refl)
+
 pub code-fields : (c : Code) → codeOf (fieldsOf c) ≡ c
-unfolding codeOf readers
-code-fields (ADD a b) = refl
-code-fields (ADDRM a b o) = refl
-code-fields (ADDMR a o b) = refl
-code-fields (ADDI a v) = refl
-code-fields (ADDIM a o v) = refl
-code-fields (SUB a b) = refl
-code-fields (SUBRM a b o) = refl
-code-fields (SUBMR a o b) = refl
-code-fields (SUBI a v) = refl
-code-fields (IMUL a b) = refl
-code-fields (IMULRM a b o) = refl
-code-fields (IMULMR a o b) = refl
-code-fields (IDIV a) = refl
-code-fields (IDIVM a o) = refl
-code-fields CQO = refl
-code-fields (JMP a) = refl
-code-fields (JMPL l) = refl
-code-fields (JMPLN l) = refl
-code-fields (LEAL a l) = refl
-code-fields (MOV a b) = refl
-code-fields (MOVS a b o) = refl
-code-fields (MOVL a b o) = refl
-code-fields (MOVI a v) = refl
-code-fields (MOVIM a o v) = refl
-code-fields (CMP a b) = refl
-code-fields (CMPRM a b o) = refl
-code-fields (CMPMR a o b) = refl
-code-fields (CMPI a v) = refl
-code-fields (CMPIM a o v) = refl
-code-fields (JEL l) = refl
-code-fields (JNEL l) = refl
-code-fields (JLL l) = refl
-code-fields (JLEL l) = refl
-code-fields (JGL l) = refl
-code-fields (JGEL l) = refl
-code-fields (PUSH a) = refl
-code-fields (POP a) = refl
-code-fields (CALL l) = refl
-code-fields RET = refl
-code-fields (LAB l) = refl
-code-fields NOEXECSTACK = refl
-code-fields TEXT = refl
-code-fields (GLOBAL l) = refl
-code-fields (EXTERN l) = refl
+code-fields c = code-facts c .0
+
+pub ok-fields : (c : Code) → fieldsOk (fieldsOf c) ≡ ltb (fieldsOf c .a) 16 && ltb (fieldsOf c .b) 16 && labelOk (labelled c) (fieldsOf c .label) && true && true
+ok-fields c = code-facts c .1
 
 -- the fields of f that are used, where u has a 1 in those
 abbrev keptFields : ℕ → Fields → Fields → Fields

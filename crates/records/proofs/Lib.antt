@@ -5,6 +5,7 @@ pub mod Numbers  -- a number's bytes read one by one, in two halves, and from a 
 pub mod Starting  -- what stands at the start of a part of a list
 pub mod Uses  -- which fields each code uses
 pub mod Storing  -- stores one after the other are one
+pub mod Copying  -- bytes copied one after the other
 pub mod Checking  -- the turns and the ends of a check of a list
 pub mod CodesRead  -- an instruction record that is read
 pub mod BindingsRead  -- a binding that is read

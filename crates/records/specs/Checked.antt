@@ -1,7 +1,7 @@
 -- The first bad or surplus record of a list of bytes, for records of any kind and size.
 -- From document 01: 'The place is the first bad or surplus record's', 'record places count from 1'.
 use Prim.Native.Nat.{ℕ, zero, suc, _+_, _*_, _-_, _/_}
-use mathlib.Core.Bool.{Bool, true, false, _&&_, cond}
+use mathlib.Core.Bool.{Bool, _&&_, cond}
 use mathlib.Core.List.{List, [], _∷_}
 use lib.Dec.{ltb}
 use lib.ListN.{length, drop}

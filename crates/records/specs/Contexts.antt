@@ -1,7 +1,7 @@
 -- Binding records: their 8 bytes, which are well formed, and contexts of them. From document 01, 'Binding record'.
 use Prim.Native.Nat.{ℕ, _+_, _*_}
 use mathlib.Core.Bool.{Bool, _&&_, cond}
-use mathlib.Core.List.{List, [], _∷_, _++_}
+use mathlib.Core.List.{List, [], _∷_}
 use lib.Dec.{leb, eqb}
 use lib.ListN.{length, getD, drop}
 use Rattle.records.specs.declared.check.Checked.{Checked}
@@ -20,6 +20,10 @@ kindByte Ext = 1
 
 abbrev pub kindOf : ℕ → Kind
 kindOf k = cond (eqb k 0) Linked Ext
+
+-- whether variable v of the context s is an integer
+abbrev pub extAt : List ℕ → ℕ → Bool
+extAt s v = eqb (getD s (8 * v + 2) 0) 1
 
 -- the 8 bytes of a binding
 unfoldable pub bindingBytes : Binding → List ℕ

@@ -1,11 +1,10 @@
 -- Instruction records: their 24 bytes, which are well formed, and what is read from them. From document 01, 'Instruction record'.
-use Prim.Native.Nat.{ℕ, _+_, _*_, _/_, _%_, min}
-use mathlib.Core.Bool.{Bool, true, false, not, _&&_, _||_, cond}
-use mathlib.Core.List.{List, [], _∷_, _++_}
+use Prim.Native.Nat.{ℕ, _*_, _/_, _%_, min}
+use mathlib.Core.Bool.{Bool, true, not, _&&_, _||_, cond}
+use mathlib.Core.List.{List, _∷_, _++_}
 use lib.Dec.{leb, ltb, eqb}
 use lib.ListN.{length, getD, drop}
 use Rattle.records.specs.declared.check.Checked.{Checked}
-use Rattle.records.specs.declared.code.Code.{Code}
 use Rattle.records.specs.declared.code.Fields.{Fields}
 use Rattle.records.specs.declared.code.CodeRead.{CodeRead}
 use Rattle.records.specs.declared.code.CodeRead.the-variants.{Record, Malformed}

@@ -1,6 +1,6 @@
 -- Records that are written are read back the same, at every place; and what is read, written again, gives the same bytes.
 -- One claim over the three kinds of records, in terms of what the contracts of reading, checking and writing cite.
-use Prim.Native.Nat.{ℕ, zero, suc, _+_, _*_, _^_, _≤_, _<_, min}
+use Prim.Native.Nat.{ℕ, zero, suc, _^_, _≤_, _<_, min}
 use mathlib.Core.Path.{_≡_}
 use mathlib.Core.Bool.{true}
 use mathlib.Core.List.{List, [], _∷_, _++_}

@@ -1,8 +1,8 @@
-// Little-endian numbers in slices of bytes.
+// Little-endian numbers in slices of bytes, and bytes copied.
 ghost use mathlib.Core.Path.{_≡_};
 ghost use mathlib.Core.List.{[], _∷_};
 ghost use Prim.Native.Nat.{_+_, _*_, _≤_, min};
-ghost use lib.ListN.{length};
+ghost use lib.ListN.{length, take};
 ghost use lib.Seq.{sets};
 ghost use Rattle.records.specs.Bytes.{le, number};
 
@@ -71,4 +71,16 @@ pub fn least(x: usize, y: usize) -> usize
     ensures { λ r. ⌜ r ≡ min x y ⌝ }
 {
     if x < y { x } else { y }
+}
+
+// The first `count` bytes of `from`, from byte `at` on.
+pub fn copy_bytes(out: &mut [u8], at: usize, from: &[u8], count: usize)
+    requires { ⌜ (count ≤ length (now from)) × (at + count ≤ length (now out)) ⌝ }
+    ensures { λ r. ⌜ now (out .exit) ≡ sets (now (out .entry)) at (take count (now (from .entry))) ⌝ }
+{
+    let mut i = 0;
+    while i < count {
+        out[at + i] = from[i];
+        i += 1;
+    }
 }

@@ -4,8 +4,8 @@ use mathlib.Core.Path.{_≡_, refl, sym, ap, _∙_}
 use mathlib.Core.Bool.{Bool, true, false}
 use mathlib.Core.List.{List, _++_}
 use native.Mathlib.Omega.{arith}
-use lib.ListN.{length, length-append}
-use lib.Seq.{sets, length-sets}
+use lib.ListN.{length, take, length-append}
+use lib.Seq.{sets, length-sets, take-length}
 use borrow.Author.Tests.{le-ltb}
 use Rattle.records.specs.ReadBack.{joined, codeBytes}
 use Rattle.records.proofs.CodesBack.{code-laws}
@@ -24,7 +24,7 @@ arguments-length : (n : ℕ) → length (moveArguments n) ≡ n
 arguments-length zero = refl
 arguments-length (suc n) = ap suc (arguments-length n)
 
-head-length : (n : ℕ) → length (head base n) ≡ 16 + n
+pub head-length : (n : ℕ) → length (head base n) ≡ 16 + n
 head-length n = omega (arith, arguments-length n)
 
 head-bytes : (n : ℕ) → length (joined codeBytes (head base n)) ≡ 24 * (16 + n)
@@ -45,7 +45,7 @@ body-place n d z = omega (arith, d .place, length-fields (head base n), head-len
 pub assembled : {o o₁ o₂ o₃ : List ℕ} {p q e z : Cursor} (n : ℕ) (body : List ℕ)
     → 24 * (25 + n) + length body ≤ length o
     → Emitted o p o₁ q (fieldsList (head base n)) 0 → p .at ≡ 0
-    → o₂ ≡ sets o₁ (q .at) body
+    → o₂ ≡ sets o₁ (q .at) (take (length body) body)
     → Emitted o₂ e o₃ z (fieldsList (cleanup base)) 0 → e .at ≡ q .at + length body
     → o₃ ≡ sets o 0 (routineBytes base n body)
 unfolding routineBytes
@@ -55,7 +55,7 @@ assembled {o} {o₁} {o₂} {o₃} {p} {q} {e} n body h d s b c t =
     let k = body-place n d s in
     let j = head-bytes n in
     let first : o₁ ≡ sets o 0 A = d .bytes ∙ rw s (written-whole (head base n) o 0 (omega (arith, head-length n))) in
-    let second : o₂ ≡ sets (sets o 0 A) (q .at) body = rw (← first) b in
+    let second : o₂ ≡ sets (sets o 0 A) (q .at) body = rw (← first) (rw (take-length body) at b) in
     let long : length o₂ ≡ length o = rw second (length-sets (sets o 0 A) (q .at) body ∙ length-sets o 0 A) in
     c .bytes
     ∙ written-whole (cleanup base) o₂ (e .at) (omega arith)

@@ -1,3 +1,3 @@
 -- Lemmas of the proofs on routines.
-pub mod Parts  -- one argument more, one byte more, the body's length
+pub mod Parts  -- one argument more, the body's length
 pub mod Assembling  -- head, body and cleanup are the routine

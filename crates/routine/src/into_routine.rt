@@ -143,25 +143,13 @@ fn emit_cleanup(out: &mut [u8], p: Cursor) -> Cursor
     emit::cursor::emit(out, s, Row(RET, 0, 0, 0, 0, 0))
 }
 
-// The body's bytes as they are, from byte `at` on.
-fn copy_body(out: &mut [u8], at: usize, body: &[u8])
-    requires { ⌜ at + length (now body) ≤ length (now out) ⌝ }
-    ensures { λ r. ⌜ now (out .exit) ≡ sets (now (out .entry)) at (now (body .entry)) ⌝ }
-{
-    let mut i = 0;
-    while i < body.len() {
-        out[at + i] = body[i];
-        i += 1;
-    }
-}
-
 // The routine from the output's start on.
 fn assemble(out: &mut [u8], body: &[u8], n: usize)
     requires { ⌜ (n < 6) × (length (now body) < 2 ^ 32) × (24 * (25 + n) + length (now body) ≤ length (now out)) ⌝ }
     ensures { λ r. ⌜ now (out .exit) ≡ sets (now (out .entry)) 0 (routineBytes base n (now (body .entry))) ⌝ }
 {
     let q = emit_head(out, Cursor { at: 0, counter: 0 }, n);
-    copy_body(out, q.at, body);
+    records::bytes::copy_bytes(out, q.at, body, body.len());
     let end = q.at + body.len();
     emit_cleanup(
         out,

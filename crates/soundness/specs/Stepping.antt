@@ -28,7 +28,7 @@ use Rattle.formed.specs.Orders.{order-formed, order-size}
 use Rattle.contexts.specs.After.{OwedKinds, count-within, context-after}
 use Rattle.printed.proofs.Printing.{print-does}
 use Rattle.orders.specs.Plain.{plainly}
-use Rattle.orders.specs.Writes.{treeOf, contextAfter, present, kindsOk, asked}
+use Rattle.orders.specs.Writes.{treeOf, contextAfter, present, kindsOk}
 use Rattle.orders.specs.Answered.{orderIs}
 use Rattle.playing.specs.Playing.{Channel}
 use Rattle.soundness.specs.Claims.{Item, stateOf, Owed, acquires, callsOf, changes}

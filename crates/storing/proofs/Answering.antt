@@ -1,14 +1,13 @@
 -- From a checked context to what a store of its last n variables answers.
 use Prim.Native.Nat.{ℕ, _+_, _*_, _-_, _≤_, _<_}
-use mathlib.Core.Path.{_≡_, refl, sym, ap, _∙_}
+use mathlib.Core.Path.{_≡_, sym, ap, _∙_}
 use mathlib.Core.Bool.{Bool, true, false, cond}
 use mathlib.Core.List.{List}
 use native.Mathlib.Omega.{arith}
 use native.Mathlib.Decide.{ℕ-discrete, decLt}
-use lib.Dec.{ltb, eqb}
+use lib.Dec.{ltb}
 use borrow.Author.Tests.{lt-ltb, le-ltb, eq-eqb, ne-eqb, ltb-true}
 use Rattle.records.specs.declared.check.Checked.the-variants.{Good}
-use Rattle.records.specs.declared.code.Code.{Code}
 use Rattle.records.specs.Contexts.{checkedContext}
 use Rattle.trees.specs.Tree.{Tree, flat}
 use Rattle.emit.specs.declared.answer.Answer.{Answer}

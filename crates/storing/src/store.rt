@@ -3,10 +3,10 @@
 ghost use mathlib.Core.Path.{_≡_};
 ghost use mathlib.Core.Bool.{_&&_};
 ghost use Prim.Native.Nat.{_+_, _*_, _-_, _<_, _≤_, _^_};
-ghost use lib.Dec.{ltb, eqb};
-ghost use lib.ListN.{length, getD};
+ghost use lib.Dec.{ltb};
+ghost use lib.ListN.{length};
 ghost use Rattle.records.specs.declared.check.Checked.the-variants.{Good};
-ghost use Rattle.records.specs.Contexts.{checkedContext};
+ghost use Rattle.records.specs.Contexts.{checkedContext, extAt};
 ghost use Rattle.trees.specs.Tree.{flat};
 ghost use Rattle.emit.specs.Emitted.{Emits};
 ghost use Rattle.emit.specs.Answers.{Answers};
@@ -25,7 +25,7 @@ use records::number::MOVIM;
 // Whether binding i is an integer's.
 pub fn is_ext(kinds: &[u8], i: u64) -> bool
     requires { ⌜ 8 * i + 8 ≤ length (now kinds) ⌝ }
-    ensures { λ r. ⌜ r ≡ eqb (getD (now (kinds .entry)) (8 * i + 2) 0) 1 ⌝ }
+    ensures { λ r. ⌜ r ≡ extAt (now (kinds .entry)) i ⌝ }
 {
     let at = (8 * i + 2) as usize;
     kinds[at] == 1

@@ -32,7 +32,7 @@ drop-one [] (suc i) e = absurd (nil-cons e)
 drop-one (y ∷ ys) zero e = cc
 drop-one (y ∷ ys) (suc i) e = drop-one ys i e
 
-at-drop : (p : List Code) (i : ℕ) {x : Code} {xs : List Code} → drop i p ≡ x ∷ xs → getElem? p i ≡ some x
+pub at-drop : (p : List Code) (i : ℕ) {x : Code} {xs : List Code} → drop i p ≡ x ∷ xs → getElem? p i ≡ some x
 at-drop [] zero e = absurd (nil-cons e)
 at-drop [] (suc i) e = absurd (nil-cons e)
 at-drop (y ∷ ys) zero e = cc

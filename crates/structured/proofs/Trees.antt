@@ -20,7 +20,7 @@ use Rattle.machine.specs.declared.run.Found.the-variants.{At}
 use Rattle.machine.specs.Run.{find, runs, started}
 use Rattle.machine.specs.Run as machine
 use Rattle.structured.specs.Evaluation.{Evaluated, done, faulted, evaluated, andThen, evaluate}
-use Rattle.structured.specs.Claims.{Reaches, RunsAs, Without, TreeRunsWithin, Answers, TreeRunsWhole}
+use Rattle.structured.specs.Claims.{RunsAs, TreeRunsWithin, Answers, TreeRunsWhole}
 use Rattle.structured.proofs.Labels.{Once, once, found}
 use Rattle.structured.proofs.Steps.{drop-one, drop-part, after, joined, straight-does, mark-does, jump-does, choice-does}
 
@@ -127,14 +127,7 @@ tree-runs-whole words t c more v =
     let d : RunsAs words (flat t c) (size t) 0 (size t) z (evaluate words t z) = rw (append-nil, zero-add) at (tree-runs-within words t c 0 [] [] z (λ l a b. refl) (λ l a b. refl)) in
     rw (← length-flat t c 0) (answers words (flat t c) more z (evaluate words t z) (rw (length-flat t c 0) d))
 
--- the two for callers who know what the tree does
-pub tree-reaches : (words : ℕ → ℕ) (t : Tree) (c n : ℕ) (before after : List Code) (z d : Config) → Without (c + n) (c + n + labels t) before
-    → Without (c + n) (c + n + labels t) after → evaluate words t z ≡ done d
-    → Reaches words (before ++ (flatAt t c n ++ after)) (size t) (length before) (length before + size t) z d
-unfolding TreeRunsWithin
-tree-reaches words t c n before after z d f g e =
-    subst (RunsAs words (before ++ (flatAt t c n ++ after)) (size t) (length before) (length before + size t) z) e (tree-runs-within words t c n before after z f g)
-
+-- the same for callers who know what the tree does
 pub tree-ends : (words : ℕ → ℕ) (t : Tree) (c more : ℕ) (v : View) (d : Config) → evaluate words t (config v Absent []) ≡ done d
     → (k : ℕ) × (k ≤ size t) × (started words (flat t c) (size t + more) v ≡ machine.done (Ended k) d)
 unfolding TreeRunsWhole

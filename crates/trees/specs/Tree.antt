@@ -2,7 +2,7 @@
 -- A tree's records are the tree flattened from a label counter; inner labels are drawn first, "then" before "else".
 -- From memory.rs, skip_if_zero and if_zero_then_else, and document 01, 'Instruction record', on labels.
 use Prim.Native.Nat.{ℕ, _+_}
-use mathlib.Core.Path.{_≡_, refl}
+use mathlib.Core.Path.{_≡_}
 use mathlib.Core.Bool.{Bool, true, false}
 use mathlib.Core.List.{List, [], _∷_, _++_}
 use Rattle.records.specs.declared.code.Code.{Code}

@@ -5,8 +5,6 @@ use mathlib.Core.Path.{_≡_}
 use mathlib.Core.List.{List, [], _∷_}
 use lib.ListN.{length, replicate}
 use Rattle.records.specs.declared.binding.Kind.the-variants.{Ext}
-use Rattle.records.specs.declared.binding.Binding.{Binding}
-use Rattle.records.specs.declared.code.Code.{Code}
 use Rattle.records.specs.declared.code.Code.the-variants.{MOVI, MOVIM}
 use Rattle.records.specs.declared.order.Order.the-variants.{Store}
 use Rattle.records.specs.Contexts.{bindingBytes}

@@ -1,9 +1,10 @@
 use borrow.Author.Needs.{needs}
 use native.Mathlib.Omega.{arith}
 use lib.Count.{ones-le}
+use Rattle.records.specs.Contexts.{extAt}
 use Rattle.emit.specs.Laws.{_⨟_}
 use Rattle.layout.specs.Config.{base}
-use Rattle.printing.specs.Registers.{extAt, members}
+use Rattle.printing.specs.Registers.{members}
 use Rattle.printing.specs.Sizes.{source-size, save-size}
 use Rattle.printing.proofs.Sets.{members-most}
 use Rattle.printing.proofs.Printing.{printed}

@@ -2,10 +2,10 @@ use borrow.Author.Needs.{needs}
 use mathlib.Core.Path.{refl}
 use native.Mathlib.Omega.{arith}
 use lib.ListN.{length}
+use Rattle.records.specs.Contexts.{extAt}
 use Rattle.emit.specs.Wrote.{refused, not-written, wrote}
 use Rattle.layout.specs.Config.{base}
 use Rattle.layout.proofs.Placing.{operand-range}
-use Rattle.printing.specs.Registers.{extAt}
 use Rattle.printing.specs.Print.{printI64}
 use Rattle.printing.specs.Sizes.{print-size}
 use Rattle.printing.proofs.Printing.{unlabelled}

@@ -3,7 +3,8 @@ use Prim.Native.Nat.{_-_, _≤_}
 use mathlib.Core.Path.{_≡_, refl}
 use native.Mathlib.Nat.{le-antisymm}
 use native.Mathlib.Omega.{arith}
-use Rattle.printing.specs.Registers.{extAt, registersTo, setOf}
+use Rattle.records.specs.Contexts.{extAt}
+use Rattle.printing.specs.Registers.{registersTo, setOf}
 use Rattle.printing.proofs.Sets.{set-next}
 use Rattle.printing.proofs.registers.registers_to_save.Statement.{statement}
 use Rattle.printing.proofs.registers.registers_to_save.Tie as tie

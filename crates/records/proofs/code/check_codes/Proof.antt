@@ -1,9 +1,9 @@
 use borrow.Author.Needs.{needs}
 use Prim.Native.Nat.{_*_, _-_, _≤_}
-use mathlib.Core.Path.{_≡_, sym, ap, _∙_}
+use mathlib.Core.Path.{_≡_}
 use native.Mathlib.Omega.{arith}
 use lib.ListN.{length}
-use Rattle.records.specs.Checked.{firstBad, places, checked}
+use Rattle.records.specs.Checked.{firstBad, places}
 use Rattle.records.specs.Instructions.{codeStarts, checkedCodes}
 use Rattle.records.proofs.Checking.{begun, turn, surplus, bad, done}
 use Rattle.records.proofs.CodesRead.{starts-room}

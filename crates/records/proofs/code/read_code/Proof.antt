@@ -1,7 +1,6 @@
 use native.Mathlib.Omega.{arith}
-use mathlib.Core.Path.{sym, _∙_, subst}
-use Rattle.records.specs.Instructions.{fieldsOk}
-use Rattle.records.proofs.CodesRead.{ok-code, starts-ok, starts-whole, part-code, part-bad, part-none}
+use mathlib.Core.Path.{sym, _∙_}
+use Rattle.records.proofs.CodesRead.{ok-code, starts-ok, part-code, part-bad, part-none}
 use Rattle.records.proofs.code.read_code.Statement.{statement}
 use Rattle.records.proofs.code.read_code.Tie as tie
 

@@ -1,6 +1,5 @@
 use borrow.Author.Needs.{needs}
 use mathlib.Core.Path.{refl, sym, _∙_}
-use native.Mathlib.Omega.{arith}
 use Rattle.emit.specs.Wrote.{refused}
 use Rattle.memory.specs.Answered.{storeAnswer}
 use Rattle.storing.proofs.store.store.Statement.{statement}

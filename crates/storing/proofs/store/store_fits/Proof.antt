@@ -1,6 +1,4 @@
 use borrow.Author.Needs.{needs}
-use mathlib.Core.Path.{refl}
-use native.Mathlib.Omega.{arith}
 use borrow.Author.Tests.{eq-eqb, ne-eqb}
 use Rattle.storing.proofs.Answering.{last-fits}
 use Rattle.storing.proofs.store.store_fits.Statement.{statement}

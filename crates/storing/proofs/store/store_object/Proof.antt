@@ -1,8 +1,6 @@
 use borrow.Author.Needs.{needs}
-use mathlib.Core.Path.{refl}
 use native.Mathlib.Omega.{arith}
 use borrow.Author.Tests.{eq-eqb, ne-eqb}
-use Rattle.memory.specs.Objects.{extIn}
 use Rattle.storing.proofs.store.store_object.Statement.{statement}
 use Rattle.storing.proofs.store.store_object.Tie as tie
 

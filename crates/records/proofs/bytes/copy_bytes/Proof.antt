@@ -4,9 +4,9 @@ use mathlib.Core.Path.{_≡_, refl, sym, _∙_}
 use native.Mathlib.Omega.{arith}
 use lib.ListN.{length, take, drop}
 use lib.Seq.{sets}
-use Rattle.ordering.proofs.Copying.{next-byte, no-byte, copied}
-use Rattle.ordering.proofs.after.copy_bytes.Statement.{statement}
-use Rattle.ordering.proofs.after.copy_bytes.Tie as tie
+use Rattle.records.proofs.Copying.{next-byte, no-byte, copied}
+use Rattle.records.proofs.bytes.copy_bytes.Statement.{statement}
+use Rattle.records.proofs.bytes.copy_bytes.Tie as tie
 
 abbrev Inv-loop : tie.InvT-loop
 Inv-loop out₀ at from count i₀ out i =
