@@ -85,32 +85,19 @@ call-is words true c e = rw e
 call-is words false c e = rw e
 
 module _ (words : ℕ → ℕ) (s : View) where
-  printed-reserved : (j : ℕ) → j ≢ 1 → j < 4 → printed words s .reg j ≡ s .reg j
-  printed-reserved j n h =
+  -- registers but 1 and 4..11
+  printed-kept : (j : ℕ) → j ≢ 1 → ((r : ℕ) → 4 ≤ r → r < 12 → j ≢ r) → printed words s .reg j ≡ s .reg j
+  printed-kept j o n =
       rw (
-        ne-eqb j 11 (omega arith),
-        ne-eqb j 10 (omega arith),
-        ne-eqb j 9 (omega arith),
-        ne-eqb j 8 (omega arith),
-        ne-eqb j 7 (omega arith),
-        ne-eqb j 6 (omega arith),
-        ne-eqb j 5 (omega arith),
-        ne-eqb j 4 (omega arith),
-        ne-eqb j 1 n,
-      )
-
-  printed-high : (j : ℕ) → 12 ≤ j → printed words s .reg j ≡ s .reg j
-  printed-high j h =
-      rw (
-        ne-eqb j 11 (omega arith),
-        ne-eqb j 10 (omega arith),
-        ne-eqb j 9 (omega arith),
-        ne-eqb j 8 (omega arith),
-        ne-eqb j 7 (omega arith),
-        ne-eqb j 6 (omega arith),
-        ne-eqb j 5 (omega arith),
-        ne-eqb j 4 (omega arith),
-        ne-eqb j 1 (omega arith),
+        ne-eqb j 11 (n 11 (omega arith) (omega arith)),
+        ne-eqb j 10 (n 10 (omega arith) (omega arith)),
+        ne-eqb j 9 (n 9 (omega arith) (omega arith)),
+        ne-eqb j 8 (n 8 (omega arith) (omega arith)),
+        ne-eqb j 7 (n 7 (omega arith) (omega arith)),
+        ne-eqb j 6 (n 6 (omega arith) (omega arith)),
+        ne-eqb j 5 (n 5 (omega arith) (omega arith)),
+        ne-eqb j 4 (n 4 (omega arith) (omega arith)),
+        ne-eqb j 1 o,
       )
 
 -- the word w in register x
@@ -121,8 +108,8 @@ call-does words o z newline x w d e q b =
     let c : Config = withRegister d 7 y in
     go (register-MOV words d 7 x)
     (one (call-is words newline c e) (record {
-      reserved = λ j n h. printed-reserved words (c .state) j n h ∙ upd-other (d .state .reg) 7 y j (omega arith);
-      high = λ j h. printed-high words (c .state) j h ∙ upd-other (d .state .reg) 7 y j (omega arith);
+      reserved = λ j n h. printed-kept words (c .state) j n (λ r a b. omega arith) ∙ upd-other (d .state .reg) 7 y j (omega arith);
+      high = λ j h. printed-kept words (c .state) j (omega arith) (λ r a b. omega arith) ∙ upd-other (d .state .reg) 7 y j (omega arith);
       stack-kept = refl;
       beside = record {
         spills = b .spills;
