@@ -14,8 +14,9 @@ use Rattle.records.specs.declared.order.Order.{Order}
 use Rattle.records.specs.declared.order.Order.the-variants.{Put, Compute, Copy, Drop, Store, Load, Print}
 use Rattle.records.specs.Contexts.{checkedContext, extAt}
 use Rattle.heap.specs.Values.{Value, integer, object, Values, nil, cons, countOf, joined, firstOf, restOf, valueAt, copies, KindsFrom}
+use Rattle.heap.specs.Orders.{listOf}
 use Rattle.orders.specs.Writes.{made, madeAll, wanted, kindAt, contextAfter, present, asked}
-use Rattle.orders.specs.Plain.{integerOf, listOf, result, plainly, AsStored}
+use Rattle.orders.specs.Plain.{integerOf, result, plainly, AsStored}
 use Rattle.contexts.specs.Bindings.{good-length, good-append, good-take, good-made, good-made-all}
 use Rattle.contexts.specs.Kinds.{ext-left, ext-right, ext-take, isExt, ext-made, ext-made-all, kind-at}
 use Rattle.contexts.specs.ValueKinds.{count-joined, count-first, count-copies, isInteger, kinds-at, kinds-joined, kinds-first, kinds-copies, kinds-cons, kinds-moved}

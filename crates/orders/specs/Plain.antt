@@ -10,7 +10,7 @@ use Rattle.records.specs.declared.order.Order.{Order}
 use Rattle.records.specs.declared.order.Order.the-variants.{Put, Compute, Copy, Drop, Store, Load, Print}
 use Rattle.records.specs.Contexts.{extAt}
 use Rattle.word.specs.Words.{sum, difference, product, quotient, remainder}
-pub use Rattle.heap.specs.Orders.{listOf}
+use Rattle.heap.specs.Orders.{listOf}
 use Rattle.heap.specs.Values.{Value, integer, object, Values, nil, cons, countOf, joined, firstOf, restOf, valueAt, copies, KindsFrom}
 
 -- a value's integer

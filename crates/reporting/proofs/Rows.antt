@@ -8,12 +8,11 @@ use native.Mathlib.Numerals.{add-one}
 use native.Mathlib.Omega.{arith}
 use borrow.Author.Tests.{le-leb, lt-leb}
 use Rattle.records.specs.declared.check.Checked.the-variants.{Good, Malformed}
-use Rattle.records.specs.Contexts.{checkedContext}
+use Rattle.records.specs.Contexts.{checkedContext, extAt}
 use Rattle.text.specs.Putting.{Puts}
 use Rattle.text.proofs.Putting.{nothing, at-most, _⨟_}
 use Rattle.word.specs.Words.{choose}
 use Rattle.layout.specs.Positions.{location}
-use Rattle.printing.specs.Registers.{extAt}
 use Rattle.instructions.specs.View.{wordsOf}
 use Rattle.machine.specs.declared.state.State.{State}
 use Rattle.heap.specs.Blocks.{cell}

@@ -4,8 +4,8 @@ use Prim.Native.Nat.{ℕ, suc, _-_, _/_}
 use mathlib.Core.Bool.{Bool, cond}
 use mathlib.Core.List.{List, [], _∷_, _++_}
 use lib.Dec.{eqb, leb}
+use Rattle.records.specs.Contexts.{extAt}
 use Rattle.text.specs.Text.{ascii, decimal, signed}
-use Rattle.printing.specs.Registers.{extAt}
 use Rattle.instructions.specs.View.{wordsOf}
 use Rattle.machine.specs.declared.state.State.{State}
 use Rattle.heap.specs.Blocks.{Cell}

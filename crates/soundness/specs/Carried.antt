@@ -8,22 +8,21 @@ use lib.ListN.{length}
 use Rattle.records.specs.declared.check.Checked.the-variants.{Good}
 use Rattle.records.specs.declared.order.Order.{Order}
 use Rattle.records.specs.declared.order.Order.the-variants.{Put, Compute, Copy, Drop, Store, Load, Print}
-use Rattle.records.specs.Contexts.{checkedContext}
-use Rattle.printing.specs.Registers.{extAt}
+use Rattle.records.specs.Contexts.{checkedContext, extAt}
 use Rattle.instructions.specs.Step.{Config}
 use Rattle.memory.specs.Answered.{variablesIn}
 use Rattle.heap.specs.GrowthLemmas.{Bounded, represents-bounded}
 use Rattle.heap.specs.Invariant.{Represents}
 use Rattle.heap.specs.OrderLemmas.{storedBy}
 use Rattle.heap.specs.Orders as abstract
-use Rattle.heap.specs.Orders.{State, Run, plain, Legal}
+use Rattle.heap.specs.Orders.{State, Run, plain, Legal, listOf}
 use Rattle.heap.specs.Values.{integer, object, Value, Values, countOf, joined, firstOf, valueAt, KindsFrom}
 use Rattle.positions.specs.Held.{Placed}
 use Rattle.bridge.specs.Shown.{L, heapOf}
 use Rattle.bridge.specs.Sizes.{objectSizes}
 use Rattle.bridge.specs.Variables.{variables}
 use Rattle.orders.specs.Answered.{placesIn}
-use Rattle.orders.specs.Plain.{integerOf, listOf, result, plainly, AsStored}
+use Rattle.orders.specs.Plain.{integerOf, result, plainly, AsStored}
 use Rattle.playing.specs.Playing.{Channel}
 use Rattle.soundness.specs.Claims.{stateOf, acquires, changes, Owed}
 use Rattle.soundness.specs.Ending.{start}

@@ -8,6 +8,7 @@ use lib.Dec.{ltb, eqb}
 use lib.ListN.{length, take}
 use lib.Seq.{length-take-le}
 use borrow.Author.Tests.{ltb-true, leb-true, ne-eqb}
+use Rattle.records.specs.Contexts.{extAt}
 use Rattle.records.specs.declared.binding.Kind.the-variants.{Linked, Ext}
 use Rattle.records.specs.declared.order.Operation.{Operation}
 use Rattle.records.specs.declared.order.Order.{Order}
@@ -16,12 +17,11 @@ use Rattle.records.proofs.Conditions.{and-left, and-right}
 use Rattle.layout.specs.Config.{base}
 use Rattle.layout.specs.Positions.{location}
 use Rattle.memory.specs.Objects.{extIn, loadObject}
-use Rattle.printing.specs.Registers.{extAt}
 use Rattle.instructions.specs.Step.{Config}
 use Rattle.heap.specs.ValueLemmas.{hold-at}
 use Rattle.heap.specs.Values.{Value, integer, object, Values, nil, cons, countOf, joined, firstOf, restOf, copies, valueAt, Holds}
 use Rattle.heap.specs.Orders as abstract
-use Rattle.heap.specs.Orders.{State}
+use Rattle.heap.specs.Orders.{State, listOf}
 use Rattle.positions.specs.Held.{held}
 use Rattle.positions.specs.Runs.{Does}
 use Rattle.bridge.specs.Shown.{heapOf}
@@ -30,7 +30,7 @@ use Rattle.bridge.specs.Variables.{variable, variables, variables-length}
 use Rattle.contexts.specs.Bindings.{good-length}
 use Rattle.contexts.specs.Kinds.{ext-left, ext-right, ext-take, ext-made, ext-made-all, kind-at, ext-in, ext-in-whole}
 use Rattle.contexts.specs.ValueKinds.{count-joined, count-first, count-copies, integer-at, kinds-moved}
-use Rattle.orders.specs.Plain.{integerOf, listOf, result, plainly, AsStored}
+use Rattle.orders.specs.Plain.{integerOf, result, plainly, AsStored}
 use Rattle.orders.specs.Writes.{made, madeAll, kindAt, treeOf, contextAfter, present, kindsOk, asked}
 use Rattle.playing.specs.Playing.{Channel}
 use Rattle.soundness.specs.Claims.{acquires, changes, Owed}

@@ -9,11 +9,10 @@ use lib.ListN.{length}
 use Rattle.records.specs.declared.check.Checked.the-variants.{Good}
 use Rattle.records.specs.declared.order.Order.{Order}
 use Rattle.records.specs.declared.order.Order.the-variants.{Put, Compute, Copy, Drop, Store, Load, Print}
-use Rattle.records.specs.Contexts.{checkedContext}
+use Rattle.records.specs.Contexts.{checkedContext, extAt}
 use Rattle.records.specs.ReadBack.{Bytes}
 use Rattle.layout.specs.Config.{HEAP, FREE}
 use Rattle.printing.specs.Print.{printName}
-use Rattle.printing.specs.Registers.{extAt}
 use Rattle.instructions.specs.Step.{Call}
 use Rattle.machine.specs.declared.run.Answer.the-variants.{Ended}
 use Rattle.machine.specs.Run.{Done}

@@ -7,7 +7,7 @@ use native.Mathlib.Nat.{zero-add}
 use native.Mathlib.Omega.{arith}
 use lib.Dec.{eqb}
 use lib.ListN.{replicate, length-replicate}
-use Rattle.printing.specs.Registers.{extAt}
+use Rattle.records.specs.Contexts.{extAt}
 use Rattle.instructions.specs.View.{wordsOf}
 use Rattle.heap.specs.Claims.{AbstractHeapStaysSound, HeapAfter}
 use Rattle.heap.specs.OrderLemmas.{represents-fresh}

@@ -6,6 +6,7 @@ use Prim.Native.Nat.{ℕ, suc, _+_, _*_, _≤_, _<_}
 use native.Mathlib.Nat.{zero-add}
 use native.Mathlib.Omega.{arith}
 use borrow.Author.Tests.{ltb-true}
+use Rattle.records.specs.Contexts.{extAt}
 use Rattle.records.specs.declared.order.Order.{Order}
 use Rattle.records.specs.declared.order.Order.the-variants.{Put, Compute, Copy, Drop, Store, Load, Print}
 use Rattle.records.specs.ReadBack.{joined, codeBytes}
@@ -14,7 +15,6 @@ use Rattle.trees.specs.Tree.{Tree, size, flat}
 use Rattle.layout.specs.Config.{base}
 use Rattle.layout.specs.Positions.{location}
 use Rattle.printing.specs.Print.{printName}
-use Rattle.printing.specs.Registers.{extAt}
 use Rattle.instructions.specs.Step.{Config}
 use Rattle.machine.specs.declared.run.Answer.the-variants.{Ended}
 use Rattle.machine.specs.Run.{Done, ran}
