@@ -1,5 +1,5 @@
 // Plays lists of order records, from standard input or from the files named, each on a fresh channel, and prints what came of each order, what was printed,
-// and the variables and blocks at the end. A first argument `listing` asks for the instructions too.
+// and the variables and blocks at the end, unless a run did not end. A first argument `listing` asks for the instructions too.
 ghost use Prim.Native.Nat.{_<_, _≤_};
 use libc::STDERR_FILENO;
 use libc::STDIN_FILENO;
@@ -268,6 +268,9 @@ fn channel(input: &[u8], text: &mut [u8], listed: bool) {
     let g = play(input, &mut heap, &mut records, text, &mut prints, listed);
     let last = g.channel;
     show_prints(&prints, g.printed);
+    if g.stopped {
+        return;
+    }
     show_variables(last, text);
     show_blocks(last, &heap);
 }
@@ -278,7 +281,10 @@ fn channel_from(file: i32, listed: bool) {
     let mut text = [0u8; listing::LONGEST];
     let n = io::read_full(file, &mut input);
     if 262144 < n {
-        io::write_all(STDERR_FILENO, b"a list of more than 262144 bytes is not played\n");
+        io::write_all(
+            STDERR_FILENO,
+            b"a list of more than 262144 bytes is not played\n",
+        );
         return;
     }
     channel(&input[..n], &mut text, listed);

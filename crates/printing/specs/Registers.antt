@@ -5,7 +5,6 @@ use Prim.Native.Nat.{ℕ, zero, suc, _+_, _*_, _-_, _/_, _%_, _^_, min, max}
 use mathlib.Core.Bool.{Bool, cond}
 use mathlib.Core.List.{List, [], _∷_, _++_}
 use lib.Dec.{eqb}
-use Rattle.records.specs.Contexts.{extAt}
 
 -- the registers of variable v, below 4: both of a linked one, an integer's Snd alone
 abbrev pub registersOf : Bool → ℕ → List ℕ

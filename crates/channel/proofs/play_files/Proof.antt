@@ -16,9 +16,9 @@ play-files-spec =
     (tie.spec
     Inv-loop
     μ-loop
-    (λ c. ())
+    (λ c. tt)
     (λ c κs. search needs)
     (λ c. omega arith)
     (λ c. omega arith)
-    (λ c. ())
+    (λ c. tt)
     (λ c. search needs))
