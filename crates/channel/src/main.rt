@@ -96,7 +96,7 @@ fn list_first(records: &[u8], count: usize, text: &mut [u8], listed: bool) {
 // What an accepted order prints goes after what was printed before.
 fn print(prints: &mut [u8], printed: usize, order: &[u8], state: State) -> usize {
     if printed < 262144 {
-        return reporting::prints::put_print(prints, printed, order, state);
+        return showing::prints::put_print(prints, printed, order, state);
     }
     printed
 }
@@ -232,7 +232,7 @@ fn show_prints(prints: &[u8], printed: usize) {
 
 fn show_context(context: &[u8], used: usize, state: State, text: &mut [u8]) {
     if used <= context.len() {
-        let size = reporting::variables::put_variables(text, 0, &context[..used], state);
+        let size = showing::variables::put_variables(text, 0, &context[..used], state);
         show(text, size);
     }
 }

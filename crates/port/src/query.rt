@@ -1,7 +1,6 @@
 // Where variables and fields stand, for C and Rust: the queries of utils.rs and config.rs.
 ghost use mathlib.Core.Path.{_≡_};
 ghost use mathlib.Core.List.{[], _∷_};
-ghost use Prim.Native.Nat.{_≤_};
 ghost use Rattle.port.specs.Query.{temporaryNumbers, halfOf, stackOffsetNumbers, fieldOffset, queryNumbers};
 use layout::utils::Temporary;
 use layout::utils::TemporaryNumber;

@@ -2,6 +2,4 @@
 pub mod Parts  -- words, then a number
 pub mod Answers  -- the line of an order's answer
 pub mod Stops  -- the line of a run that did not end
-pub mod Cells  -- the line of each variable
-pub mod Prints  -- what a print order writes
 pub mod Counts  -- how many blocks are where

@@ -1,9 +1,7 @@
 // The lines that operators of a channel read, put into a text at an index as `text` does.
-mod parts; // words, then a number
+pub mod parts; // words, then a number
 pub mod answers; // the line of an order's answer
 pub mod stops; // the line of a run that did not end
-pub mod variables; // the line of each variable
-pub mod prints; // what a print order writes
 
 ghost use Prim.Native.Nat.{_+_, _≤_};
 ghost use Rattle.text.specs.Putting.{farthest, Puts};

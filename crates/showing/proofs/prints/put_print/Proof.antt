@@ -1,0 +1,20 @@
+use borrow.Author.Needs.{needs}
+use mathlib.Core.Path.{sym, _∙_}
+use native.Mathlib.Omega.{arith}
+use Rattle.text.proofs.Putting.{nothing, at-most}
+use Rattle.showing.specs.Prints.{prints}
+use Rattle.showing.proofs.prints.put_print.Statement.{statement}
+use Rattle.showing.proofs.prints.put_print.Tie as tie
+
+pub put-print-spec : {M : Type 1} → statement M
+unfolding prints
+put-print-spec =
+    tie.close
+    (tie.spec
+    (λ c κs. search needs)
+    (λ c. search needs)
+    (λ c κs. search needs)
+    (λ c. search needs)
+    (λ c. search needs)
+    (λ c. rw (sym (c .before .before .before .before .before .before .before .read-order .ensures) ∙ c .before .before .before .before .before .read .given .1) (c .before .before .put-whole .ensures))
+    (λ c. rw (sym (c .before .before .read-order .ensures) ∙ c .enum-told .given .1) (at-most (nothing _ _) (omega arith))))

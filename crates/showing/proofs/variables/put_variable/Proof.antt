@@ -1,0 +1,18 @@
+use borrow.Author.Needs.{needs}
+use Rattle.showing.proofs.Rows.{line-of}
+use Rattle.showing.proofs.variables.put_variable.Statement.{statement}
+use Rattle.showing.proofs.variables.put_variable.Tie as tie
+
+pub put-variable-spec : {M : Type 1} → statement M
+put-variable-spec =
+    tie.close
+    (tie.spec
+    (λ c. search needs)
+    (λ c κs. search needs)
+    (λ c. search needs)
+    (λ c. search needs)
+    (λ c κs. search needs)
+    (λ c κs. search needs)
+    (λ c κs. search needs)
+    (λ c. search needs)
+    (λ c. line-of _ _ _ _ (c .before .before .before .before .before .before .word-at .ensures) (c .before .before .before .before .before .word-at2 .ensures) (c .before .before .before .before .is-ext .ensures) (c .before .before .put-cell .ensures)))

@@ -1,0 +1,145 @@
+// The line of each variable.
+ghost use mathlib.Core.Path.{_≡_};
+ghost use mathlib.Core.List.{_++_};
+ghost use Prim.Native.Nat.{_+_, _*_, _≤_, _<_};
+ghost use lib.ListN.{length};
+ghost use Rattle.records.specs.Contexts.{extAt};
+ghost use Rattle.text.specs.Text.{ascii, signed};
+ghost use Rattle.text.specs.Putting.{farthest, Puts};
+ghost use Rattle.layout.specs.Positions.{location, Table};
+ghost use Rattle.instructions.specs.View.{wordsOf};
+ghost use Rattle.instructions.specs.Forms.{Sized};
+ghost use Rattle.heap.specs.Blocks.{cell};
+ghost use Rattle.positions.specs.Held.{heldIn};
+ghost use Rattle.showing.specs.Cells.{blockWords, cellWords, cellLine, lineOf, firstLines, variableLines};
+use reporting::parts;
+use machine::state::State;
+use records::check::Checked;
+
+fn put_block(text: &mut [u8], at: usize, pointer: u64) -> usize
+    requires { ⌜ at + 28 ≤ farthest ⌝ }
+    ensures { λ r. ⌜ Puts 28 (now (text .entry)) at (now (text .exit)) r (blockWords pointer) ⌝ }
+{
+    if pointer == 0 {
+        return text::put_bytes(text, at, b", empty");
+    }
+    let block = parts::more(pointer, 65536) / 64;
+    parts::put_count(text, at, b", block ", block)
+}
+
+fn put_object(text: &mut [u8], at: usize, pointer: u64, tag: u64) -> usize
+    requires { ⌜ at + 62 ≤ farthest ⌝ }
+    ensures { λ r. ⌜ Puts 62 (now (text .entry)) at (now (text .exit)) r (ascii " object, tag " ++ signed tag ++ blockWords pointer) ⌝ }
+{
+    let tagged = text::put_bytes(text, at, b" object, tag ");
+    let next = text::put_signed(text, tagged, tag);
+    put_block(text, next, pointer)
+}
+
+fn put_integer(text: &mut [u8], at: usize, integer: u64) -> usize
+    requires { ⌜ at + 30 ≤ farthest ⌝ }
+    ensures { λ r. ⌜ Puts 30 (now (text .entry)) at (now (text .exit)) r (ascii " integer " ++ signed integer) ⌝ }
+{
+    let next = text::put_bytes(text, at, b" integer ");
+    text::put_signed(text, next, integer)
+}
+
+fn put_value(text: &mut [u8], at: usize, ext: bool, pointer: u64, word: u64) -> usize
+    requires { ⌜ at + 62 ≤ farthest ⌝ }
+    ensures { λ r. ⌜ Puts 62 (now (text .entry)) at (now (text .exit)) r (cellWords ext (cell pointer word)) ⌝ }
+{
+    if ext {
+        return put_integer(text, at, word);
+    }
+    put_object(text, at, pointer, word)
+}
+
+fn put_cell(text: &mut [u8], at: usize, place: u64, ext: bool, pointer: u64, word: u64) -> usize
+    requires { ⌜ at + 83 ≤ farthest ⌝ }
+    ensures { λ r. ⌜ Puts 83 (now (text .entry)) at (now (text .exit)) r (cellLine place ext (cell pointer word)) ⌝ }
+{
+    let value = text::put_decimal(text, at, place);
+    let end = put_value(text, value, ext, pointer, word);
+    text::put_byte(text, end, b'\n')
+}
+
+// Whether variable k is an integer.
+fn is_ext(context: &[u8], k: usize) -> bool
+    requires { ⌜ 8 * k + 8 ≤ length (now context) ⌝ }
+    ensures { λ r. ⌜ r ≡ extAt (now (context .entry)) k ⌝ }
+{
+    context[8 * k + 2] == 1
+}
+
+// The word at position p.
+pub fn word_at(registers: &[u64; 16], stack: &[u64; 320], table: &[u64; 267], p: u64) -> u64
+    requires { ⌜ Sized (now registers) (now stack) × Table (now table) × (p < 267) ⌝ }
+    ensures { λ r. ⌜ r ≡ heldIn (wordsOf (now (registers .entry))) (wordsOf (now (stack .entry))) (location p) ⌝ }
+{
+    let l = layout::utils::location_at(table, p);
+    if l < 16 {
+        return registers[l as usize];
+    }
+    stack[(57 + (271 - l)) as usize]
+}
+
+fn put_variable(
+    text: &mut [u8],
+    at: usize,
+    context: &[u8],
+    registers: &[u64; 16],
+    stack: &[u64; 320],
+    table: &[u64; 267],
+    k: usize,
+) -> usize
+    requires { ⌜ (8 * k + 8 ≤ length (now context)) × (k < 133) × Sized (now registers) (now stack) × Table (now table) × (at + 83 ≤ farthest) ⌝ }
+    ensures { λ r. ⌜ Puts 83 (now (text .entry)) at (now (text .exit)) r (lineOf (now (context .entry)) (now (registers .entry)) (now (stack .entry)) k) ⌝ }
+{
+    let place = k as u64;
+    let pointer = word_at(registers, stack, table, 2 * place);
+    let word = word_at(registers, stack, table, 2 * place + 1);
+    let ext = is_ext(context, k);
+    put_cell(text, at, place, ext, pointer, word)
+}
+
+// The first of a context's variables.
+fn put_first(
+    text: &mut [u8],
+    at: usize,
+    context: &[u8],
+    registers: &[u64; 16],
+    stack: &[u64; 320],
+    table: &[u64; 267],
+    count: usize,
+) -> usize
+    requires { ⌜ (8 * count ≤ length (now context)) × (count ≤ 133) × Sized (now registers) (now stack) × Table (now table) × (at + 83 * count ≤ farthest) ⌝ }
+    ensures { λ r. ⌜ Puts (83 * count) (now (text .entry)) at (now (text .exit)) r (firstLines (now (context .entry)) (now (registers .entry)) (now (stack .entry)) count) ⌝ }
+{
+    let mut next = at;
+    let mut k = 0;
+    while k < count {
+        next = put_variable(text, next, context, registers, stack, table, k);
+        k += 1;
+    }
+    next
+}
+
+// The line of each variable of a context; nothing where the context is malformed or has more than 133.
+pub fn put_variables(text: &mut [u8], at: usize, context: &[u8], state: State) -> usize
+    requires { ⌜ at + 11039 ≤ farthest ⌝ }
+    ensures { λ r. ⌜ Puts 11039 (now (text .entry)) at (now (text .exit)) r (variableLines (now (context .entry)) state) ⌝ }
+{
+    let checked = records::binding::check_context(context);
+    match checked {
+        Checked::Malformed(_) => at,
+        Checked::Good(count) => {
+            if 133 < count {
+                return at;
+            }
+            let registers = state.registers;
+            let stack = state.stack;
+            let table = layout::utils::positions();
+            put_first(text, at, context, &registers, &stack, &table, count)
+        }
+    }
+}
