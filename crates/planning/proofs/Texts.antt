@@ -1,13 +1,13 @@
 -- The lines of a text, put one after the other.
 use Prim.Native.Nat.{ℕ, suc, _+_, _*_, _≤_, _<_}
 use mathlib.Core.Path.{_≡_, refl, sym, ap, _∙_, subst}
-use mathlib.Core.Bool.{Bool, true, false}
+use mathlib.Core.Bool.{Bool, true, false, cond}
 use mathlib.Core.List.{List, [], _∷_, _++_, append-assoc}
 use native.Mathlib.Nat.{zero-add}
 use native.Mathlib.Numerals.{add-one}
 use native.Mathlib.Omega.{arith}
-use borrow.Author.Tests.{le-leb, lt-leb, ltb-true, ltb-false}
-use lib.Dec.{ltb}
+use borrow.Author.Tests.{le-leb, lt-leb, leb-true, ltb-true, ltb-false}
+use lib.Dec.{ltb, leb}
 use lib.ListN.{length, getD, take, drop}
 use lib.Seq.{drop-cons, sets}
 use Rattle.records.specs.Bytes.{stored}
@@ -26,7 +26,7 @@ use Rattle.planning.specs.declared.Planned.{Planned}
 use Rattle.planning.specs.declared.Planned.the-variants.{Written, Bad, Room, Long}
 use Rattle.planning.specs.Words.{soughtIn, before, found, part, parts, wordsOf, linesOf}
 use Rattle.planning.specs.Orders.{Words, lineOf}
-use Rattle.planning.specs.Plan.{Plan, records, bad, onto, withLine, recordsOf, lineWords, planFrom, planOf, longest, bytesOf, planned, plannedBytes}
+use Rattle.planning.specs.Plan.{Plan, records, bad, onto, withLine, recordsOf, lineWords, planFrom, planOf, longest, answerOf, bytesOf, planned, plannedBytes}
 use Rattle.planning.specs.Steps.{mostLine, PutsLine, Stepped, next, stop, PutsPlan, LaidOut, laid, bad-line}
 use Rattle.planning.proofs.Searching.{drop-past, take-before, part-found, drop-found, parts-first, rest}
 use Rattle.planning.proofs.Putting.{append-nil}
@@ -193,3 +193,20 @@ module _ (text o : List ℕ) (short : length text ≤ longest) {q q′ : List �
     pub answer-written : {o′ : List ℕ} {r′ : Laid} → j ≤ length o → LaidOut text o o′ r′
         → (Written j ≡ planned text (length o)) × (o′ ≡ stored o 0 (plannedBytes text))
     answer-written h s = written text o short (first-plan .whole) size h (second-bytes text o (first-plan .whole) s)
+
+-- what is written fits: for those who take a part of the output
+fits-by : (room size : ℕ) {j : ℕ} (x : Bool) → leb size room ≡ x → cond x (Written size) (Room size) ≡ Written j → j ≤ room
+fits-by room size {j} true h e = let g : size ≡ j = cc in omega (arith, leb-true size room h)
+fits-by room size {j} false h e = let z : _≡_ {A = ℕ} 0 1 = cc in absurd (omega arith)
+
+plan-fits : (room : ℕ) {j : ℕ} (plan : Plan) → answerOf room plan ≡ Written j → j ≤ room
+plan-fits room (records bs) e = fits-by room (length bs) (leb (length bs) room) refl e
+plan-fits room {j} (bad n wrong) e = let z : _≡_ {A = ℕ} 0 1 = cc in absurd (omega arith)
+
+short-fits : (room : ℕ) {j : ℕ} (plan : Plan) (x : Bool) → cond x (answerOf room plan) Long ≡ Written j → j ≤ room
+short-fits room plan true e = plan-fits room plan e
+short-fits room {j} plan false e = let z : _≡_ {A = ℕ} 0 1 = cc in absurd (omega arith)
+
+pub written-fits : (text : List ℕ) (room : ℕ) {j : ℕ} → planned text room ≡ Written j → j ≤ room
+unfolding planned
+written-fits text room e = short-fits room (planOf text) (leb (length text) longest) e

@@ -1,0 +1,1 @@
+pub mod Lent  -- arrays that a call was lent
