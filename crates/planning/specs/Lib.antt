@@ -7,4 +7,5 @@ pub mod Finding  -- what the search for a word answers
 pub mod Fits  -- places and counts fit 32 bits
 pub mod Steps  -- records put line by line
 pub mod Messages  -- what is wrong with a line, in words
+pub mod Reading  -- the claim that plans are read back
 pub mod Worked  -- worked lines

@@ -15,6 +15,7 @@ ghost use Rattle.records.specs.Bytes.{stored};
 ghost use Rattle.text.specs.Putting.{farthest, Puts};
 ghost use Rattle.planning.specs.Plan.{planned, plannedBytes};
 ghost use Rattle.planning.specs.Messages.{message};
+ghost use Rattle.planning.specs.Reading.{PlansAreRead};
 ghost use Rattle.planning.specs.Worked.{WorkedLines};
 
 // No more bytes than this are a text.
@@ -55,6 +56,11 @@ pub fn put_wrong(text: &mut [u8], at: usize, line: usize, wrong: Wrong) -> usize
 {
     messages::put_message(text, at, line, wrong)
 }
+
+// Every order that is written is read back as the order of its line, and the bindings after it are accepted.
+pub fn plans_are_read()
+    ensures { λ r. ⌜ PlansAreRead ⌝ }
+{}
 
 // Lines and their records, by the definitions that `plan` is held to.
 pub fn worked_lines()
