@@ -4,7 +4,7 @@ use libc::STDERR_FILENO;
 use libc::STDIN_FILENO;
 use libc::STDOUT_FILENO;
 use planning::Planned;
-use planning::wrong::Wrong;
+use wording::wrong::Wrong;
 
 fn say_wrong(line: usize, wrong: Wrong) {
     let mut message = [0u8; 59];

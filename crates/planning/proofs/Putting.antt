@@ -4,7 +4,7 @@ use mathlib.Core.Path.{_≡_, refl, sym, ap, _∙_, subst}
 use mathlib.Core.List.{List, [], _∷_, _++_, append-assoc}
 use native.Mathlib.Numerals.{add-one}
 use native.Mathlib.Omega.{arith}
-use lib.ListN.{length, take, drop, replicate}
+use lib.ListN.{length, take, replicate}
 use lib.Seq.{take-nil}
 use Rattle.records.specs.declared.binding.Kind.{Kind}
 use Rattle.records.specs.declared.binding.Binding.{Binding}
@@ -15,7 +15,7 @@ use Rattle.records.specs.Contexts.{bindingBytes}
 use Rattle.records.specs.Orders.{orderFieldsOf, orderBytes}
 use Rattle.text.specs.Putting.{Puts}
 use Rattle.text.proofs.Putting.{nothing, at-most, _⨟_}
-use Rattle.planning.specs.Orders.{Words}
+use Rattle.wording.specs.Orders.{Words}
 use Rattle.planning.specs.Plan.{kindOf, bindings, following}
 
 pub append-nil : (xs : List ℕ) → xs ++ [] ≡ xs

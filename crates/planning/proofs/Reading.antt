@@ -1,6 +1,6 @@
 -- The records of a plan, read back.
-use Prim.Native.Nat.{ℕ, zero, suc, _+_, _^_, _≤_, _<_}
-use mathlib.Core.Path.{_≡_, refl, sym, ap, _∙_, subst}
+use Prim.Native.Nat.{ℕ, suc, _+_, _≤_}
+use mathlib.Core.Path.{_≡_, refl, sym, ap, _∙_}
 use mathlib.Core.List.{List, [], _∷_, _++_}
 use native.Mathlib.Omega.{arith}
 use lib.ListN.{length, take, drop}
@@ -9,16 +9,15 @@ use Rattle.records.specs.declared.check.Checked.the-variants.{Good}
 use Rattle.records.specs.declared.binding.Binding.{Binding}
 use Rattle.records.specs.declared.order.Order.{Order}
 use Rattle.records.specs.declared.order.Order.the-variants.{Put, Compute, Copy, Drop, Store, Load, Print}
-use Rattle.records.specs.declared.order.OrderRead.the-variants.{Whole}
 use Rattle.records.specs.Contexts.{bindingBytes, checkedContext}
-use Rattle.records.specs.Orders.{orderFieldsOf, orderBytes, orderRead}
+use Rattle.records.specs.Orders.{orderFieldsOf, orderBytes}
 use Rattle.records.specs.ReadBack.{Each, joined, WellFormedBinding}
 use Rattle.records.proofs.ReadBack.{records-read-back}
-use Rattle.planning.specs.declared.orders.Line.{Line}
-use Rattle.planning.specs.declared.orders.Line.the-variants.{Empty, Asks, Faulty}
-use Rattle.planning.specs.Words.{linesOf}
-use Rattle.planning.specs.Orders.{Words, lineOf}
-use Rattle.planning.specs.Plan.{kindOf, bindings, following, recordsOf, Plan, records, bad, onto, withLine, lineWords, planFrom, planOf}
+use Rattle.wording.specs.declared.orders.Line.{Line}
+use Rattle.wording.specs.declared.orders.Line.the-variants.{Empty, Asks, Faulty}
+use Rattle.wording.specs.Words.{linesOf}
+use Rattle.wording.specs.Orders.{Words, lineOf}
+use Rattle.planning.specs.Plan.{kindOf, bindings, following, recordsOf, Plan, records, bad, withLine, lineWords, planFrom, planOf}
 use Rattle.planning.specs.Reading.{AskedLine, askedBy, askedIn, recordsFor, bindingsFor, IsRead, PlansAreRead}
 use Rattle.planning.proofs.Putting.{order-size}
 use Rattle.planning.proofs.WellFormed.{Sound, SoundLine, line-sound}

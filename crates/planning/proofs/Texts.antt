@@ -8,27 +8,26 @@ use native.Mathlib.Numerals.{add-one}
 use native.Mathlib.Omega.{arith}
 use borrow.Author.Tests.{le-leb, lt-leb, leb-true, ltb-true, ltb-false}
 use lib.Dec.{ltb, leb}
-use lib.ListN.{length, getD, take, drop}
+use lib.ListN.{length, take, drop}
 use lib.Seq.{drop-cons, sets}
 use Rattle.records.specs.Bytes.{stored}
 use Rattle.records.proofs.Storing.{stored-whole, stored-nothing}
 use Rattle.text.specs.Putting.{Puts}
 use Rattle.text.proofs.Putting.{nothing, at-most, _⨟_}
-use Rattle.planning.specs.declared.wrong.Wrong.{Wrong}
-use Rattle.planning.specs.declared.words.Sought.the-variants.{Byte}
-use Rattle.planning.specs.declared.orders.Line.{Line}
-use Rattle.planning.specs.declared.orders.Line.the-variants.{Empty, Asks, Faulty}
+use Rattle.wording.specs.declared.wrong.Wrong.{Wrong}
+use Rattle.wording.specs.declared.words.Sought.the-variants.{Byte}
+use Rattle.wording.specs.declared.orders.Line.{Line}
+use Rattle.wording.specs.declared.orders.Line.the-variants.{Empty, Asks, Faulty}
 use Rattle.planning.specs.declared.lines.Step.{Step}
 use Rattle.planning.specs.declared.lines.Step.the-variants.{Next, Stop}
 use Rattle.planning.specs.declared.lines.Laid.{Laid}
 use Rattle.planning.specs.declared.lines.Laid.the-variants.{Whole, BadLine}
-use Rattle.planning.specs.declared.Planned.{Planned}
 use Rattle.planning.specs.declared.Planned.the-variants.{Written, Bad, Room, Long}
-use Rattle.planning.specs.Words.{soughtIn, before, found, part, parts, wordsOf, linesOf}
-use Rattle.planning.specs.Orders.{Words, lineOf}
+use Rattle.wording.specs.Words.{soughtIn, before, found, part, parts, wordsOf, linesOf}
+use Rattle.wording.specs.Orders.{Words, lineOf}
 use Rattle.planning.specs.Plan.{Plan, records, bad, onto, withLine, recordsOf, lineWords, planFrom, planOf, longest, answerOf, bytesOf, planned, plannedBytes}
 use Rattle.planning.specs.Steps.{mostLine, PutsLine, Stepped, next, stop, PutsPlan, LaidOut, laid, bad-line}
-use Rattle.planning.proofs.Searching.{drop-past, take-before, part-found, drop-found, parts-first, rest}
+use Rattle.wording.proofs.Searching.{drop-past, take-before, part-found, drop-found, parts-first, rest}
 use Rattle.planning.proofs.Putting.{append-nil}
 
 -- what stands before a comment

@@ -1,6 +1,6 @@
 -- The order of a line is well formed, and a load has as many kinds as its n says.
-use Prim.Native.Nat.{ℕ, zero, suc, _+_, _-_, _%_, _^_, _≤_, _<_}
-use mathlib.Core.Path.{_≡_, refl, sym}
+use Prim.Native.Nat.{ℕ, suc, _+_, _^_, _≤_, _<_}
+use mathlib.Core.Path.{_≡_, refl}
 use mathlib.Core.Bool.{Bool, true, false, cond}
 use mathlib.Core.List.{List, [], _∷_}
 use native.Mathlib.Omega.{arith}
@@ -13,20 +13,19 @@ use Rattle.records.specs.declared.order.Order.{Order}
 use Rattle.records.specs.declared.order.Order.the-variants.{Put, Compute, Copy, Drop, Store, Load, Print}
 use Rattle.records.specs.Orders.{orderFieldsOf, orderReaders, orderOf, usedByOrder, orderOperandsOk, orderOk}
 use Rattle.records.specs.ReadBack.{WellFormedOrder}
-use Rattle.planning.specs.declared.wrong.Wrong.{Wrong}
-use Rattle.planning.specs.declared.wrong.Wrong.the-variants.{NotNumber, OutOfRange, NotTag, NotNewline, NotKind, TooManyKinds, MissingWord}
-use Rattle.planning.specs.declared.numbers.Number.{Number}
-use Rattle.planning.specs.declared.numbers.Number.the-variants.{Value, NoValue}
-use Rattle.planning.specs.declared.orders.Line.{Line}
-use Rattle.planning.specs.declared.orders.Line.the-variants.{Empty, Asks, Faulty}
-use Rattle.planning.specs.declared.orders.Named.{Named}
-use Rattle.planning.specs.declared.orders.Named.the-variants.{Yes, Other, Missing}
-use Rattle.planning.specs.declared.orders.Operator.{Operator}
-use Rattle.planning.specs.declared.orders.Operator.the-variants.{Is, NoOperator}
-use Rattle.planning.specs.declared.orders.Name.{Name}
-use Rattle.planning.specs.declared.orders.Name.the-variants.{PutName, ComputeName, CopyName, DropName, StoreName, LoadName, PrintName, OtherName}
-use Rattle.planning.specs.Numbers.{allDigits, valueOf, within, naturalOf, negated, integerOf}
-use Rattle.planning.specs.Orders.{Words, nameOf, placeAt, integerAt, operatorAt, named, isKind, ended, number, operator, name, putLine, secondLine, operandsLine, computeLine, timesLine, copyLine, tagLine, taggedLine, storeLine, loadLine, newlineLine, printLine, orderLine, lineOf}
+use Rattle.wording.specs.declared.wrong.Wrong.the-variants.{NotNumber, OutOfRange, NotTag, NotNewline, NotKind, TooManyKinds, MissingWord}
+use Rattle.wording.specs.declared.numbers.Number.{Number}
+use Rattle.wording.specs.declared.numbers.Number.the-variants.{Value, NoValue}
+use Rattle.wording.specs.declared.orders.Line.{Line}
+use Rattle.wording.specs.declared.orders.Line.the-variants.{Empty, Asks, Faulty}
+use Rattle.wording.specs.declared.orders.Named.{Named}
+use Rattle.wording.specs.declared.orders.Named.the-variants.{Yes, Other, Missing}
+use Rattle.wording.specs.declared.orders.Operator.{Operator}
+use Rattle.wording.specs.declared.orders.Operator.the-variants.{Is, NoOperator}
+use Rattle.wording.specs.declared.orders.Name.{Name}
+use Rattle.wording.specs.declared.orders.Name.the-variants.{PutName, ComputeName, CopyName, DropName, StoreName, LoadName, PrintName, OtherName}
+use Rattle.wording.specs.Numbers.{allDigits, valueOf, within, naturalOf, negated, integerOf}
+use Rattle.wording.specs.Orders.{Words, nameOf, placeAt, integerAt, operatorAt, named, isKind, ended, number, operator, name, putLine, secondLine, operandsLine, computeLine, timesLine, copyLine, tagLine, taggedLine, storeLine, loadLine, newlineLine, printLine, orderLine, lineOf}
 use Rattle.planning.specs.Reading.{bindingsFor}
 use Rattle.text.specs.Text.{ascii}
 

@@ -2,8 +2,8 @@
 use Prim.Native.Nat.{ℕ}
 use mathlib.Core.List.{List, _++_}
 use Rattle.text.specs.Text.{ascii, decimal}
-use Rattle.planning.specs.declared.wrong.Wrong.{Wrong}
-use Rattle.planning.specs.declared.wrong.Wrong.the-variants.{NoSuchOrder, NoSuchOperation, NotNumber, OutOfRange, NotTag, NotNewline, NotKind, TooManyKinds, MissingWord, SurplusWord}
+use Rattle.wording.specs.declared.wrong.Wrong.{Wrong}
+use Rattle.wording.specs.declared.wrong.Wrong.the-variants.{NoSuchOrder, NoSuchOperation, NotNumber, OutOfRange, NotTag, NotNewline, NotKind, TooManyKinds, MissingWord, SurplusWord}
 
 abbrev pub causeOf : Wrong → List ℕ
 causeOf NoSuchOrder = ascii "no such order"

@@ -11,13 +11,13 @@ use Rattle.records.specs.declared.order.Order.the-variants.{Put, Compute, Copy,
 use Rattle.records.specs.Contexts.{bindingBytes}
 use Rattle.records.specs.Orders.{orderFieldsOf, orderBytes}
 use Rattle.text.specs.Text.{ascii}
-use Rattle.planning.specs.declared.wrong.Wrong.{Wrong}
-use Rattle.planning.specs.declared.orders.Line.{Line}
-use Rattle.planning.specs.declared.orders.Line.the-variants.{Empty, Asks, Faulty}
+use Rattle.wording.specs.declared.wrong.Wrong.{Wrong}
+use Rattle.wording.specs.declared.orders.Line.{Line}
+use Rattle.wording.specs.declared.orders.Line.the-variants.{Empty, Asks, Faulty}
 use Rattle.planning.specs.declared.Planned.{Planned}
 use Rattle.planning.specs.declared.Planned.the-variants.{Written, Bad, Room, Long}
-use Rattle.planning.specs.Words.{sameBytes, linesOf, uncommented, wordsOf}
-use Rattle.planning.specs.Orders.{Words, lineOf}
+use Rattle.wording.specs.Words.{sameBytes, linesOf, uncommented, wordsOf}
+use Rattle.wording.specs.Orders.{Words, lineOf}
 
 -- e is an integer, l is linked
 unfoldable pub kindOf : List ℕ → Kind

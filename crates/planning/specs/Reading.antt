@@ -10,10 +10,10 @@ use Rattle.records.specs.declared.order.OrderRead.the-variants.{Whole}
 use Rattle.records.specs.Contexts.{checkedContext}
 use Rattle.records.specs.Orders.{orderRead}
 use Rattle.records.specs.ReadBack.{Each, joined}
-use Rattle.planning.specs.declared.orders.Line.{Line}
-use Rattle.planning.specs.declared.orders.Line.the-variants.{Empty, Asks, Faulty}
-use Rattle.planning.specs.Words.{linesOf}
-use Rattle.planning.specs.Orders.{Words, lineOf}
+use Rattle.wording.specs.declared.orders.Line.{Line}
+use Rattle.wording.specs.declared.orders.Line.the-variants.{Empty, Asks, Faulty}
+use Rattle.wording.specs.Words.{linesOf}
+use Rattle.wording.specs.Orders.{Words, lineOf}
 use Rattle.planning.specs.Plan.{recordsOf, records, lineWords, planOf}
 
 -- an order and its line's words

@@ -3,14 +3,14 @@ use Prim.Native.Nat.{ℕ}
 use mathlib.Core.Path.{_≡_}
 use mathlib.Core.List.{List, []}
 use Rattle.text.specs.Putting.{Puts}
-use Rattle.planning.specs.declared.wrong.Wrong.{Wrong}
+use Rattle.wording.specs.declared.wrong.Wrong.{Wrong}
 use Rattle.planning.specs.declared.lines.Step.{Step}
 use Rattle.planning.specs.declared.lines.Step.the-variants.{Next, Stop}
 use Rattle.planning.specs.declared.lines.Laid.{Laid}
 use Rattle.planning.specs.declared.lines.Laid.the-variants.{Whole, BadLine}
-use Rattle.planning.specs.declared.orders.Line.{Line}
-use Rattle.planning.specs.declared.orders.Line.the-variants.{Empty, Asks, Faulty}
-use Rattle.planning.specs.Orders.{Words, lineOf}
+use Rattle.wording.specs.declared.orders.Line.{Line}
+use Rattle.wording.specs.declared.orders.Line.the-variants.{Empty, Asks, Faulty}
+use Rattle.wording.specs.Orders.{Words, lineOf}
 use Rattle.planning.specs.Plan.{Plan, records, bad, recordsOf, bytesOf, planOf}
 
 -- a bound on an order's records: its own and 2^32 bindings

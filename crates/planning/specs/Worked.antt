@@ -1,16 +1,16 @@
 -- Worked lines: what they mean by the definitions that the contracts cite.
 use Prim.Native.Nat.{ℕ}
 use mathlib.Core.Path.{_≡_}
-use mathlib.Core.Bool.{true, false}
+use mathlib.Core.Bool.{true}
 use mathlib.Core.List.{List, [], _∷_, _++_}
 use Rattle.records.specs.declared.binding.Kind.the-variants.{Linked, Ext}
 use Rattle.records.specs.declared.order.Operation.the-variants.{Sub}
 use Rattle.records.specs.declared.order.Order.{Order}
-use Rattle.records.specs.declared.order.Order.the-variants.{Put, Compute, Copy, Drop, Store, Load, Print}
+use Rattle.records.specs.declared.order.Order.the-variants.{Put, Compute, Store, Load, Print}
 use Rattle.records.specs.Contexts.{bindingBytes}
 use Rattle.records.specs.Orders.{orderFieldsOf, orderBytes}
 use Rattle.text.specs.Text.{ascii}
-use Rattle.planning.specs.declared.wrong.Wrong.the-variants.{NoSuchOrder, OutOfRange, NotNewline, MissingWord, SurplusWord}
+use Rattle.wording.specs.declared.wrong.Wrong.the-variants.{NoSuchOrder, OutOfRange, NotNewline, MissingWord, SurplusWord}
 use Rattle.planning.specs.declared.Planned.the-variants.{Written, Bad, Room}
 use Rattle.planning.specs.Plan.{planned, plannedBytes}
 

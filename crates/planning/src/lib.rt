@@ -1,13 +1,9 @@
 // Orders in words, turned to order records and binding records.
 mod lines; // the records of a line and of a text
 mod messages; // what is wrong with a line, in words
-mod numbers; // the number of a word
-mod orders; // the order of a line's words
-mod words; // the words of a line
-pub mod wrong; // what can be wrong with a line
 
 use crate::lines::Laid;
-use crate::wrong::Wrong;
+use wording::wrong::Wrong;
 ghost use mathlib.Core.Path.{_≡_};
 ghost use Prim.Native.Nat.{_+_, _≤_};
 ghost use lib.ListN.{length};

@@ -5,20 +5,20 @@ ghost use lib.ListN.{length, take, drop};
 ghost use Rattle.records.specs.Contexts.{bindingBytes};
 ghost use Rattle.records.specs.Orders.{orderFieldsOf, orderBytes};
 ghost use Rattle.text.specs.Putting.{farthest, Puts};
-ghost use Rattle.planning.specs.Words.{wordsOf, uncommented};
+ghost use Rattle.wording.specs.Words.{wordsOf, uncommented};
 ghost use Rattle.planning.specs.Plan.{kindOf, bindings, following, recordsOf, longest};
 ghost use Rattle.planning.specs.Steps.{mostLine, Stepped, LaidOut};
-use crate::orders;
-use crate::orders::Line;
-use crate::words;
-use crate::words::Found;
-use crate::words::Sought;
-use crate::wrong::Wrong;
 use records::binding;
 use records::binding::Binding;
 use records::binding::Kind;
 use records::order;
 use records::order::Order;
+use wording::orders;
+use wording::orders::Line;
+use wording::words;
+use wording::words::Found;
+use wording::words::Sought;
+use wording::wrong::Wrong;
 
 // The index past a line's records, or what is wrong with the line.
 pub enum Step {

@@ -2,7 +2,7 @@
 ghost use Prim.Native.Nat.{_+_, _≤_};
 ghost use Rattle.text.specs.Putting.{farthest, Puts};
 ghost use Rattle.planning.specs.Messages.{causeOf, message};
-use crate::wrong::Wrong;
+use wording::wrong::Wrong;
 
 fn put_cause(text: &mut [u8], at: usize, wrong: Wrong) -> usize
     requires { ⌜ at + 31 ≤ farthest ⌝ }

@@ -2,9 +2,9 @@ use mathlib.Core.Path.{refl}
 use Rattle.records.specs.Bytes.{le}
 use Rattle.records.specs.Contexts.{bindingBytes}
 use Rattle.records.specs.Orders.{orderBytes}
-use Rattle.planning.specs.Words.{before, parts, wordsOf, sameBytes}
-use Rattle.planning.specs.Numbers.{allDigits, valueOf, within, naturalOf, integerOf}
-use Rattle.planning.specs.Orders.{nameOf, operatorOf, isKind, placeAt, integerAt, operatorAt, named, ended, putLine, secondLine, operandsLine, computeLine, timesLine, copyLine, tagLine, taggedLine, storeLine, loadOf, loadLine, newlineLine, printLine, lineOf}
+use Rattle.wording.specs.Words.{before, parts, wordsOf, sameBytes}
+use Rattle.wording.specs.Numbers.{allDigits, valueOf, within, naturalOf, integerOf}
+use Rattle.wording.specs.Orders.{nameOf, operatorOf, isKind, placeAt, integerAt, operatorAt, named, ended, putLine, secondLine, operandsLine, computeLine, timesLine, copyLine, tagLine, taggedLine, storeLine, loadOf, loadLine, newlineLine, printLine, lineOf}
 use Rattle.planning.specs.Plan.{kindOf, bindings, recordsOf, planFrom, planOf, planned, plannedBytes}
 use Rattle.planning.specs.Worked.{WorkedLines}
 use Rattle.planning.proofs.worked_lines.Statement.{statement}

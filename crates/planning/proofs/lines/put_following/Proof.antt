@@ -1,6 +1,6 @@
 use borrow.Author.Needs.{needs}
 use Rattle.text.proofs.Putting.{nothing, at-most}
-use Rattle.planning.proofs.Finding.{starts, no-word}
+use Rattle.wording.proofs.Finding.{starts, no-word}
 use Rattle.planning.proofs.Putting.{load-follows, nothing-loaded}
 use native.Mathlib.Omega.{arith}
 use Rattle.planning.proofs.lines.put_following.Statement.{statement}

@@ -1,11 +1,10 @@
 use borrow.Author.Needs.{needs}
 use Prim.Native.Nat.{_*_, _-_, _≤_}
 use lib.ListN.{length, take, drop}
-use mathlib.Core.Path.{_≡_, refl, sym, ap, _∙_}
-use Rattle.planning.specs.Words.{wordsOf}
+use Rattle.wording.specs.Words.{wordsOf}
 use Rattle.planning.specs.Plan.{bindings}
 use Rattle.text.proofs.Putting.{same-length}
-use Rattle.planning.proofs.Finding.{starts, no-word}
+use Rattle.wording.proofs.Finding.{starts, no-word}
 use Rattle.planning.proofs.Putting.{Begun, no-kind, kind-put, no-more-words, all-kinds}
 use native.Mathlib.Omega.{arith}
 use Rattle.planning.proofs.lines.put_kinds.Statement.{statement}

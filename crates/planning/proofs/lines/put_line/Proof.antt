@@ -1,7 +1,7 @@
 use borrow.Author.Needs.{needs}
-use mathlib.Core.Path.{_≡_, refl, sym, ap, _∙_}
+use mathlib.Core.Path.{sym}
 use lib.Seq.{length-take-le}
-use Rattle.planning.proofs.Searching.{found-within}
+use Rattle.wording.proofs.Searching.{found-within}
 use Rattle.planning.proofs.Texts.{cut}
 use native.Mathlib.Omega.{arith}
 use Rattle.planning.proofs.lines.put_line.Statement.{statement}

@@ -1,13 +1,13 @@
 use borrow.Author.Needs.{needs}
 use Prim.Native.Nat.{_+_, _*_, _-_, _≤_}
 use lib.ListN.{length, drop}
-use mathlib.Core.Path.{_≡_, refl, sym, ap, _∙_}
-use Rattle.planning.specs.declared.words.Sought.the-variants.{Byte}
-use Rattle.planning.specs.Words.{soughtIn, linesOf}
+use mathlib.Core.Path.{_∙_}
+use Rattle.wording.specs.declared.words.Sought.the-variants.{Byte}
+use Rattle.wording.specs.Words.{soughtIn, linesOf}
 use Rattle.planning.specs.Plan.{planFrom, planOf}
 use Rattle.planning.specs.Steps.{mostLine, laid, bad-line}
 use Rattle.text.proofs.Putting.{same-length}
-use Rattle.planning.proofs.Searching.{found-from, found-within}
+use Rattle.wording.proofs.Searching.{found-from, found-within}
 use Rattle.planning.proofs.Texts.{Laying, no-line-yet, forward, bad-line-found, line-put, text-ends, no-line-left}
 use native.Mathlib.Omega.{arith}
 use Rattle.planning.proofs.lines.put_plan.Statement.{statement}

@@ -1,5 +1,5 @@
 use borrow.Author.Needs.{needs}
-use mathlib.Core.Path.{_≡_, refl, sym, ap, _∙_}
+use mathlib.Core.Path.{sym, _∙_}
 use Rattle.planning.specs.Steps.{next, stop}
 use Rattle.text.proofs.Putting.{nothing, at-most}
 use native.Mathlib.Omega.{arith}

@@ -1,0 +1,6 @@
+-- What the contracts of `wording` cite, in reading order.
+pub mod Words  -- the lines of a text, the words of a line
+pub mod Numbers  -- the number of a word
+pub mod Orders  -- the order of a line's words
+pub mod Finding  -- what the search for a word answers
+pub mod Fits  -- places and counts fit 32 bits
