@@ -12,9 +12,9 @@ ghost use Rattle.instructions.specs.Forms.{Sized};
 ghost use Rattle.heap.specs.Blocks.{cell};
 ghost use Rattle.positions.specs.Held.{heldIn};
 ghost use Rattle.showing.specs.Cells.{blockWords, cellWords, cellLine, lineOf, firstLines, variableLines};
-use reporting::parts;
 use machine::state::State;
 use records::check::Checked;
+use reporting::parts;
 
 fn put_block(text: &mut [u8], at: usize, pointer: u64) -> usize
     requires { ⌜ at + 28 ≤ farthest ⌝ }
