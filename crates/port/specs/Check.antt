@@ -7,11 +7,7 @@ use Rattle.records.specs.Checked.{causeOf}
 use Rattle.records.specs.Contexts.{checkedContext, contextCause}
 use Rattle.records.specs.Instructions.{checkedCodes}
 use Rattle.records.specs.Orders.{orderRead, orderCause}
-use Rattle.port.specs.Numbers.{numberIn, valueIn}
-
--- a cause's number and place, each 0 where there is none
-abbrev pub numbersIn : List ℕ → List ℕ
-numbersIn cause = numberIn cause ∷ valueIn cause ∷ []
+use Rattle.numbered.specs.Check.{numbersIn}
 
 -- the checks: 1 a context, 2 a list of instruction records, 3 an order; any other number is refused with 3
 unfoldable pub checkNumbers : ℕ → List ℕ → List ℕ

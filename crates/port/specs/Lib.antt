@@ -1,6 +1,6 @@
 -- What the exported functions answer.
-pub mod Numbers  -- an answer as a number and a value
-pub mod Check  -- the checks by number, and what they answer
-pub mod Emission  -- the operations by number, and what they answer
-pub mod Query  -- the queries by number, and what they answer
+pub mod Numbers  -- what a listing and a run answer
+pub mod Check  -- the checks by number
+pub mod Emission  -- what the operations answer
+pub mod Query  -- the queries by number
 pub mod Order  -- what an order answers

@@ -1,8 +1,7 @@
--- An answer as two numbers: document 01's number, 0 where the input is accepted, and the value that goes with it.
+-- What a listing and a run answer: document 01's number, 0 where the input is accepted, and the values that go with it.
 use Prim.Native.Nat.{ℕ}
 use mathlib.Core.Bool.{Bool, cond}
 use mathlib.Core.List.{List, [], _∷_}
-use lib.ListN.{getD}
 use mathlib.Core.Path.{_≡_}
 use Rattle.listing.specs.declared.Listed.{Listed}
 use Rattle.listing.specs.declared.Listed.the-variants.{Text, Malformed, Short}
@@ -12,12 +11,6 @@ use Rattle.machine.specs.declared.state.State.{State}
 use Rattle.machine.specs.State.{entryState, freshState}
 use Rattle.machine.specs.Run.{Done}
 use Rattle.instructions.specs.View.{View}
-
-abbrev pub numberIn : List ℕ → ℕ
-numberIn cause = getD cause 0 0
-
-abbrev pub valueIn : List ℕ → ℕ
-valueIn cause = getD cause 1 0
 
 -- a listing's answer; accepted, its value is the number of bytes written
 abbrev pub listedNumbers : Listed → List ℕ

@@ -1,34 +1,12 @@
 -- What the exported queries answer: the number and the value that goes with it.
-use Prim.Native.Nat.{ℕ, _%_, _^_}
-use mathlib.Core.Bool.{Bool, true, false, cond}
+use Prim.Native.Nat.{ℕ}
+use mathlib.Core.Bool.{Bool, cond}
 use mathlib.Core.List.{List, [], _∷_}
-use lib.Dec.{eqb, ltb}
-use Rattle.layout.specs.declared.utils.Temporary.{Temporary}
-use Rattle.layout.specs.declared.utils.Temporary.the-variants.{Operand, Malformed, Missing, OutOfTemporaries}
-use Rattle.layout.specs.declared.utils.TemporaryNumber.{TemporaryNumber}
-use Rattle.layout.specs.declared.utils.TemporaryNumber.the-variants.{Fst, Snd}
-use Rattle.layout.specs.Config.{base, stackOffset, fstOffset, sndOffset}
+use lib.Dec.{eqb}
+use Rattle.layout.specs.Config.{base}
 use Rattle.layout.specs.Positions.{positionAnswer}
 use Rattle.layout.specs.Queries.{freshTemporary, variableTemporary}
-
--- a temporary's number, and its operand
-abbrev pub temporaryNumbers : Temporary → List ℕ
-temporaryNumbers (Operand w) = 0 ∷ w ∷ []
-temporaryNumbers Malformed = 1 ∷ 0 ∷ []
-temporaryNumbers Missing = 4 ∷ 0 ∷ []
-temporaryNumbers OutOfTemporaries = 8 ∷ 0 ∷ []
-
-abbrev pub halfOf : Bool → TemporaryNumber
-halfOf true = Snd
-halfOf false = Fst
-
--- where the spill that a word names stands from STACK; a word that names none of spills 1 to 255 is refused with 3
-abbrev pub stackOffsetNumbers : ℕ → List ℕ
-stackOffsetNumbers w = cond (ltb w 17) (3 ∷ 0 ∷ []) (cond (ltb w 272) (0 ∷ stackOffset base w ∷ []) (3 ∷ 0 ∷ []))
-
--- where a field's Fst or Snd stands in a block, at 64 bits
-abbrev pub fieldOffset : Bool → ℕ → ℕ
-fieldOffset second i = cond second (sndOffset i) (fstOffset i) % 2 ^ 64
+use Rattle.numbered.specs.Query.{temporaryNumbers, halfOf, stackOffsetNumbers, fieldOffset}
 
 -- the queries: 1 position, 2 fresh_temporary, 3 variable_temporary, 4 stack_offset, 5 field_offset; any other number is refused with 3
 unfoldable pub queryNumbers : ℕ → Bool → ℕ → ℕ → List ℕ → List ℕ

@@ -6,7 +6,8 @@ ghost use Rattle.listing.specs.Names.{codeNames};
 ghost use Rattle.listing.specs.Listing.{listed, listedText};
 ghost use Rattle.instructions.specs.View.{view, wordsOf};
 ghost use Rattle.machine.specs.Run.{ran};
-ghost use Rattle.port.specs.Numbers.{numberIn, valueIn, listedNumbers, startState, Gives};
+ghost use Rattle.numbered.specs.Numbers.{numberIn, valueIn};
+ghost use Rattle.port.specs.Numbers.{listedNumbers, startState, Gives};
 
 pub mod check; // bytes checked: a context, instruction records, an order
 pub mod emission; // the operations of code.rs, memory.rs and into_routine.rs

@@ -2,9 +2,9 @@ use borrow.Author.Needs.{needs}
 use borrow.Author.Tests.{ne-eqb}
 use mathlib.Core.Path.{refl}
 use Rattle.emit.specs.Wrote.{refused}
-use Rattle.port.specs.Emission.{memoryAnswer, memoryRecords}
-use Rattle.port.proofs.emission.memory.Statement.{statement}
-use Rattle.port.proofs.emission.memory.Tie as tie
+use Rattle.numbered.specs.Emission.{memoryAnswer, memoryRecords}
+use Rattle.numbered.proofs.emission.memory.Statement.{statement}
+use Rattle.numbered.proofs.emission.memory.Tie as tie
 
 pub memory-spec : {M : Type 1} → statement M
 unfolding memoryAnswer memoryRecords

@@ -1,7 +1,7 @@
 use borrow.Author.Needs.{needs}
 use native.Mathlib.Omega.{arith}
-use Rattle.port.proofs.query.offset_of_field.Statement.{statement}
-use Rattle.port.proofs.query.offset_of_field.Tie as tie
+use Rattle.numbered.proofs.query.offset_of_field.Statement.{statement}
+use Rattle.numbered.proofs.query.offset_of_field.Tie as tie
 
 pub offset-of-field-spec : {M : Type 1} → statement M
 offset-of-field-spec =

@@ -1,6 +1,6 @@
 use borrow.Author.Needs.{needs}
-use Rattle.port.proofs.check.check_records.Statement.{statement}
-use Rattle.port.proofs.check.check_records.Tie as tie
+use Rattle.numbered.proofs.check.check_records.Statement.{statement}
+use Rattle.numbered.proofs.check.check_records.Tie as tie
 
 pub check-records-spec : {M : Type 1} → statement M
 check-records-spec =

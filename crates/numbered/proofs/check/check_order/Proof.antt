@@ -1,6 +1,6 @@
 use borrow.Author.Needs.{needs}
-use Rattle.port.proofs.check.check_order.Statement.{statement}
-use Rattle.port.proofs.check.check_order.Tie as tie
+use Rattle.numbered.proofs.check.check_order.Statement.{statement}
+use Rattle.numbered.proofs.check.check_order.Tie as tie
 
 pub check-order-spec : {M : Type 1} → statement M
 check-order-spec =

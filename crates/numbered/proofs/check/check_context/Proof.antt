@@ -1,6 +1,6 @@
 use borrow.Author.Needs.{needs}
-use Rattle.port.proofs.check.check_context.Statement.{statement}
-use Rattle.port.proofs.check.check_context.Tie as tie
+use Rattle.numbered.proofs.check.check_context.Statement.{statement}
+use Rattle.numbered.proofs.check.check_context.Tie as tie
 
 pub check-context-spec : {M : Type 1} → statement M
 check-context-spec =

@@ -1,8 +1,8 @@
 use Rattle.operations.specs.declared.operation.Operation.the-variants.{Label}
-use Rattle.port.specs.Emission.{operations, operationNumbered}
-use Rattle.port.proofs.Tells.{none-of}
-use Rattle.port.proofs.emission.operation_numbered.Statement.{statement}
-use Rattle.port.proofs.emission.operation_numbered.Tie as tie
+use Rattle.numbered.specs.Emission.{operations, operationNumbered}
+use Rattle.numbered.proofs.Numbered.{none-of}
+use Rattle.numbered.proofs.emission.operation_numbered.Statement.{statement}
+use Rattle.numbered.proofs.emission.operation_numbered.Tie as tie
 
 pub operation-numbered-spec : {M : Type 1} → statement M
 unfolding operationNumbered

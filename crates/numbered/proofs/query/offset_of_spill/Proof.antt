@@ -1,7 +1,7 @@
 use borrow.Author.Needs.{needs}
 use borrow.Author.Tests.{lt-ltb, le-ltb}
-use Rattle.port.proofs.query.offset_of_spill.Statement.{statement}
-use Rattle.port.proofs.query.offset_of_spill.Tie as tie
+use Rattle.numbered.proofs.query.offset_of_spill.Statement.{statement}
+use Rattle.numbered.proofs.query.offset_of_spill.Tie as tie
 
 pub offset-of-spill-spec : {M : Type 1} → statement M
 offset-of-spill-spec =

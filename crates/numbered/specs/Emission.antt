@@ -1,0 +1,95 @@
+-- The operations by number, from 1 on, and their answers told as numbers.
+use Prim.Native.Nat.{ℕ}
+use mathlib.Core.Bool.{cond}
+use mathlib.Core.List.{List, [], _∷_}
+use lib.Dec.{eqb}
+use lib.ListN.{getD}
+use Rattle.records.specs.declared.code.Code.{Code}
+use Rattle.records.specs.declared.order.Operation.the-variants.{Add, Sub, Mul, Div, Rem}
+use Rattle.code.specs.declared.emitters.Condition.the-variants.{Equal, NotEqual, Less, LessOrEqual, Greater, GreaterOrEqual}
+use Rattle.emit.specs.declared.answer.Answer.{Answer}
+use Rattle.emit.specs.declared.answer.Answer.the-variants.{Written, Context, Body, Operand, Missing, Arguments, Count, Position, Labels, Room}
+use Rattle.trees.specs.Tree.{flat}
+use Rattle.layout.specs.Config.{base}
+use Rattle.operations.specs.declared.operation.Operation.{Operation}
+use Rattle.operations.specs.declared.operation.Operation.the-variants.{Label, Jump, JumpLabel, JumpLabelFixed, JumpLabelIf, JumpLabelIfZero, LoadImmediate, LoadLabel, AddAndJump, Arithmetic, Mov, Compare, CompareImmediate}
+use Rattle.memory.specs.Blocks.{eraseBlock, shareBlock}
+use Rattle.memory.specs.Answered.{eraseAnswer, shareAnswer, storeTree, storeAnswer}
+use Rattle.memory.specs.LoadAnswered.{loadTree, loadAnswer}
+
+-- an answer's number and value; accepted, its value is the number of records written
+abbrev pub answerNumbers : Answer → List ℕ
+answerNumbers (Written n after) = 0 ∷ n ∷ []
+answerNumbers Context = 1 ∷ 0 ∷ []
+answerNumbers (Body place) = 2 ∷ place ∷ []
+answerNumbers Operand = 3 ∷ 0 ∷ []
+answerNumbers Missing = 4 ∷ 0 ∷ []
+answerNumbers Arguments = 6 ∷ 0 ∷ []
+answerNumbers Count = 7 ∷ 0 ∷ []
+answerNumbers Position = 8 ∷ 0 ∷ []
+answerNumbers Labels = 9 ∷ 0 ∷ []
+answerNumbers (Room bytes) = 10 ∷ bytes ∷ []
+
+-- the counter after an answer: a refusal keeps it
+abbrev pub counterAfter : ℕ → Answer → ℕ
+counterAfter counter (Written n after) = after
+counterAfter counter Context = counter
+counterAfter counter (Body place) = counter
+counterAfter counter Operand = counter
+counterAfter counter Missing = counter
+counterAfter counter Arguments = counter
+counterAfter counter Count = counter
+counterAfter counter Position = counter
+counterAfter counter Labels = counter
+counterAfter counter (Room bytes) = counter
+
+-- the operations of code.rs in sequence: operands x, y, z, a label and an immediate
+abbrev pub operations : ℕ → ℕ → ℕ → ℕ → ℕ → List Operation
+operations x y z l value =
+    Label l
+    ∷ Jump x
+    ∷ JumpLabel l
+    ∷ JumpLabelFixed l
+    ∷ JumpLabelIf Equal x y l
+    ∷ JumpLabelIf NotEqual x y l
+    ∷ JumpLabelIf Less x y l
+    ∷ JumpLabelIf LessOrEqual x y l
+    ∷ JumpLabelIf Greater x y l
+    ∷ JumpLabelIf GreaterOrEqual x y l
+    ∷ JumpLabelIfZero Equal x l
+    ∷ JumpLabelIfZero NotEqual x l
+    ∷ JumpLabelIfZero Less x l
+    ∷ JumpLabelIfZero LessOrEqual x l
+    ∷ JumpLabelIfZero Greater x l
+    ∷ JumpLabelIfZero GreaterOrEqual x l
+    ∷ LoadImmediate x value
+    ∷ LoadLabel x l
+    ∷ AddAndJump x value
+    ∷ Arithmetic Add x y z
+    ∷ Arithmetic Sub x y z
+    ∷ Arithmetic Mul x y z
+    ∷ Arithmetic Div x y z
+    ∷ Arithmetic Rem x y z
+    ∷ Mov x y
+    ∷ Compare x y
+    ∷ CompareImmediate x value
+    ∷ []
+
+-- the operation of a number from 1 on; any other number gives a label that no record may hold, which is refused with 3
+unfoldable pub operationNumbered : ℕ → ℕ → ℕ → ℕ → ℕ → ℕ → Operation
+operationNumbered number x y z l value = getD (Label 0 ∷ operations x y z l value) number (Label 0)
+
+-- the answers and the records of memory.rs: 1 erase_block, 2 share_block_n, 3 store, 4 load; any other number is refused with 3
+unfoldable pub memoryAnswer : ℕ → ℕ → ℕ → ℕ → ℕ → List ℕ → List ℕ → Answer
+memoryAnswer number counter room w n context loaded =
+    cond (eqb number 1) (eraseAnswer base counter room w)
+    (cond (eqb number 2) (shareAnswer base counter room w n)
+    (cond (eqb number 3) (storeAnswer base counter room context n)
+    (cond (eqb number 4) (loadAnswer base counter room loaded context) Operand)))
+
+unfoldable pub memoryRecords : ℕ → ℕ → ℕ → ℕ → List ℕ → List ℕ → List Code
+memoryRecords number counter w n context loaded =
+    cond (eqb number 1) (flat (eraseBlock base w) counter)
+    (cond (eqb number 2) (flat (shareBlock base w n) counter)
+    (cond (eqb number 3) (flat (storeTree base context n) counter)
+    (cond (eqb number 4) (flat (loadTree base loaded context) counter) [])))

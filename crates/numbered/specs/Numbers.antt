@@ -1,0 +1,10 @@
+-- An answer as two numbers: document 01's number, 0 where the input is accepted, and the value that goes with it.
+use Prim.Native.Nat.{ℕ}
+use mathlib.Core.List.{List}
+use lib.ListN.{getD}
+
+abbrev pub numberIn : List ℕ → ℕ
+numberIn cause = getD cause 0 0
+
+abbrev pub valueIn : List ℕ → ℕ
+valueIn cause = getD cause 1 0

@@ -1,0 +1,51 @@
+// Bytes checked: a context, a list of instruction records, an order.
+ghost use mathlib.Core.Path.{_≡_};
+ghost use mathlib.Core.List.{[], _∷_};
+ghost use Rattle.records.specs.Checked.{causeOf};
+ghost use Rattle.records.specs.Contexts.{checkedContext, contextCause};
+ghost use Rattle.records.specs.Instructions.{checkedCodes};
+ghost use Rattle.records.specs.Orders.{orderRead, orderCause};
+ghost use Rattle.numbered.specs.Check.{numbersIn};
+use records::check::Checked;
+use records::order::OrderRead;
+
+// Number 1 goes without a place.
+pub fn check_context(bytes: &[u8], place: &mut u64) -> u64
+    ensures { λ r. ⌜ r ∷ now (place .exit) ∷ [] ≡ numbersIn (contextCause (checkedContext (now (bytes .entry)))) ⌝ }
+{
+    *place = 0;
+    match records::binding::check_context(bytes) {
+        Checked::Good(_) => 0,
+        Checked::Malformed(_) => 1,
+    }
+}
+
+pub fn check_records(bytes: &[u8], place: &mut u64) -> u64
+    ensures { λ r. ⌜ r ∷ now (place .exit) ∷ [] ≡ numbersIn (causeOf (checkedCodes 65536 (now (bytes .entry)))) ⌝ }
+{
+    match records::code::check_codes(bytes, 65536) {
+        Checked::Good(_) => {
+            *place = 0;
+            0
+        }
+        Checked::Malformed(bad) => {
+            *place = bad as u64;
+            2
+        }
+    }
+}
+
+pub fn check_order(bytes: &[u8], place: &mut u64) -> u64
+    ensures { λ r. ⌜ r ∷ now (place .exit) ∷ [] ≡ numbersIn (orderCause (orderRead (now (bytes .entry)))) ⌝ }
+{
+    match records::order::read_order(bytes) {
+        OrderRead::Whole(_) => {
+            *place = 0;
+            0
+        }
+        OrderRead::Malformed(bad) => {
+            *place = bad as u64;
+            2
+        }
+    }
+}
