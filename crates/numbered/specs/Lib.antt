@@ -4,3 +4,5 @@ pub mod Check  -- what the checks answer
 pub mod Emission  -- the operations by number, and what they answer
 pub mod Query  -- what the queries answer
 pub mod Order  -- what an order answers
+pub mod List  -- what a listing answers
+pub mod Run  -- what a run answers

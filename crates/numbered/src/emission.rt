@@ -13,43 +13,23 @@ use records::order;
 pub fn told(answer: Answer, value: &mut u64) -> u64
     ensures { λ r. ⌜ r ∷ now (value .exit) ∷ [] ≡ answerNumbers answer ⌝ }
 {
+    *value = 0;
     match answer {
         Answer::Written(records, _) => {
             *value = records as u64;
             0
         }
-        Answer::Context => {
-            *value = 0;
-            1
-        }
+        Answer::Context => 1,
         Answer::Body(place) => {
             *value = place as u64;
             2
         }
-        Answer::Operand => {
-            *value = 0;
-            3
-        }
-        Answer::Missing => {
-            *value = 0;
-            4
-        }
-        Answer::Arguments => {
-            *value = 0;
-            6
-        }
-        Answer::Count => {
-            *value = 0;
-            7
-        }
-        Answer::Position => {
-            *value = 0;
-            8
-        }
-        Answer::Labels => {
-            *value = 0;
-            9
-        }
+        Answer::Operand => 3,
+        Answer::Missing => 4,
+        Answer::Arguments => 6,
+        Answer::Count => 7,
+        Answer::Position => 8,
+        Answer::Labels => 9,
         Answer::Room(bytes) => {
             *value = bytes as u64;
             10

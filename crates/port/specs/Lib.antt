@@ -1,5 +1,5 @@
 -- What the exported functions answer.
-pub mod Numbers  -- what a listing and a run answer
+pub mod Run  -- the state to start from, and what a run gives
 pub mod Check  -- the checks by number
 pub mod Emission  -- what the operations answer
 pub mod Query  -- the queries by number

@@ -7,15 +7,14 @@ ghost use Rattle.listing.specs.Listing.{listed, listedText};
 ghost use Rattle.instructions.specs.View.{view, wordsOf};
 ghost use Rattle.machine.specs.Run.{ran};
 ghost use Rattle.numbered.specs.Numbers.{numberIn, valueIn};
-ghost use Rattle.port.specs.Numbers.{listedNumbers, startState, Gives};
+ghost use Rattle.numbered.specs.List.{listedNumbers};
+ghost use Rattle.port.specs.Run.{startState, Gives};
 
 pub mod check; // bytes checked: a context, instruction records, an order
 pub mod emission; // the operations of code.rs, memory.rs and into_routine.rs
 pub mod query; // the queries of utils.rs and config.rs
 pub mod order; // the seven orders
 
-use listing::Listed;
-use machine::run::Answer;
 use machine::state::State;
 
 // The listing of at most 2,730 records: its bytes, the place of a bad record, or the bytes needed.
@@ -25,20 +24,8 @@ pub extern "C" fn axcut_list(records: &[u8], text: &mut [u8], value: &mut u64) -
     ensures value { λ r. ⌜ now (value .exit) ≡ valueIn (listedNumbers (listed codeNames (now (records .entry)) (length (now (text .entry))))) ⌝ }
     ensures written { λ r. ⌜ now (text .exit) ≡ stored (now (text .entry)) 0 (listedText codeNames (now (records .entry))) ⌝ }
 {
-    match listing::list_records(records, text) {
-        Listed::Text(bytes) => {
-            *value = bytes as u64;
-            0
-        }
-        Listed::Malformed(place) => {
-            *value = place as u64;
-            2
-        }
-        Listed::Short(bytes) => {
-            *value = bytes as u64;
-            10
-        }
-    }
+    let answer = listing::list_records(records, text);
+    numbered::list::told(answer, value)
 }
 
 fn start(fresh: bool) -> State
@@ -86,31 +73,10 @@ pub extern "C" fn axcut_run(
     };
     let ran = machine::run::run(records, state, heap, *words, limit);
     let left = ran.state;
-    let answer = ran.answer;
     let after = left.registers;
     let below = left.stack;
     *registers = after;
     *stack = below;
-    match answer {
-        Answer::Ended(done) => {
-            *steps = done;
-            *place = 0;
-            0
-        }
-        Answer::Malformed(bad) => {
-            *steps = 0;
-            *place = bad as u64;
-            2
-        }
-        Answer::Fault(done, at) => {
-            *steps = done;
-            *place = at as u64;
-            11
-        }
-        Answer::Limit(done) => {
-            *steps = done;
-            *place = 0;
-            12
-        }
-    }
+    let answer = ran.answer;
+    numbered::run::told(answer, steps, place)
 }

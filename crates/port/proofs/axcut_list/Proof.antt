@@ -1,4 +1,7 @@
 use borrow.Author.Needs.{needs}
+use mathlib.Core.Path.{ap, _∙_}
+use Rattle.numbered.specs.Numbers.{numberIn, valueIn}
+use Rattle.numbered.specs.List.{listedNumbers}
 use Rattle.port.proofs.axcut_list.Statement.{statement}
 use Rattle.port.proofs.axcut_list.Tie as tie
 
@@ -7,12 +10,6 @@ axcut-list-spec =
     tie.close
     (tie.spec
     (λ c κs. search needs)
+    (λ c κs. search needs)
     (λ c. search needs)
-    (λ c. search needs)
-    (λ c. search needs)
-    (λ c. search needs)
-    (λ c. (rw (← (c .before .before .before .before .before .list-records .ensures .0), c .before .bytes .given .1), (rw (← (c .before .before .before .before .before .list-records .ensures .0), c .before .bytes .given .1), c .before .before .before .before .before .list-records .ensures .1)))
-    (λ c. search needs)
-    (λ c. (rw (← (c .before .before .before .before .before .list-records .ensures .0), c .before .place .given .1), (rw (← (c .before .before .before .before .before .list-records .ensures .0), c .before .place .given .1), c .before .before .before .before .before .list-records .ensures .1)))
-    (λ c. search needs)
-    (λ c. (rw (← (c .before .before .before .before .before .list-records .ensures .0), c .before .bytes2 .given .1), (rw (← (c .before .before .before .before .before .list-records .ensures .0), c .before .bytes2 .given .1), c .before .before .before .before .before .list-records .ensures .1))))
+    (λ c. let l = c .before .before .before .before .list-records .ensures in let n = c .told .ensures ∙ ap listedNumbers (l .0) in (ap numberIn n, (ap valueIn n, l .1))))

@@ -1,5 +1,4 @@
 use borrow.Author.Needs.{needs}
-use mathlib.Core.Path.{refl}
 use Rattle.port.proofs.Gives.{gives}
 use Rattle.port.proofs.axcut_run.Statement.{statement}
 use Rattle.port.proofs.axcut_run.Tie as tie
@@ -9,15 +8,6 @@ axcut-run-spec =
     tie.close
     (tie.spec
     (λ c κs. search needs)
+    (λ c κs. search needs)
     (λ c. search needs)
-    (λ c. search needs)
-    (λ c. search needs)
-    (λ c. search needs)
-    (λ c. search needs)
-    (λ c. gives (c .before .before .before .before .before .before .before .before .run .ensures) (c .before .answer .given .1) refl)
-    (λ c. search needs)
-    (λ c. gives (c .before .before .before .before .before .before .before .before .run .ensures) (c .before .answer2 .given .1) refl)
-    (λ c. search needs)
-    (λ c. gives (c .before .before .before .before .before .before .before .before .run .ensures) (c .before .answer3 .given .1) refl)
-    (λ c. search needs)
-    (λ c. gives (c .before .before .before .before .before .before .before .before .run .ensures) (c .before .answer4 .given .1) refl))
+    (λ c. gives (c .before .before .before .before .before .before .before .before .run .ensures) (c .told .ensures)))
