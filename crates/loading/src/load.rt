@@ -13,7 +13,6 @@ ghost use Rattle.memory.specs.Objects.{extIn, loadSome, loadObject};
 ghost use Rattle.memory.specs.Answered.{treeAnswer};
 ghost use Rattle.memory.specs.LoadAnswered.{loadTree, loadFits, loadAfter, loadAnswer};
 ghost use Rattle.loading.specs.Linked.{oneIfLinked, linkedIn};
-use crate::fields;
 use emit::answer::Answer;
 use emit::cursor::Cursor;
 use emit::cursor::Row;
