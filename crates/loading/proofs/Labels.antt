@@ -2,12 +2,14 @@
 use Prim.Native.Nat.{ℕ, zero, suc, _+_, _*_, _-_, _/_, _≤_}
 use mathlib.Core.Path.{_≡_, refl, ap, _∙_}
 use mathlib.Core.Bool.{Bool, true, false, cond}
+use mathlib.Core.List.{List}
 use native.Mathlib.Nat.{add-zero, add-suc}
 use native.Mathlib.Omega.{arith}
 use lib.Dec.{ltb}
+use Rattle.records.specs.Contexts.{extAt}
 use Rattle.trees.specs.Tree.{Tree, labels}
 use Rattle.layout.specs.Config.{base}
-use Rattle.memory.specs.Objects.{fst, snd, loadFst, loadValue, loadValues, loadBody, loadSpilled, loadBlock, freed, loadOthers, loadSome, capacity}
+use Rattle.memory.specs.Objects.{fst, snd, extIn, loadFst, loadValue, loadValues, loadBody, loadSpilled, loadBlock, freed, loadOthers, loadSome, capacity}
 use Rattle.memory.specs.Sizes.{load-field-size, release-size, link-size, aside-size, restore-size}
 use Rattle.loading.specs.Linked.{oneIfLinked, linkedIn}
 
@@ -94,10 +96,21 @@ module _ (ext : ℕ → Bool) (shared : Bool) where
       let p = parts v n 2 in
       omega arith
 
-  pub some-labels : (v n : ℕ) → labels (loadSome base ext shared v n) ≡ drawn shared (linkedIn ext v n)
+  some-labels : (v n : ℕ) → labels (loadSome base ext shared v n) ≡ drawn shared (linkedIn ext v n)
   some-labels v n =
       let m = (n - 3 + 1) / 2 in
       let a = block-labels false (freed base ext v (n - 3)) (v + (n - 3)) (n - (n - 3)) in
       let z = others-labels m v (n - 3) (omega arith) in
       let p = parts v n 3 in
       omega arith
+
+pub released-labels : (ext : ℕ → Bool) (v n : ℕ) → labels (loadSome base ext false v n) ≡ 0
+released-labels ext v n = some-labels ext false v n
+
+-- the variables from v on, of which the first binding record is variable v's
+linked-from : (s : List ℕ) (v n : ℕ) → linkedIn (extIn s v) v n ≡ linkedIn (extAt s) 0 n
+linked-from s v zero = refl
+linked-from s v (suc n) = let e : v + n - v ≡ 0 + n = omega arith in rw (linked-from s v n, e)
+
+pub shared-labels : (s : List ℕ) (v n : ℕ) → labels (loadSome base (extIn s v) true v n) ≡ linkedIn (extAt s) 0 n
+shared-labels s v n = some-labels (extIn s v) true v n ∙ linked-from s v n

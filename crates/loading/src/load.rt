@@ -1,14 +1,17 @@
 // An object's variables loaded: its blocks are released where no other pointer names it, else its children are shared. From memory.rs.
 ghost use mathlib.Core.Path.{_≡_, refl};
-ghost use mathlib.Core.Bool.{true, false};
-ghost use Prim.Native.Nat.{_+_, _*_, _-_, _<_, _≤_, _^_};
+ghost use mathlib.Core.Bool.{true, false, cond};
+ghost use Prim.Native.Nat.{_+_, _*_, _<_, _≤_, _^_};
+ghost use lib.Dec.{ltb};
 ghost use lib.ListN.{length};
-ghost use Rattle.records.specs.declared.code.Code.the-variants.{ADDIM, CMPIM};
-ghost use Rattle.trees.specs.Tree.{leaf, seq, if-zero, labels, flat};
+ghost use Rattle.records.specs.declared.code.Code.the-variants.{MOVL, ADDIM, CMPIM};
+ghost use Rattle.records.specs.Contexts.{extAt};
+ghost use Rattle.trees.specs.Tree.{nop, leaf, seq, if-zero, flat};
 ghost use Rattle.emit.specs.Emitted.{Emits};
 ghost use Rattle.emit.specs.Answers.{Answers};
-ghost use Rattle.layout.specs.Config.{base, MINUSONE};
+ghost use Rattle.layout.specs.Config.{base, STACK, TEMP, MINUSONE, stackOffset};
 ghost use Rattle.layout.specs.Positions.{Table};
+ghost use Rattle.memory.specs.Blocks.{blockRegister};
 ghost use Rattle.memory.specs.Objects.{extIn, loadSome, loadObject};
 ghost use Rattle.memory.specs.Answered.{treeAnswer};
 ghost use Rattle.memory.specs.LoadAnswered.{loadTree, loadFits, loadAfter, loadAnswer};
@@ -35,29 +38,17 @@ fn one_if_linked(ext: bool) -> u64
     if ext { 0 } else { 1 }
 }
 
-// How many of the n variables from v on are linked.
-fn linked(kinds: &[u8], first: u64, v: u64, n: u64) -> u64
-    requires { ⌜ (first ≤ v) × (8 * (v + n - first) ≤ length (now kinds)) × (v + n ≤ 133) ⌝ }
-    ensures { λ r. ⌜ (r ≡ linkedIn (extIn (now (kinds .entry)) first) v n) × (r ≤ n) ⌝ }
+// How many of the first n binding records are of linked variables.
+fn linked(kinds: &[u8], n: u64) -> u64
+    requires { ⌜ (8 * n ≤ length (now kinds)) × (n ≤ 133) ⌝ }
+    ensures { λ r. ⌜ (r ≡ linkedIn (extAt (now (kinds .entry))) 0 n) × (r ≤ n) ⌝ }
 {
     let mut count: u64 = 0;
     for i in 0..n {
-        let ext = store::is_ext(kinds, v + i - first);
+        let ext = store::is_ext(kinds, i);
         count = count + one_if_linked(ext);
     }
     count
-}
-
-// How many labels the load of all blocks draws: one for each linked variable where they are shared, else none.
-fn labels_of(kinds: &[u8], first: u64, shared: bool, v: u64, n: u64) -> u64
-    requires { ⌜ (first ≤ v) × (8 * (v + n - first) ≤ length (now kinds)) × (v + n ≤ 133) ⌝ }
-    ensures { λ r. ⌜ (r ≡ labels (loadSome base (extIn (now (kinds .entry)) first) shared v n)) × (r ≤ 133) ⌝ }
-{
-    if shared {
-        linked(kinds, first, v, n)
-    } else {
-        0
-    }
 }
 
 // One reference fewer to the object in register r, and its children shared.
@@ -66,50 +57,34 @@ fn load_shared(
     p: Cursor,
     table: &[u64; 267],
     kinds: &[u8],
-    first: u64,
     v: u64,
     n: u64,
     r: u8,
 ) -> Cursor
-    requires { ⌜ (Table (now table)) × (first ≤ v) × (8 * (v + n - first) ≤ length (now kinds)) × (v + n ≤ 133) × (p .at + 40024 < 2 ^ 64) × (p .counter + 200 < 2 ^ 32) ⌝ }
-    ensures { λ q. ⌜ Emits (now (out .entry)) p (now (out .exit)) q (seq (leaf (ADDIM r 0 MINUSONE) refl) (loadSome base (extIn (now (kinds .entry)) first) true v n)) ⌝ }
+    requires { ⌜ (Table (now table)) × (8 * n ≤ length (now kinds)) × (v + n ≤ 133) × (p .at + 40024 < 2 ^ 64) × (p .counter + 200 < 2 ^ 32) ⌝ }
+    ensures { λ q. ⌜ Emits (now (out .entry)) p (now (out .exit)) q (seq (leaf (ADDIM r 0 MINUSONE) refl) (loadSome base (extIn (now (kinds .entry)) v) true v n)) ⌝ }
 {
     let q = emit::cursor::emit(out, p, Row(ADDIM, r, 0, 0, 0, MINUS_ONE));
-    fields::load_some(out, q, table, kinds, first, true, v, n)
+    fields::load_some(out, q, table, kinds, v, true, v, n)
 }
 
-// By the count of the object in register r.
+// By the count of the object in register r. A load that releases draws no label, one that shares draws one for each linked variable.
 fn load_counted(
     out: &mut [u8],
     p: Cursor,
     table: &[u64; 267],
     kinds: &[u8],
-    first: u64,
     v: u64,
     n: u64,
     r: u8,
 ) -> Cursor
-    requires { ⌜ (Table (now table)) × (first ≤ v) × (8 * (v + n - first) ≤ length (now kinds)) × (v + n ≤ 133) × (p .at + 90000 < 2 ^ 64) × (p .counter + 400 < 2 ^ 32) ⌝ }
-    ensures { λ q. ⌜ Emits (now (out .entry)) p (now (out .exit)) q (if-zero (CMPIM r 0 0) refl (loadSome base (extIn (now (kinds .entry)) first) false v n) (seq (leaf (ADDIM r 0 MINUSONE) refl) (loadSome base (extIn (now (kinds .entry)) first) true v n))) ⌝ }
+    requires { ⌜ (Table (now table)) × (8 * n ≤ length (now kinds)) × (v + n ≤ 133) × (p .at + 90000 < 2 ^ 64) × (p .counter + 400 < 2 ^ 32) ⌝ }
+    ensures { λ q. ⌜ Emits (now (out .entry)) p (now (out .exit)) q (if-zero (CMPIM r 0 0) refl (loadSome base (extIn (now (kinds .entry)) v) false v n) (seq (leaf (ADDIM r 0 MINUSONE) refl) (loadSome base (extIn (now (kinds .entry)) v) true v n))) ⌝ }
 {
-    let released = labels_of(kinds, first, false, v, n);
-    let shared = labels_of(kinds, first, true, v, n);
-    let l = (p.counter + released + shared + 1) as u32;
-    let end = (p.counter + released + shared + 2) as u32;
+    let l = (p.counter + linked(kinds, n) + 1) as u32;
+    let end = l + 1;
     let q = emit::cursor::emit2(out, p, Row(CMPIM, r, 0, 0, 0, 0), Row(JEL, 0, 0, l, 0, 0));
-    let s = load_shared(
-        out,
-        Cursor {
-            at: q.at,
-            counter: p.counter + released,
-        },
-        table,
-        kinds,
-        first,
-        v,
-        n,
-        r,
-    );
+    let s = load_shared(out, q, table, kinds, v, n, r);
     let t = emit::cursor::emit2(out, s, Row(JMPL, 0, 0, end, 0, 0), Row(LAB, 0, 0, l, 0, 0));
     let u = fields::load_some(
         out,
@@ -119,36 +94,35 @@ fn load_counted(
         },
         table,
         kinds,
-        first,
+        v,
         false,
         v,
         n,
     );
     let w = emit::cursor::emit(out, u, Row(LAB, 0, 0, end, 0, 0));
-    emit::cursor::draw(w, shared + 2)
+    Cursor {
+        at: w.at,
+        counter: end as u64,
+    }
 }
 
-// One variable or more, from v on, out of the object in variable v's Fst.
-fn load_present(
-    out: &mut [u8],
-    p: Cursor,
-    table: &[u64; 267],
-    kinds: &[u8],
-    first: u64,
-    v: u64,
-    n: u64,
-) -> Cursor
-    requires { ⌜ (Table (now table)) × (first ≤ v) × (8 * (v + n - first) ≤ length (now kinds)) × (v + n ≤ 133) × (p .at + 90024 < 2 ^ 64) × (p .counter + 400 < 2 ^ 32) × (0 < n) ⌝ }
-    ensures { λ q. ⌜ Emits (now (out .entry)) p (now (out .exit)) q (loadObject base (extIn (now (kinds .entry)) first) v n) ⌝ }
+// The register that has the pointer in operand w, once it is there.
+fn register_of(w: u64) -> u8
+    ensures { λ r. ⌜ r ≡ blockRegister w ⌝ }
 {
-    let w = layout::utils::location_at(table, 2 * v);
+    if w < 16 { w as u8 } else { TEMP }
+}
+
+// The pointer in operand w into a register.
+fn into_register(out: &mut [u8], p: Cursor, w: u64) -> Cursor
+    requires { ⌜ (w < 272) × (p .at + 24 < 2 ^ 64) ⌝ }
+    ensures { λ q. ⌜ Emits (now (out .entry)) p (now (out .exit)) q (cond (ltb w 16) nop (leaf (MOVL TEMP STACK (stackOffset base w)) refl)) ⌝ }
+{
     if w < 16 {
-        load_counted(out, p, table, kinds, first, v, n, w as u8)
-    } else {
-        let offset = layout::config::stack_offset(w);
-        let q = emit::cursor::emit(out, p, Row(MOVL, TEMP, STACK, 0, offset, 0));
-        load_counted(out, q, table, kinds, first, v, n, TEMP)
+        return p;
     }
+    let offset = layout::config::stack_offset(w);
+    emit::cursor::emit(out, p, Row(MOVL, TEMP, STACK, 0, offset, 0))
 }
 
 // n variables after v, out of the object in the Fst past those.
@@ -166,7 +140,9 @@ pub fn load_object(
     if n == 0 {
         return p;
     }
-    load_present(out, p, table, kinds, v, v, n)
+    let w = layout::utils::location_at(table, 2 * v);
+    let q = into_register(out, p, w);
+    load_counted(out, q, table, kinds, v, n, register_of(w))
 }
 
 // Whether n variables after v have positions.
