@@ -81,8 +81,9 @@ fn load_counted(
     requires { ⌜ (Table (now table)) × (8 * n ≤ length (now kinds)) × (v + n ≤ 133) × (p .at + 90000 < 2 ^ 64) × (p .counter + 400 < 2 ^ 32) ⌝ }
     ensures { λ q. ⌜ Emits (now (out .entry)) p (now (out .exit)) q (if-zero (CMPIM r 0 0) refl (loadSome base (extIn (now (kinds .entry)) v) false v n) (seq (leaf (ADDIM r 0 MINUSONE) refl) (loadSome base (extIn (now (kinds .entry)) v) true v n))) ⌝ }
 {
-    let l = (p.counter + linked(kinds, n) + 1) as u32;
-    let end = l + 1;
+    let counter = p.counter + linked(kinds, n) + 2;
+    let end = counter as u32;
+    let l = end - 1;
     let q = emit::cursor::emit2(out, p, Row(CMPIM, r, 0, 0, 0, 0), Row(JEL, 0, 0, l, 0, 0));
     let s = load_shared(out, q, table, kinds, v, n, r);
     let t = emit::cursor::emit2(out, s, Row(JMPL, 0, 0, end, 0, 0), Row(LAB, 0, 0, l, 0, 0));
@@ -100,10 +101,7 @@ fn load_counted(
         n,
     );
     let w = emit::cursor::emit(out, u, Row(LAB, 0, 0, end, 0, 0));
-    Cursor {
-        at: w.at,
-        counter: end as u64,
-    }
+    Cursor { at: w.at, counter }
 }
 
 // The register that has the pointer in operand w, once it is there.

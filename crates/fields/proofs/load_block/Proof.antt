@@ -13,7 +13,7 @@ load-block-spec =
     (λ c. search needs)
     (λ c κs. search needs)
     (λ c. search needs)
-    (λ c κs. search needs)
+    (λ c κs. let w = c .before .before .before .before .before .pre in (w .0, w .1, w .2, w .3, w .4, omega (arith, w .5), w .6))
     (λ c κs. let w = c .before .before .before .before .before .pre in let l = c .before .before .location-at .ensures in (w .0, w .1, w .2, w .3, w .4, w .5, w .6, l .0, c .before .if1 .left, l .1))
     (λ c. search needs)
     (λ c. rw (← (c .before .before .before .before .before .location-at .ensures .0), lt-ltb _ 16 (c .before .before .before .before .if1 .taken)) (c .before .before .load-body .ensures))
