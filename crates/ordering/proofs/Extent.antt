@@ -16,7 +16,7 @@ use Rattle.memory.specs.Objects.{fst, snd, extIn}
 use Rattle.memory.specs.Sizes.{within, erase-size, share-size, store-object-size, object-size}
 use Rattle.printing.specs.Sizes.{print-size}
 use Rattle.orders.specs.Writes.{copyVariable, copyTo, treeOf, present, asked}
-use Rattle.ordering.proofs.Asking.{copy-there, copy-asks, copies-few, store-there, store-fits, load-few}
+use Rattle.judging.proofs.Asking.{copy-there, copy-asks, copies-few, store-there, store-fits, load-few}
 
 pub variable-extent : (ext : Bool) (a v : ℕ) → (labels (copyVariable base ext a v) ≤ 0) × (size (copyVariable base ext a v) ≤ 4)
 variable-extent ext a v =

@@ -27,7 +27,7 @@ use Rattle.orders.specs.declared.answer.Answer.the-variants.{Accepted, Context,
 use Rattle.orders.proofs.answer.Answer.{the-type}
 use Rattle.orders.specs.Writes.{treeOf, contextAfter}
 use Rattle.orders.specs.Answered.{Asked, accepted, orderIs, orderTree, orderContext, answerTo, recordsOf}
-use Rattle.ordering.proofs.Leaving.{context-long, after-long}
+use Rattle.judging.proofs.Leaving.{context-long, after-long}
 use Rattle.answering.specs.Answers.{AnswersOrder}
 use Rattle.playing.specs.Playing.{Channel, fresh, isAccepted, Plays}
 use Rattle.playing.specs.Accepting.{good-context, taken}

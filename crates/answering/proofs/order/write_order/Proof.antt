@@ -6,9 +6,9 @@ use Rattle.records.proofs.BindingsRead.{context-within}
 use Rattle.layout.specs.Config.{base}
 use Rattle.orders.specs.Writes.{treeOf, contextAfter}
 use Rattle.answering.specs.Decided.{written}
-use Rattle.ordering.proofs.Asking.{few-after}
+use Rattle.judging.proofs.Asking.{few-after}
 use Rattle.ordering.proofs.Extent.{order-extent}
-use Rattle.ordering.proofs.Leaving.{context-long, after-long}
+use Rattle.judging.proofs.Leaving.{context-long, after-long}
 use Rattle.answering.proofs.Judging.{bounds, not-written, all-written}
 use Rattle.answering.proofs.order.write_order.Statement.{statement}
 use Rattle.answering.proofs.order.write_order.Tie as tie

@@ -2,7 +2,7 @@ use borrow.Author.Needs.{needs}
 use native.Mathlib.Omega.{arith}
 use Rattle.emit.specs.Laws.{_⨟_}
 use Rattle.memory.specs.Objects.{fst}
-use Rattle.ordering.proofs.Asking.{copies-fit, share-fits}
+use Rattle.judging.proofs.Asking.{copies-fit, share-fits}
 use Rattle.ordering.proofs.Copying.{none-copied}
 use Rattle.ordering.proofs.Extent.{share-extent}
 use Rattle.ordering.proofs.emitters.copy.Statement.{statement}

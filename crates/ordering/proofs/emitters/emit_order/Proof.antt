@@ -1,7 +1,7 @@
 use borrow.Author.Needs.{needs}
 use native.Mathlib.Omega.{arith}
-use Rattle.ordering.proofs.Asking.{put-fits, compute-fits, compute-there, copy-there, copy-asks, drop-there, drop-asks, store-there, store-fits, load-there, load-fits, print-fits}
-use Rattle.ordering.proofs.Leaving.{enough}
+use Rattle.judging.proofs.Asking.{put-fits, compute-fits, compute-there, copy-there, copy-asks, drop-there, drop-asks, store-there, store-fits, load-there, load-fits, print-fits}
+use Rattle.judging.proofs.Leaving.{enough}
 use Rattle.ordering.proofs.Writing.{as-tree, put-tree, compute-tree, copy-tree, drop-tree, store-tree, load-tree, print-tree}
 use Rattle.ordering.proofs.emitters.emit_order.Statement.{statement}
 use Rattle.ordering.proofs.emitters.emit_order.Tie as tie

@@ -1,7 +1,7 @@
 use borrow.Author.Needs.{needs}
 use native.Mathlib.Omega.{arith}
 use Rattle.emit.specs.Laws.{emits-nop}
-use Rattle.ordering.proofs.Asking.{linked-fits}
+use Rattle.judging.proofs.Asking.{linked-fits}
 use Rattle.ordering.proofs.emitters.share_linked.Statement.{statement}
 use Rattle.ordering.proofs.emitters.share_linked.Tie as tie
 
