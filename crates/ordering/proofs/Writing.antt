@@ -30,13 +30,13 @@ module _ (c : List ℕ) (k : ℕ) (b : List ℕ) {o : Order} where
   unfolding treeOf
   compute-tree operation x y e = rw e
 
-  pub copy-tree : {ext : Bool} (a n : ℕ) → o ≡ Copy a n → ext ≡ extAt c a → seq (cond ext nop (shareBlock base (fst a) n)) (copyTo base ext a k n) ≡ treeOf base c k b o
+  pub copy-tree : (a n : ℕ) → o ≡ Copy a n → seq (cond (extAt c a) nop (shareBlock base (fst a) n)) (copyTo base (extAt c a) a k n) ≡ treeOf base c k b o
   unfolding treeOf
-  copy-tree a n e f = rw (e, f)
+  copy-tree a n e = rw e
 
-  pub drop-tree : {ext : Bool} → o ≡ Drop → ext ≡ extAt c (k - 1) → cond ext nop (eraseBlock base (fst (k - 1))) ≡ treeOf base c k b o
+  pub drop-tree : o ≡ Drop → cond (extAt c (k - 1)) nop (eraseBlock base (fst (k - 1))) ≡ treeOf base c k b o
   unfolding treeOf
-  drop-tree e f = rw (e, f)
+  drop-tree e = rw e
 
   pub store-tree : (n tag : ℕ) → o ≡ Store n tag → seq (storeObject base (extIn c 0) (k - n) n) (loadImmediate base (snd (k - n)) tag) ≡ treeOf base c k b o
   unfolding treeOf

@@ -36,15 +36,15 @@ fn compute(
     table: &[u64; 267],
     operation: Operation,
     k: u64,
-    a: u64,
-    b: u64,
+    a: u32,
+    b: u32,
 ) -> Cursor
     requires { ⌜ (Table (now table)) × (k < 133) × (a < k) × (b < k) × (p .at + 216 < 2 ^ 64) ⌝ }
     ensures { λ q. ⌜ Emits (now (out .entry)) p (now (out .exit)) q (arithmetic base operation (snd k) (snd a) (snd b)) ⌝ }
 {
     let w = layout::utils::location_at(table, 2 * k + 1);
-    let x = layout::utils::location_at(table, 2 * a + 1);
-    let y = layout::utils::location_at(table, 2 * b + 1);
+    let x = layout::utils::location_at(table, 2 * (a as u64) + 1);
+    let y = layout::utils::location_at(table, 2 * (b as u64) + 1);
     emitters::emit_arithmetic(out, p, operation, w, x, y)
 }
 
@@ -101,43 +101,55 @@ fn share_linked(out: &mut [u8], p: Cursor, table: &[u64; 267], ext: bool, a: u64
 }
 
 // 3: variable a, n times.
-fn copy(out: &mut [u8], p: Cursor, table: &[u64; 267], ext: bool, a: u64, k: u64, n: u64) -> Cursor
-    requires { ⌜ (Table (now table)) × (a < k) × (cond (eqb n 0) (cond ext 0 (2 * a + 1)) (2 * (k + n)) ≤ 267) × (p .at + 240000 < 2 ^ 64) × (p .counter + 1 < 2 ^ 32) ⌝ }
-    ensures { λ q. ⌜ Emits (now (out .entry)) p (now (out .exit)) q (seq (cond ext nop (shareBlock base (fst a) n)) (copyTo base ext a k n)) ⌝ }
+fn copy(
+    out: &mut [u8],
+    p: Cursor,
+    table: &[u64; 267],
+    context: &[u8],
+    k: u64,
+    a: u32,
+    n: u32,
+) -> Cursor
+    requires { ⌜ (Table (now table)) × (8 * k ≤ length (now context)) × (a < k) × (cond (eqb n 0) (cond (extAt (now context) a) 0 (2 * a + 1)) (2 * (k + n)) ≤ 267) × (p .at + 240000 < 2 ^ 64) × (p .counter + 1 < 2 ^ 32) ⌝ }
+    ensures { λ q. ⌜ Emits (now (out .entry)) p (now (out .exit)) q (seq (cond (extAt (now (context .entry)) a) nop (shareBlock base (fst a) n)) (copyTo base (extAt (now (context .entry)) a) a k n)) ⌝ }
 {
-    let q = share_linked(out, p, table, ext, a, n);
-    if n == 0 {
+    let from = a as u64;
+    let times = n as u64;
+    let ext = storing::store::is_ext(context, from);
+    let q = share_linked(out, p, table, ext, from, times);
+    if times == 0 {
         return q;
     }
-    copy_to(out, q, table, ext, a, k, n)
+    copy_to(out, q, table, ext, from, k, times)
 }
 
 // 4: the last variable's object erased, where it is linked.
-fn drop_last(out: &mut [u8], p: Cursor, table: &[u64; 267], ext: bool, a: u64) -> Cursor
-    requires { ⌜ (Table (now table)) × (cond ext 0 (2 * a + 1) ≤ 267) × (p .at + 288 < 2 ^ 64) × (p .counter + 3 < 2 ^ 32) ⌝ }
-    ensures { λ q. ⌜ Emits (now (out .entry)) p (now (out .exit)) q (cond ext nop (eraseBlock base (fst a))) ⌝ }
+fn drop_last(out: &mut [u8], p: Cursor, table: &[u64; 267], context: &[u8], k: u64) -> Cursor
+    requires { ⌜ (Table (now table)) × (8 * k ≤ length (now context)) × (0 < k) × (cond (extAt (now context) (k - 1)) 0 (2 * (k - 1) + 1) ≤ 267) × (p .at + 288 < 2 ^ 64) × (p .counter + 3 < 2 ^ 32) ⌝ }
+    ensures { λ q. ⌜ Emits (now (out .entry)) p (now (out .exit)) q (cond (extAt (now (context .entry)) (k - 1)) nop (eraseBlock base (fst (k - 1)))) ⌝ }
 {
-    if ext {
+    if storing::store::is_ext(context, k - 1) {
         return p;
     }
-    let w = layout::utils::location_at(table, 2 * a);
+    let w = layout::utils::location_at(table, 2 * (k - 1));
     block::erase(out, p, w)
 }
 
-// 5: n variables from v on into an object, then the tag into the new variable's Snd.
+// 5: the last n of k variables into an object, then the tag into the new variable's Snd.
 fn store(
     out: &mut [u8],
     p: Cursor,
     table: &[u64; 267],
     context: &[u8],
-    v: u64,
-    n: u64,
+    k: u64,
+    n: u32,
     tag: u64,
 ) -> Cursor
-    requires { ⌜ (Table (now table)) × (8 * (v + n) ≤ length (now context)) × (v + n ≤ 133) × (v < 133) × (p .at + 240000 < 2 ^ 64) × (p .counter + 2000 < 2 ^ 32) ⌝ }
-    ensures { λ q. ⌜ Emits (now (out .entry)) p (now (out .exit)) q (seq (storeObject base (extIn (now (context .entry)) 0) v n) (loadImmediate base (snd v) tag)) ⌝ }
+    requires { ⌜ (Table (now table)) × (8 * k ≤ length (now context)) × (n ≤ k) × (k ≤ 133) × (k - n < 133) × (p .at + 240000 < 2 ^ 64) × (p .counter + 2000 < 2 ^ 32) ⌝ }
+    ensures { λ q. ⌜ Emits (now (out .entry)) p (now (out .exit)) q (seq (storeObject base (extIn (now (context .entry)) 0) (k - n) n) (loadImmediate base (snd (k - n)) tag)) ⌝ }
 {
-    let q = storing::store::store_object(out, p, table, context, v, n);
+    let v = k - (n as u64);
+    let q = storing::store::store_object(out, p, table, context, v, n as u64);
     let w = layout::utils::location_at(table, 2 * v + 1);
     emitters::emit_load_immediate(out, q, w, tag)
 }
@@ -148,14 +160,14 @@ fn print(
     p: Cursor,
     table: &[u64; 267],
     newline: bool,
-    a: u64,
+    a: u32,
     context: &[u8],
     k: u64,
 ) -> Cursor
     requires { ⌜ (Table (now table)) × (a < 133) × (8 * k ≤ length (now context)) × (k ≤ 4096) × (p .at + 1272 < 2 ^ 64) ⌝ }
     ensures { λ q. ⌜ Emits (now (out .entry)) p (now (out .exit)) q (printI64 base newline (snd a) (extAt (now (context .entry))) k) ⌝ }
 {
-    let w = layout::utils::location_at(table, 2 * a + 1);
+    let w = layout::utils::location_at(table, 2 * (a as u64) + 1);
     printing::code::emit_print_i64(out, p, newline, w, context, k as usize)
 }
 
@@ -174,17 +186,11 @@ pub fn emit_order(
 {
     match order {
         Order::Put(value) => put(out, p, table, k, value),
-        Order::Compute(operation, a, b) => compute(out, p, table, operation, k, a as u64, b as u64),
-        Order::Copy(a, n) => {
-            let ext = storing::store::is_ext(context, a as u64);
-            copy(out, p, table, ext, a as u64, k, n as u64)
-        }
-        Order::Drop => {
-            let ext = storing::store::is_ext(context, k - 1);
-            drop_last(out, p, table, ext, k - 1)
-        }
-        Order::Store(n, tag) => { store(out, p, table, context, k - (n as u64), n as u64, tag) }
-        Order::Load(n) => { loading::load::load_object(out, p, table, bindings, k - 1, n as u64) }
-        Order::Print(newline, a) => print(out, p, table, newline, a as u64, context, k),
+        Order::Compute(operation, a, b) => compute(out, p, table, operation, k, a, b),
+        Order::Copy(a, n) => copy(out, p, table, context, k, a, n),
+        Order::Drop => drop_last(out, p, table, context, k),
+        Order::Store(n, tag) => store(out, p, table, context, k, n, tag),
+        Order::Load(n) => loading::load::load_object(out, p, table, bindings, k - 1, n as u64),
+        Order::Print(newline, a) => print(out, p, table, newline, a, context, k),
     }
 }

@@ -1,4 +1,6 @@
 use borrow.Author.Needs.{needs}
+use mathlib.Core.Path.{sym, _∙_}
+use Prim.Native.Nat.{_-_}
 use native.Mathlib.Omega.{arith}
 use Rattle.emit.specs.Laws.{emits-nop}
 use Rattle.judging.proofs.Asking.{linked-fits}
@@ -9,9 +11,12 @@ pub drop-last-spec : {M : Type 1} → statement M
 drop-last-spec =
     tie.close
     (tie.spec
-    (λ c. rw (c .if1 .taken) emits-nop)
-    (λ c. let g = linked-fits (c .before .before .args .a) (c .if1 .left) (c .before .before .pre .1) in omega (arith, g))
-    (λ c κs. let g = linked-fits (c .before .before .args .a) (c .if1 .left) (c .before .before .pre .1) in (c .before .before .pre .0, omega (arith, g)))
+    (λ c. search needs)
+    (λ c κs. search needs)
+    (λ c. rw (← (c .before .is-ext .ensures), c .if1 .taken) emits-nop)
+    (λ c. search needs)
+    (λ c. search needs)
+    (λ c κs. let w = c .before .before .before .before .pre in let g = linked-fits (c .before .before .before .before .args .k - 1) (sym (c .before .is-ext .ensures) ∙ c .if1 .left) (w .3) in (w .0, omega (arith, g)))
     (λ c κs. search needs)
     (λ c. search needs)
-    (λ c. rw (c .before .before .before .before .before .if1 .left, ← (c .before .before .before .before .location-at .ensures .0)) (c .before .before .erase .ensures)))
+    (λ c. rw (← (c .before .before .before .before .before .before .is-ext .ensures), c .before .before .before .before .before .if1 .left, ← (c .before .before .before .before .location-at .ensures .0)) (c .before .before .erase .ensures)))

@@ -1,4 +1,5 @@
 use borrow.Author.Needs.{needs}
+use Prim.Native.Nat.{_-_}
 use native.Mathlib.Omega.{arith}
 use Rattle.emit.specs.Laws.{_⨟_}
 use Rattle.memory.specs.Objects.{extIn}
@@ -10,10 +11,11 @@ pub store-spec : {M : Type 1} → statement M
 store-spec =
     tie.close
     (tie.spec
-    (λ c κs. search needs)
-    (λ c. search needs)
-    (λ c. search needs)
-    (λ c κs. search needs)
-    (λ c κs. let a = c .before .before .before .before .before .before .before .before .args in let w = c .before .before .before .before .before .before .before .before .pre in let d = c .before .before .before .before .store-object .ensures in let z = store-object-size (extIn (a .context .now) 0) (a .v) (a .n) (omega (arith, w .2)) in (omega (arith, d .place, z .1, w .4), c .before .location-at .ensures .1))
+    (λ c. omega (arith, c .before .before .pre .2))
+    (λ c κs. let w = c .before .before .before .pre in (w .0, omega (arith, w .1, w .2), omega (arith, w .2, w .3), w .5, w .6))
+    (λ c. omega (arith, c .before .before .before .before .before .before .pre .4))
+    (λ c. omega (arith, c .before .before .before .before .before .before .pre .4))
+    (λ c κs. let w = c .before .before .before .before .before .before .pre in (w .0, omega (arith, w .4)))
+    (λ c κs. let a = c .before .before .before .before .before .before .before .before .args in let w = c .before .before .before .before .before .before .before .before .pre in let d = c .before .before .before .before .store-object .ensures in let z = store-object-size (extIn (a .context .now) 0) (a .k - a .n) (a .n) (omega (arith, w .2, w .3)) in (omega (arith, d .place, z .1, w .5), c .before .location-at .ensures .1))
     (λ c. search needs)
     (λ c. rw (← (c .before .before .before .before .location-at .ensures .0)) (c .before .before .before .before .before .before .before .store-object .ensures ⨟ c .before .before .emit-load-immediate .ensures)))
