@@ -7,14 +7,13 @@ use mathlib.Core.Option.{none, some}
 use native.Mathlib.Nat.{sub-zero}
 use native.Mathlib.Numerals.{add-one}
 use native.Mathlib.Omega.{arith}
-use lib.ListN.{getD, drop, getElem?}
+use lib.ListN.{drop, getElem?}
 use lib.Seq.{drop-drop}
 use Rattle.records.specs.declared.code.Code.{Code}
 use Rattle.records.specs.declared.code.Fields.{Fields}
 use Rattle.records.specs.Codes.{codeOf}
 use Rattle.records.specs.Instructions.{fieldsIn, fieldsOk}
 use Rattle.records.specs.ReadBack.{codeIn}
-use Rattle.records.proofs.CodesRead.{ok-code}
 use Rattle.instructions.specs.declared.instruction.Compared.{Compared}
 use Rattle.instructions.specs.declared.instruction.Pair.{Pair}
 use Rattle.instructions.specs.declared.instruction.Went.{Went}
@@ -30,9 +29,7 @@ use Rattle.instructions.specs.View.{View, view}
 use Rattle.instructions.specs.Step.{Call, Config, config, outcomeOf, step}
 use Rattle.machine.specs.Run.{Done, done, onFound, find, follow, runs, codesOf, started}
 use Rattle.instructions.specs.Forms.{comparedOf, Sized, Goes}
-use Rattle.machine.specs.Tables.{operations, targets, sources, performed}
 use Rattle.machine.specs.Loop.{Listed, turnTo, turnOf, Ends}
-use Rattle.machine.proofs.Tables.{table-is-step}
 use Rattle.instructions.proofs.Flow.{jump-keeps}
 
 pub listed-ok : {s : List ℕ} {n k : ℕ} {f : Fields} → Listed s n → k < n → f ≡ fieldsIn (drop (24 * k) s) → fieldsOk f ≡ true
@@ -117,8 +114,8 @@ module _ (words : ℕ → ℕ) (s : List ℕ) (n limit : ℕ) where
     pub going-past : n ≤ place → Ends R S H (answer.Ended steps) d
     going-past h = ends _ (g .sized) (g .left ∙ past (limit - steps) _ h) refl
 
-    module _ {f : Fields} {R′ S′ H′ : List ℕ} {m : Moved} {t : Turn} (z : Listed s n) (h : place < n) (l : steps < limit) (e : f ≡ fieldsIn (drop (24 * place) s))
-        (o : Goes R S H R′ S′ H′ p m (performed words (getD operations (f .code - 1) 0) (getD targets (f .code - 1) 0) (getD sources (f .code - 1) 0) f))
+    module _ {f : Fields} {R′ S′ H′ : List ℕ} {m : Moved} {t : Turn} (h : place < n) (l : steps < limit) (e : f ≡ fieldsIn (drop (24 * place) s))
+        (o : Goes R S H R′ S′ H′ p m (step words (codeOf f)))
         (u : t ≡ turnOf (codesOf n s) place (m .went)) where
       abbrev after : ℕ → Config → Done
       after j c = runs words (codesOf n s) (limit - suc steps) (suc steps) j c
@@ -129,8 +126,7 @@ module _ (words : ℕ → ℕ) (s : List ℕ) (n limit : ℕ) where
       stepped : step words (codeIn (drop (24 * place) s)) before ≡ outcomeOf (m .went) (view R′ S′ H′) (comparedOf (m .pair)) (g .calls)
       unfolding before
       stepped =
-          let k = ok-code f (listed-ok z h e) in
-          sym (o .goes (g .calls) ∙ table-is-step words f _ (k .0) (k .1) ∙ ap (λ y. step words (codeOf y) (config (view R S H) (comparedOf p) (g .calls))) e)
+          sym (o .goes (g .calls) ∙ ap (λ y. step words (codeOf y) (config (view R S H) (comparedOf p) (g .calls))) e)
 
       one : d ≡ follow (codesOf n s) steps place before after (outcomeOf (m .went) (view R′ S′ H′) (comparedOf (m .pair)) (g .calls))
       unfolding runs before

@@ -1,7 +1,8 @@
--- The tables are the clauses: what the code performs by numbers is `step` at each of the 44 codes, by computation.
-use Prim.Native.Nat.{ℕ, zero, suc, _-_, _≤_, _<_}
+-- The table is the clauses: what the code performs by numbers is `step` at each of the 44 codes, by computation.
+use Prim.Native.Nat.{ℕ, zero, suc, _-_, _/_, _%_, _≤_, _<_}
 use mathlib.Core.Path.{_≡_, refl, sym, subst}
 use mathlib.Core.Bool.{Bool, true, false}
+use mathlib.Core.List.{List}
 use native.Mathlib.Nat.{not-suc-le-zero}
 use native.Mathlib.Omega.{arith}
 use lib.Dec.{eqb}
@@ -10,20 +11,25 @@ use borrow.Author.Tests.{lt-ltb, le-ltb, eqb-true, eqb-false, ne-eqb}
 use Rattle.records.specs.declared.code.Code.the-variants.{EXTERN}
 use Rattle.records.specs.declared.code.Fields.{Fields}
 use Rattle.records.specs.Codes.{readers, codeOf}
+use Rattle.records.specs.Instructions.{fieldsOk}
+use Rattle.records.proofs.CodesRead.{ok-code}
+use Rattle.instructions.specs.declared.instruction.Moved.{Moved}
+use Rattle.instructions.specs.declared.instruction.Pair.{Pair}
 use Rattle.instructions.specs.Step.{Config, Outcome, fault, arithmetic, step}
-use Rattle.instructions.specs.Forms.{operandOf, resultOf, holdsOf}
+use Rattle.instructions.specs.Forms.{operandOf, resultOf, holdsOf, Goes}
 use Rattle.instructions.proofs.Forms.{NoneFrom, none-from}
-use Rattle.machine.specs.Tables.{operations, targets, sources, performed}
+use Rattle.instructions.proofs.Instructions.{goes-as}
+use Rattle.machine.specs.Tables.{tabled, performed}
 
 -- the record f, where its code is k + 1
-abbrev byTables : (ℕ → ℕ) → ℕ → Fields → Config → Outcome
-byTables words k f c = performed words (getD operations k 0) (getD targets k 0) (getD sources k 0) f c
+abbrev byTable : (ℕ → ℕ) → ℕ → Fields → Config → Outcome
+byTable words k f c = performed words (getD tabled k 0 / 256 % 16) (getD tabled k 0 / 16 % 16) (getD tabled k 0 % 16) f c
 
 abbrev byName : (ℕ → ℕ) → ℕ → Fields → Config → Outcome
 byName words k f c = step words (getD readers k (λ (g : Fields). EXTERN (g .label)) f) c
 
 abbrev Same : ℕ → Type 0
-Same k = (words : ℕ → ℕ) (f : Fields) (c : Config) → byTables words k f c ≡ byName words k f c
+Same k = (words : ℕ → ℕ) (f : Fields) (c : Config) → byTable words k f c ≡ byName words k f c
 
 -- a claim at each number below k
 abbrev pub Each : (ℕ → Type 0) → ℕ → Type 0
@@ -43,9 +49,15 @@ unfolding performed step readers resultOf holdsOf
 same-all = ((((((((((((((((((((((((((((((((((((((((((((tt, (λ w f c. refl)), (λ w f c. refl)), (λ w f c. refl)), (λ w f c. refl)), (λ w f c. refl)), (λ w f c. refl)), (λ w f c. refl)), (λ w f c. refl)), (λ w f c. refl)), (λ w f c. refl)), (λ w f c. refl)), (λ w f c. refl)), (λ w f c. refl)), (λ w f c. refl)), (λ w f c. refl)), (λ w f c. refl)), (λ w f c. refl)), (λ w f c. refl)), (λ w f c. refl)), (λ w f c. refl)), (λ w f c. refl)), (λ w f c. refl)), (λ w f c. refl)), (λ w f c. refl)), (λ w f c. refl)), (λ w f c. refl)), (λ w f c. refl)), (λ w f c. refl)), (λ w f c. refl)), (λ w f c. refl)), (λ w f c. refl)), (λ w f c. refl)), (λ w f c. refl)), (λ w f c. refl)), (λ w f c. refl)), (λ w f c. refl)), (λ w f c. refl)), (λ w f c. refl)), (λ w f c. refl)), (λ w f c. refl)), (λ w f c. refl)), (λ w f c. refl)), (λ w f c. refl)), (λ w f c. refl))
 
 pub table-is-step : (words : ℕ → ℕ) (f : Fields) (c : Config) → 1 ≤ f .code → f .code ≤ 44
-    → performed words (getD operations (f .code - 1) 0) (getD targets (f .code - 1) 0) (getD sources (f .code - 1) 0) f c ≡ step words (codeOf f) c
+    → performed words (getD tabled (f .code - 1) 0 / 256 % 16) (getD tabled (f .code - 1) 0 / 16 % 16) (getD tabled (f .code - 1) 0 % 16) f c ≡ step words (codeOf f) c
 unfolding codeOf
 table-is-step words f c l h = each Same 44 same-all (f .code - 1) (omega arith) words f c
+
+-- what a record does by the lent table is its step
+pub acts : (words : ℕ → ℕ) (K : List ℕ) (f : Fields) {R S H R′ S′ H′ : List ℕ} {p : Pair} {m : Moved} → K ≡ tabled → fieldsOk f ≡ true
+    → Goes R S H R′ S′ H′ p m (performed words (getD K (f .code - 1) 0 / 256 % 16) (getD K (f .code - 1) 0 / 16 % 16) (getD K (f .code - 1) 0 % 16) f)
+    → Goes R S H R′ S′ H′ p m (step words (codeOf f))
+acts words K f e o g = let k = ok-code f o in goes-as (λ c. sym (rw e (table-is-step words f c (k .0) (k .1)))) g
 
 module _ (words : ℕ → ℕ) (n t u : ℕ) (f : Fields) where
   pub fault-form : 3 ≤ n → NoneFrom 3 n 11 → (c : Config) → performed words n t u f c ≡ fault c

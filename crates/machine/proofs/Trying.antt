@@ -1,10 +1,10 @@
 -- One instruction tried alone: refused, or performed as the step.
-use Prim.Native.Nat.{ℕ, _-_, _<_}
+use Prim.Native.Nat.{ℕ, _<_}
 use mathlib.Core.Path.{_≡_, sym, ap, _∙_}
 use mathlib.Core.Bool.{Bool, true, false, _&&_}
 use mathlib.Core.List.{List}
 use lib.Dec.{leb, eqb}
-use lib.ListN.{length, getD}
+use lib.ListN.{length}
 use native.Mathlib.Omega.{arith}
 use borrow.Author.Tests.{ltb-true, eqb-true}
 use Rattle.records.specs.declared.code.Code.{Code}
@@ -12,7 +12,6 @@ use Rattle.records.specs.declared.code.Fields.{Fields}
 use Rattle.records.specs.Codes.{fieldsOf, codeOf}
 use Rattle.records.specs.Instructions.{registerOk, labelOk, wordOk, operandsOk, fieldsOk, used}
 use Rattle.records.proofs.Conditions.{and-left, and-right}
-use Rattle.records.proofs.CodesRead.{ok-code}
 use Rattle.instructions.specs.declared.instruction.Compared.{Compared}
 use Rattle.instructions.specs.declared.instruction.Pair.{Pair}
 use Rattle.instructions.specs.declared.instruction.Moved.{Moved}
@@ -22,9 +21,7 @@ use Rattle.instructions.specs.Memory.{heapOk}
 use Rattle.instructions.specs.Step.{Call, config, step}
 use Rattle.machine.specs.Trial.{took, trial, trialOf}
 use Rattle.instructions.specs.Forms.{comparedOf, Goes}
-use Rattle.machine.specs.Tables.{operations, targets, sources, performed}
 use Rattle.records.proofs.CodesBack.{code-fields}
-use Rattle.machine.proofs.Tables.{table-is-step}
 
 register-named : (uses : Bool) (r : ℕ) → registerOk uses r ≡ true → r < 16
 register-named true r e = ltb-true r 16 e
@@ -53,9 +50,8 @@ module _ (words : ℕ → ℕ) (x : Code) (s : View) (q : Compared) (calls : Lis
 
 module _ (words : ℕ → ℕ) (x : Code) (R S H : List ℕ) {R′ S′ H′ : List ℕ} {q q′ : Compared} {p : Pair} {m : Moved} (calls : List Call) {b d : Bool} {f : Fields} where
   pub performs : b ≡ heapOk (length H) → b ≡ true → f ≡ fieldsOf x → d ≡ fieldsOk f → d ≡ true → comparedOf p ≡ q → q′ ≡ comparedOf (m .pair)
-      → Goes R S H R′ S′ H′ p m (performed words (getD operations (f .code - 1) 0) (getD targets (f .code - 1) 0) (getD sources (f .code - 1) 0) f)
+      → Goes R S H R′ S′ H′ p m (step words (codeOf f))
       → trialOf (Took (m .went)) (view R′ S′ H′) q′ calls ≡ trial words x (config (view R S H) q calls)
   unfolding trial
   performs h t e o r k k′ g =
-      let c = ok-code f (sym o ∙ r) in
-      rw (← h, t, ← e, ← o, r, k′, ← k) (ap took (g .goes calls ∙ table-is-step words f _ (c .0) (c .1) ∙ ap (λ y. step words y (config (view R S H) (comparedOf p) calls)) (ap codeOf e ∙ code-fields x)))
+      rw (← h, t, ← e, ← o, r, k′, ← k) (ap took (g .goes calls ∙ ap (λ y. step words y (config (view R S H) (comparedOf p) calls)) (ap codeOf e ∙ code-fields x)))

@@ -1,4 +1,4 @@
--- The code's tables: three numbers for each code say its operation and the forms of its two operands. The meaning of a step does not rest on this: that it
+-- The code's table: three digits for each code say its operation and the forms of its two operands. The meaning of a step does not rest on this: that it
 -- is `step` at each of the 44 codes is proved, and the contracts of the public functions cite `step` alone.
 use Prim.Native.Nat.{ℕ}
 use mathlib.Core.Bool.{cond}
@@ -10,18 +10,10 @@ use Rattle.instructions.specs.View.{putReg}
 use Rattle.instructions.specs.Step.{Config, Outcome, next, jump, fault, changed, dropped, arithmetic, move, compare, divide, branch, push, pop, call, return}
 use Rattle.instructions.specs.Forms.{operandOf, resultOf, holdsOf}
 
-abbrev pub operations : List ℕ
-operations =
-    0 ∷ 0 ∷ 0 ∷ 0 ∷ 0 ∷ 1 ∷ 1 ∷ 1 ∷ 1 ∷ 2 ∷ 2 ∷ 2 ∷ 5 ∷ 5 ∷ 6 ∷ 14 ∷ 7 ∷ 7 ∷ 14 ∷ 3 ∷ 3 ∷ 3 ∷ 3 ∷ 3 ∷ 4 ∷ 4 ∷ 4 ∷ 4 ∷ 4 ∷ 8 ∷ 8 ∷ 8 ∷ 8 ∷ 8 ∷ 8 ∷ 9 ∷ 10 ∷ 11 ∷ 12 ∷ 13 ∷ 13 ∷ 13 ∷ 13 ∷ 13 ∷ []
-
--- a conditional jump's condition stands among the targets
-abbrev pub targets : List ℕ
-targets =
-    0 ∷ 0 ∷ 2 ∷ 0 ∷ 2 ∷ 0 ∷ 0 ∷ 2 ∷ 0 ∷ 0 ∷ 0 ∷ 2 ∷ 0 ∷ 0 ∷ 0 ∷ 0 ∷ 0 ∷ 0 ∷ 0 ∷ 0 ∷ 3 ∷ 0 ∷ 0 ∷ 2 ∷ 0 ∷ 0 ∷ 2 ∷ 0 ∷ 2 ∷ 0 ∷ 1 ∷ 2 ∷ 3 ∷ 4 ∷ 5 ∷ 0 ∷ 0 ∷ 0 ∷ 0 ∷ 0 ∷ 0 ∷ 0 ∷ 0 ∷ 0 ∷ []
-
-abbrev pub sources : List ℕ
-sources =
-    1 ∷ 3 ∷ 1 ∷ 4 ∷ 4 ∷ 1 ∷ 3 ∷ 1 ∷ 4 ∷ 1 ∷ 3 ∷ 1 ∷ 0 ∷ 2 ∷ 0 ∷ 0 ∷ 0 ∷ 0 ∷ 0 ∷ 1 ∷ 0 ∷ 3 ∷ 4 ∷ 4 ∷ 1 ∷ 3 ∷ 1 ∷ 4 ∷ 4 ∷ 0 ∷ 0 ∷ 0 ∷ 0 ∷ 0 ∷ 0 ∷ 0 ∷ 0 ∷ 0 ∷ 0 ∷ 0 ∷ 0 ∷ 0 ∷ 0 ∷ 0 ∷ []
+-- a conditional jump's condition stands as its target's form
+abbrev pub tabled : List ℕ
+tabled =
+    0x001 ∷ 0x003 ∷ 0x021 ∷ 0x004 ∷ 0x024 ∷ 0x101 ∷ 0x103 ∷ 0x121 ∷ 0x104 ∷ 0x201 ∷ 0x203 ∷ 0x221 ∷ 0x500 ∷ 0x502 ∷ 0x600 ∷ 0xE00 ∷ 0x700 ∷ 0x700 ∷ 0xE00 ∷ 0x301 ∷ 0x330 ∷ 0x303 ∷ 0x304 ∷ 0x324 ∷ 0x401 ∷ 0x403 ∷ 0x421 ∷ 0x404 ∷ 0x424 ∷ 0x800 ∷ 0x810 ∷ 0x820 ∷ 0x830 ∷ 0x840 ∷ 0x850 ∷ 0x900 ∷ 0xA00 ∷ 0xB00 ∷ 0xC00 ∷ 0xD00 ∷ 0xD00 ∷ 0xD00 ∷ 0xD00 ∷ 0xD00 ∷ []
 
 -- the operation n, where t and u are the forms of its operands
 unfoldable pub performed : (ℕ → ℕ) → ℕ → ℕ → ℕ → Fields → Config → Outcome

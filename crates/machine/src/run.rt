@@ -102,7 +102,7 @@ fn follow(s: &[u8], n: usize, place: usize, went: Went) -> Turn
     }
 }
 
-// The n records of s, from the first. The tables are copied once, and the state is lent.
+// The n records of s, from the first. The table is copied once, and the state is lent.
 fn steps(
     s: &[u8],
     n: usize,
@@ -115,9 +115,7 @@ fn steps(
     requires { ⌜ Listed (now s) n × Sized (now registers) (now stack) ⌝ }
     ensures { λ r. ⌜ Ends (now (registers .exit)) (now (stack .exit)) (now (heap .exit)) r (is.started (wordsOf (now (words .entry))) (is.codesOf n (now (s .entry))) limit (view (now (registers .entry)) (now (stack .entry)) (now (heap .entry)))) ⌝ }
 {
-    let operations = step::OPERATIONS;
-    let targets = step::TARGETS;
-    let sources = step::SOURCES;
+    let kinds = step::KINDS;
     let mut pair = NONE;
     let mut place = 0;
     let mut done = 0;
@@ -126,24 +124,12 @@ fn steps(
             return Answer::Limit(done);
         }
         let f = records::code::fields_at(s, 24 * place);
-        let k = (f.code as usize) - 1;
-        let m = step::perform(
-            operations[k],
-            targets[k],
-            sources[k],
-            f,
-            registers,
-            stack,
-            heap,
-            words,
-            pair,
-        );
+        let m = step::act(&kinds, f, registers, stack, heap, words, pair);
         let went = m.went;
-        let after = m.pair;
         match follow(s, n, place, went) {
             Turn::To(j) => {
                 place = j;
-                pair = after;
+                pair = m.pair;
                 done += 1;
             }
             Turn::End => return Answer::Ended(done + 1),

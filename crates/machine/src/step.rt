@@ -1,12 +1,16 @@
 // One instruction.
 ghost use mathlib.Core.Path.{_≡_};
 ghost use mathlib.Core.List.{List};
+ghost use mathlib.Core.Bool.{true};
 ghost use Prim.Native.Nat.{_<_};
+ghost use Rattle.records.specs.Codes.{codeOf};
+ghost use Rattle.records.specs.Instructions.{fieldsOk};
 ghost use Rattle.instructions.specs.View.{wordsOf};
+ghost use Rattle.instructions.specs.Step as is;
 ghost use Rattle.instructions.specs.Step.{Call, config};
 ghost use Rattle.instructions.specs.Forms.{comparedOf, Sized, Goes};
 ghost use Rattle.machine.specs.State.{see};
-ghost use Rattle.machine.specs.Tables.{performed};
+ghost use Rattle.machine.specs.Tables.{tabled, performed};
 ghost use Rattle.machine.specs.Trial.{trial, trialOf};
 use crate::state::State;
 use instructions::instruction;
@@ -31,153 +35,59 @@ pub struct Stepped {
     pub tried: Tried,
 }
 
-// For each code, its operation: 0 to 2 sum, difference and product, 3 move, 4 compare, 5 divide, 6 CQO, 7 jump, 8 conditional jump, 9 push, 10 pop,
-// 11 call, 12 return, 13 none, 14 fault.
-pub const OPERATIONS: [u8; 44] = [
-    0,
-    0,
-    0,
-    0,
-    0,
-    1,
-    1,
-    1,
-    1,
-    2,
-    2,
-    2,
-    5,
-    5,
-    6,
-    14,
-    7,
-    7,
-    14,
-    3,
-    3,
-    3,
-    3,
-    3,
-    4,
-    4,
-    4,
-    4,
-    4,
-    8,
-    8,
-    8,
-    8,
-    8,
-    8,
-    9,
-    10,
-    11,
-    12,
-    13,
-    13,
-    13,
-    13,
-    13,
+// For each code, three digits: its operation, its target's form and its source's form.
+// Operations: 0 to 2 sum, difference and product, 3 move, 4 compare, 5 divide, 6 CQO, 7 jump, 8 conditional jump, 9 push, 10 pop, 11 call, 12 return,
+// 13 none, 14 fault.
+// Forms: 0 register a, 1 register b, 2 memory at a, 3 memory at b, 4 the value; a conditional jump's condition stands as its target's form.
+pub const KINDS: [u16; 44] = [
+    0x001,
+    0x003,
+    0x021,
+    0x004,
+    0x024,
+    0x101,
+    0x103,
+    0x121,
+    0x104,
+    0x201,
+    0x203,
+    0x221,
+    0x500,
+    0x502,
+    0x600,
+    0xE00,
+    0x700,
+    0x700,
+    0xE00,
+    0x301,
+    0x330,
+    0x303,
+    0x304,
+    0x324,
+    0x401,
+    0x403,
+    0x421,
+    0x404,
+    0x424,
+    0x800,
+    0x810,
+    0x820,
+    0x830,
+    0x840,
+    0x850,
+    0x900,
+    0xA00,
+    0xB00,
+    0xC00,
+    0xD00,
+    0xD00,
+    0xD00,
+    0xD00,
+    0xD00,
 ];
 
-// The target's form: 0 register a, 1 register b, 2 memory at a, 3 memory at b; or a conditional jump's condition.
-pub const TARGETS: [u8; 44] = [
-    0,
-    0,
-    2,
-    0,
-    2,
-    0,
-    0,
-    2,
-    0,
-    0,
-    0,
-    2,
-    0,
-    0,
-    0,
-    0,
-    0,
-    0,
-    0,
-    0,
-    3,
-    0,
-    0,
-    2,
-    0,
-    0,
-    2,
-    0,
-    2,
-    0,
-    1,
-    2,
-    3,
-    4,
-    5,
-    0,
-    0,
-    0,
-    0,
-    0,
-    0,
-    0,
-    0,
-    0,
-];
-
-// The source's form, or 4 for the value.
-pub const SOURCES: [u8; 44] = [
-    1,
-    3,
-    1,
-    4,
-    4,
-    1,
-    3,
-    1,
-    4,
-    1,
-    3,
-    1,
-    0,
-    2,
-    0,
-    0,
-    0,
-    0,
-    0,
-    1,
-    0,
-    3,
-    4,
-    4,
-    1,
-    3,
-    1,
-    4,
-    4,
-    0,
-    0,
-    0,
-    0,
-    0,
-    0,
-    0,
-    0,
-    0,
-    0,
-    0,
-    0,
-    0,
-    0,
-    0,
-];
-
-// The record f, by the numbers that the tables have for its code.
-pub fn perform(
+// The record f, by its code's three digits.
+fn perform(
     n: u8,
     t: u8,
     u: u8,
@@ -215,6 +125,26 @@ pub fn perform(
             pair,
         },
     }
+}
+
+// The record f. The table is lent, so that a run copies it once.
+pub fn act(
+    kinds: &[u16; 44],
+    f: Fields,
+    registers: &mut [u64; 16],
+    stack: &mut [u64; 320],
+    heap: &mut [u64],
+    words: &[u64; 9],
+    pair: Pair,
+) -> Moved
+    requires { ⌜ (now kinds ≡ tabled) × (fieldsOk f ≡ true) × Sized (now registers) (now stack) ⌝ }
+    ensures { λ r. ⌜ Goes (now (registers .entry)) (now (stack .entry)) (now (heap .entry)) (now (registers .exit)) (now (stack .exit)) (now (heap .exit)) pair r (is.step (wordsOf (now (words .entry))) (codeOf f)) ⌝ }
+{
+    let kind = kinds[(f.code as usize) - 1];
+    let n = (kind / 256 % 16) as u8;
+    let t = (kind / 16 % 16) as u8;
+    let u = (kind % 16) as u8;
+    perform(n, t, u, f, registers, stack, heap, words, pair)
 }
 
 fn pair_of(compared: Compared) -> Pair
@@ -262,13 +192,11 @@ pub fn step(
             tried: Tried::Malformed(1),
         };
     }
-    let k = (f.code as usize) - 1;
+    let kinds = KINDS;
     let mut registers = state.registers;
     let mut stack = state.stack;
-    let m = perform(
-        OPERATIONS[k],
-        TARGETS[k],
-        SOURCES[k],
+    let m = act(
+        &kinds,
         f,
         &mut registers,
         &mut stack,

@@ -1,11 +1,9 @@
 use borrow.Author.Needs.{needs}
-use mathlib.Core.Path.{sym, _∙_}
+use mathlib.Core.Path.{refl, sym, _∙_}
 use lib.ListN.{length-map}
-use Rattle.records.proofs.CodesRead.{ok-code}
 use Rattle.instructions.specs.View.{wordsOf}
 use Rattle.machine.specs.State.{see}
-use Rattle.machine.proofs.Trying.{ok-registers, heap-refused, code-refused, performs}
-use native.Mathlib.Omega.{arith}
+use Rattle.machine.proofs.Trying.{heap-refused, code-refused, performs}
 use Rattle.machine.proofs.step.step.Statement.{statement}
 use Rattle.machine.proofs.step.step.Tie as tie
 
@@ -18,13 +16,8 @@ step-spec =
     (λ c κs. search needs)
     (λ c κs. search needs)
     (λ c. λ calls. let s = c .before .before .before .before .before .before in code-refused (wordsOf (s .args .t5)) (s .args .code) (see (s .args .state) (s .args .heap .now)) (s .args .compared) calls (c .before .before .before .before .heap-ok .ensures) (c .before .before .before .if1 .taken) (c .before .before .fields-of .ensures) (c .before .fields-ok .ensures) (c .if2 .left))
-    (λ c. search needs)
-    (λ c. omega (arith, ok-code _ (sym (c .before .before .fields-ok .ensures) ∙ c .before .if2 .taken) .0))
-    (λ c. let k = ok-code _ (sym (c .before .before .before .before .fields-ok .ensures) ∙ c .before .before .before .if2 .taken) in omega arith)
-    (λ c. let k = ok-code _ (sym (c .before .before .before .before .fields-ok .ensures) ∙ c .before .before .before .if2 .taken) in omega arith)
-    (λ c. let k = ok-code _ (sym (c .before .before .before .before .fields-ok .ensures) ∙ c .before .before .before .if2 .taken) in omega arith)
     (λ c κs. search needs)
-    (λ c κs. let s = c .before .before .before .before .before .before .before .before .before .before .before .before .before .before in let r = ok-registers _ (sym (c .before .before .before .before .before .before .before .before .before .fields-ok .ensures) ∙ c .before .before .before .before .before .before .before .before .if2 .taken) in (r .0, r .1, record { registers = sym (length-map (s .args .state .registers) (λ v. v)) ∙ s .good .1 .0 .1 .1 .0 .1 .0 .1; stack = sym (length-map (s .args .state .stack) (λ v. v)) ∙ s .good .1 .0 .1 .1 .1 .0 .1 .0 .1 }))
+    (λ c κs. let s = c .before .before .before .before .before .before .before .before .before .before .before .before .before .before in (refl, sym (c .before .before .before .before .before .before .before .before .before .fields-ok .ensures) ∙ c .before .before .before .before .before .before .before .before .if2 .taken, record { registers = sym (length-map (s .args .state .registers) (λ v. v)) ∙ s .good .1 .0 .1 .1 .0 .1 .0 .1; stack = sym (length-map (s .args .state .stack) (λ v. v)) ∙ s .good .1 .0 .1 .1 .1 .0 .1 .0 .1 }))
     (λ c κs. search needs)
     (λ c. search needs)
-    (λ c. λ calls. let s = c .before .before .before .before .before .before .before .before .before .before .before .before .before .before .before .before .before .before .before in performs (wordsOf (s .args .t5)) (s .args .code) (s .args .state .registers) (s .args .state .stack) (s .args .heap .now) calls (c .before .before .before .before .before .before .before .before .before .before .before .before .before .before .before .before .before .heap-ok .ensures) (c .before .before .before .before .before .before .before .before .before .before .before .before .before .before .before .before .if1 .taken) (c .before .before .before .before .before .before .before .before .before .before .before .before .before .before .before .fields-of .ensures) (c .before .before .before .before .before .before .before .before .before .before .before .before .before .before .fields-ok .ensures) (c .before .before .before .before .before .before .before .before .before .before .before .before .before .if2 .taken) (c .before .before .before .before .before .pair-of .ensures) (c .compared-of .ensures) (c .before .before .before .before .perform .ensures)))
+    (λ c. λ calls. let s = c .before .before .before .before .before .before .before .before .before .before .before .before .before .before .before .before .before .before .before in performs (wordsOf (s .args .t5)) (s .args .code) (s .args .state .registers) (s .args .state .stack) (s .args .heap .now) calls (c .before .before .before .before .before .before .before .before .before .before .before .before .before .before .before .before .before .heap-ok .ensures) (c .before .before .before .before .before .before .before .before .before .before .before .before .before .before .before .before .if1 .taken) (c .before .before .before .before .before .before .before .before .before .before .before .before .before .before .before .fields-of .ensures) (c .before .before .before .before .before .before .before .before .before .before .before .before .before .before .fields-ok .ensures) (c .before .before .before .before .before .before .before .before .before .before .before .before .before .if2 .taken) (c .before .before .before .before .before .pair-of .ensures) (c .compared-of .ensures) (c .before .before .before .before .act .ensures)))
