@@ -18,7 +18,6 @@ use layout::config::TEMP;
 use memory::block;
 use records::number::MOVL;
 use records::number::MOVS;
-use storing::store;
 
 // A pointer just loaded to w is shared where it stays in its block too.
 fn share_loaded(out: &mut [u8], p: Cursor, shared: bool, w: u64) -> Cursor
@@ -77,7 +76,7 @@ fn load_value(
     let offset = layout::config::snd_offset(t);
     let w = layout::utils::location_at(table, 2 * v + 1);
     let q = block::load_field(out, p, w, r, offset);
-    let ext = store::is_ext(kinds, v - first);
+    let ext = layout::utils::is_ext(kinds, v - first);
     load_fst(out, q, table, ext, shared, v, t, r)
 }
 
@@ -249,7 +248,7 @@ fn freed_before(table: &[u64; 267], v: u64, n: u64) -> bool
     if 0 < n {} else {
         return false;
     }
-    let rest = store::less(n, 2);
+    let rest = layout::utils::less(n, 2);
     let w = layout::utils::location_at(table, 2 * (v + rest));
     if w < 16 {
         return false;
@@ -311,7 +310,7 @@ pub fn load_some(
     requires { ⌜ (Table (now table)) × (first ≤ v) × (8 * (v + n - first) ≤ length (now kinds)) × (v + n ≤ 133) × (p .at + 40000 < 2 ^ 64) × (p .counter + 200 < 2 ^ 32) ⌝ }
     ensures { λ q. ⌜ Emits (now (out .entry)) p (now (out .exit)) q (loadSome base (extIn (now (kinds .entry)) first) shared v n) ⌝ }
 {
-    let rest = store::less(n, 3);
+    let rest = layout::utils::less(n, 3);
     let aside = freed_before(table, v, rest);
     let q = load_others(out, p, table, kinds, first, shared, (rest + 1) / 2, v, rest);
     load_block(

@@ -20,9 +20,9 @@ pub fn count_after(k: u64, order: Order) -> u64
         Order::Put(_) => k + 1,
         Order::Compute(_, _, _) => k + 1,
         Order::Copy(_, n) => k + (n as u64),
-        Order::Drop => storing::store::less(k, 1),
-        Order::Store(n, _) => storing::store::less(k, n as u64) + 1,
-        Order::Load(n) => storing::store::less(k, 1) + (n as u64),
+        Order::Drop => layout::utils::less(k, 1),
+        Order::Store(n, _) => layout::utils::less(k, n as u64) + 1,
+        Order::Load(n) => layout::utils::less(k, 1) + (n as u64),
         Order::Print(_, _) => k,
     }
 }
@@ -75,7 +75,7 @@ fn kind_at(context: &[u8], a: u64) -> Kind
     requires { ⌜ 8 * a + 8 ≤ length (now context) ⌝ }
     ensures { λ r. ⌜ r ≡ kindAt (now (context .entry)) a ⌝ }
 {
-    if storing::store::is_ext(context, a) {
+    if layout::utils::is_ext(context, a) {
         Kind::Ext
     } else {
         Kind::Linked

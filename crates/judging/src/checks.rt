@@ -49,8 +49,8 @@ fn both_ext(context: &[u8], a: u64, b: u64) -> bool
     requires { ⌜ (8 * a + 8 ≤ length (now context)) × (8 * b + 8 ≤ length (now context)) ⌝ }
     ensures { λ r. ⌜ r ≡ (extAt (now (context .entry)) a && extAt (now (context .entry)) b) ⌝ }
 {
-    if storing::store::is_ext(context, a) {
-        storing::store::is_ext(context, b)
+    if layout::utils::is_ext(context, a) {
+        layout::utils::is_ext(context, b)
     } else {
         false
     }
@@ -60,7 +60,7 @@ fn is_linked(context: &[u8], a: u64) -> bool
     requires { ⌜ 8 * a + 8 ≤ length (now context) ⌝ }
     ensures { λ r. ⌜ r ≡ not (extAt (now (context .entry)) a) ⌝ }
 {
-    if storing::store::is_ext(context, a) {
+    if layout::utils::is_ext(context, a) {
         false
     } else {
         true
@@ -79,7 +79,7 @@ pub fn kinds_ok(context: &[u8], k: u64, order: Order) -> bool
         Order::Drop => true,
         Order::Store(_, _) => true,
         Order::Load(_) => is_linked(context, k - 1),
-        Order::Print(_, a) => storing::store::is_ext(context, a as u64),
+        Order::Print(_, a) => layout::utils::is_ext(context, a as u64),
     }
 }
 
@@ -103,7 +103,7 @@ fn asked_linked(context: &[u8], a: u64) -> u64
     requires { ⌜ (8 * a + 8 ≤ length (now context)) × (a ≤ 4096) ⌝ }
     ensures { λ r. ⌜ r ≡ cond (extAt (now (context .entry)) a) 0 (2 * a + 1) ⌝ }
 {
-    if storing::store::is_ext(context, a) {
+    if layout::utils::is_ext(context, a) {
         0
     } else {
         2 * a + 1

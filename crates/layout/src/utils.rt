@@ -1,10 +1,10 @@
 // Where the variables stand, from utils.rs.
 ghost use mathlib.Core.Path.{_≡_};
 ghost use mathlib.Core.Bool.{cond};
-ghost use Prim.Native.Nat.{_+_, _*_, _<_, _≤_};
+ghost use Prim.Native.Nat.{_+_, _*_, _-_, _<_, _≤_};
 ghost use lib.Dec.{ltb};
 ghost use lib.ListN.{length, drop};
-ghost use Rattle.records.specs.Contexts.{bindingIn};
+ghost use Rattle.records.specs.Contexts.{bindingIn, extAt};
 ghost use Rattle.layout.specs.declared.utils.Temporary.the-variants.{Missing};
 ghost use Rattle.layout.specs.Config.{base};
 ghost use Rattle.layout.specs.Positions.{location, Table, operandOk, positionAnswer};
@@ -343,6 +343,22 @@ pub fn operand_ok(w: u64) -> bool
         return true;
     }
     16 < w
+}
+
+// a less b, and 0 where b is more.
+pub fn less(a: u64, b: u64) -> u64
+    ensures { λ r. ⌜ r ≡ a - b ⌝ }
+{
+    if a < b { 0 } else { a - b }
+}
+
+// Whether binding i is an integer's.
+pub fn is_ext(context: &[u8], i: u64) -> bool
+    requires { ⌜ 8 * i + 8 ≤ length (now context) ⌝ }
+    ensures { λ r. ⌜ r ≡ extAt (now (context .entry)) i ⌝ }
+{
+    let at = (8 * i + 2) as usize;
+    context[at] == 1
 }
 
 fn id_at(context: &[u8], k: usize) -> u32

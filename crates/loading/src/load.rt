@@ -45,7 +45,7 @@ fn linked(kinds: &[u8], n: u64) -> u64
 {
     let mut count: u64 = 0;
     for i in 0..n {
-        let ext = store::is_ext(kinds, i);
+        let ext = layout::utils::is_ext(kinds, i);
         count = count + one_if_linked(ext);
     }
     count

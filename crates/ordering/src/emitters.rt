@@ -115,7 +115,7 @@ fn copy(
 {
     let from = a as u64;
     let times = n as u64;
-    let ext = storing::store::is_ext(context, from);
+    let ext = layout::utils::is_ext(context, from);
     let q = share_linked(out, p, table, ext, from, times);
     if times == 0 {
         return q;
@@ -128,7 +128,7 @@ fn drop_last(out: &mut [u8], p: Cursor, table: &[u64; 267], context: &[u8], k: u
     requires { ⌜ (Table (now table)) × (8 * k ≤ length (now context)) × (0 < k) × (cond (extAt (now context) (k - 1)) 0 (2 * (k - 1) + 1) ≤ 267) × (p .at + 288 < 2 ^ 64) × (p .counter + 3 < 2 ^ 32) ⌝ }
     ensures { λ q. ⌜ Emits (now (out .entry)) p (now (out .exit)) q (cond (extAt (now (context .entry)) (k - 1)) nop (eraseBlock base (fst (k - 1)))) ⌝ }
 {
-    if storing::store::is_ext(context, k - 1) {
+    if layout::utils::is_ext(context, k - 1) {
         return p;
     }
     let w = layout::utils::location_at(table, 2 * (k - 1));

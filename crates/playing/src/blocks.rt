@@ -97,11 +97,11 @@ pub fn count_blocks(registers: &[u64; 16], heap: &[u64]) -> Blocks
     let linear = walk_list(heap, all, registers[2]);
     let lazy = walk_chain(heap, all, registers[3]);
     let frontier = number_of(lazy.end);
-    let used = storing::store::less(frontier, linear);
+    let used = layout::utils::less(frontier, linear);
     Blocks {
         linear,
         lazy: lazy.length,
-        held: storing::store::less(used, lazy.length),
-        untouched: storing::store::less(all, frontier),
+        held: layout::utils::less(used, lazy.length),
+        untouched: layout::utils::less(all, frontier),
     }
 }

@@ -6,7 +6,7 @@ ghost use Prim.Native.Nat.{_+_, _*_, _-_, _<_, _≤_, _^_};
 ghost use lib.Dec.{ltb};
 ghost use lib.ListN.{length};
 ghost use Rattle.records.specs.declared.check.Checked.the-variants.{Good};
-ghost use Rattle.records.specs.Contexts.{checkedContext, extAt};
+ghost use Rattle.records.specs.Contexts.{checkedContext};
 ghost use Rattle.trees.specs.Tree.{flat};
 ghost use Rattle.emit.specs.Emitted.{Emits};
 ghost use Rattle.emit.specs.Answers.{Answers};
@@ -21,15 +21,6 @@ use layout::config::HEAP;
 use memory::block;
 use records::check::Checked;
 use records::number::MOVIM;
-
-// Whether binding i is an integer's.
-pub fn is_ext(kinds: &[u8], i: u64) -> bool
-    requires { ⌜ 8 * i + 8 ≤ length (now kinds) ⌝ }
-    ensures { λ r. ⌜ r ≡ extAt (now (kinds .entry)) i ⌝ }
-{
-    let at = (8 * i + 2) as usize;
-    kinds[at] == 1
-}
 
 // A zero in the Fst of each of the first n fields.
 fn store_zeros(out: &mut [u8], p: Cursor, n: u64) -> Cursor
@@ -74,7 +65,7 @@ fn store_value(
     let offset = layout::config::snd_offset(t);
     let w = layout::utils::location_at(table, 2 * v + 1);
     let q = block::store_field(out, p, w, HEAP, offset);
-    let ext = is_ext(kinds, v - first);
+    let ext = layout::utils::is_ext(kinds, v - first);
     store_fst(out, q, table, ext, v, t)
 }
 
@@ -101,13 +92,6 @@ fn store_values(
         at -= 1;
     }
     store_zeros(out, q, at)
-}
-
-// a less b, and 0 where b is more.
-pub fn less(a: u64, b: u64) -> u64
-    ensures { λ r. ⌜ r ≡ a - b ⌝ }
-{
-    if a < b { 0 } else { a - b }
 }
 
 // The link to the block just stored, then k variables from v on, into a block that goes into variable v's Fst.
@@ -148,7 +132,7 @@ fn store_others(
     let mut blocks = m;
     let mut left = n;
     while 0 < blocks {
-        let rest = less(left, 2);
+        let rest = layout::utils::less(left, 2);
         q = store_other(out, q, table, kinds, first, v + rest, left - rest);
         left = rest;
         blocks -= 1;
@@ -169,7 +153,7 @@ pub fn store_some(
     requires { ⌜ (Table (now table)) × (first ≤ v) × (8 * (v + n - first) ≤ length (now kinds)) × (v + n ≤ 133) × (p .at + 240000 < 2 ^ 64) × (p .counter + 2000 < 2 ^ 32) ⌝ }
     ensures { λ q. ⌜ Emits (now (out .entry)) p (now (out .exit)) q (storeSome base (extIn (now (kinds .entry)) first) v n) ⌝ }
 {
-    let rest = less(n, 3);
+    let rest = layout::utils::less(n, 3);
     let pointer = layout::utils::location_at(table, 2 * (v + rest));
     let q = store_values(out, p, table, kinds, first, v + rest, n - rest, 3);
     let s = block::acquire_block(out, q, pointer);
