@@ -1,8 +1,9 @@
-// The linear list, the lazy list and the held blocks. In `marks` a block has four words: where it is, how many pointers name it, whether it was ever held
+// The linear list, the lazy list and the held blocks. Among MARKS a block has four words: where it is, how many pointers name it, whether it was ever held
 // or on HEAP's list, and the value that was seen in it.
 use crate::plain;
 use crate::table;
 use crate::words;
+use crate::work;
 
 const LINEAR: u64 = 1;
 
@@ -10,61 +11,65 @@ const LAZY: u64 = 2;
 
 const HELD: u64 = 3;
 
-fn mark(marks: &[u64], block: u64, i: u64) -> u64 {
-    table::at(marks, word::sum(word::product(4, block), i))
+fn place(block: u64, i: u64) -> u64 {
+    table::place_in(table::MARKS, table::WORK, 4, block, i)
 }
 
-fn set_mark(marks: &mut [u64], block: u64, i: u64, x: u64) {
-    table::set(marks, word::sum(word::product(4, block), i), x)
+fn mark(memory: &[u64], block: u64, i: u64) -> u64 {
+    table::at(memory, place(block, i))
 }
 
-pub fn seen(marks: &[u64], block: u64) -> u64 {
-    mark(marks, block, 3)
+fn set_mark(memory: &mut [u64], block: u64, i: u64, x: u64) {
+    table::set(memory, place(block, i), x)
 }
 
-pub fn set_seen(marks: &mut [u64], block: u64, value: u64) {
-    set_mark(marks, block, 3, value)
+pub fn seen(memory: &[u64], block: u64) -> u64 {
+    mark(memory, block, 3)
 }
 
-fn forget(marks: &mut [u64], block: u64) {
-    set_mark(marks, block, 0, 0);
-    set_mark(marks, block, 1, 0);
-    set_mark(marks, block, 3, 0);
+pub fn set_seen(memory: &mut [u64], block: u64, value: u64) {
+    set_mark(memory, block, 3, value)
+}
+
+fn forget(memory: &mut [u64], block: u64) {
+    set_mark(memory, block, 0, 0);
+    set_mark(memory, block, 1, 0);
+    set_mark(memory, block, 3, 0);
 }
 
 // All marks but whether a block was ever held or on HEAP's list.
-pub fn forget_all(marks: &mut [u64], blocks: u64) {
+pub fn forget_all(memory: &mut [u64], blocks: u64) {
     let mut b = 0;
     while b < blocks {
-        forget(marks, b);
+        forget(memory, b);
         b += 1;
     }
 }
 
 // A block that is nowhere yet is put somewhere.
-fn claim(marks: &mut [u64], block: u64, place: u64) -> bool {
-    if mark(marks, block, 0) == 0 {
-        set_mark(marks, block, 0, place);
+fn claim(memory: &mut [u64], block: u64, place: u64) -> bool {
+    if mark(memory, block, 0) == 0 {
+        set_mark(memory, block, 0, place);
         return true;
     }
     false
 }
 
-fn push_pointer(work: &mut [u64], pointer: u64) {
+fn push_pointer(memory: &mut [u64], pointer: u64) {
     if 0 < pointer {
-        table::push(work, pointer);
+        work::push(memory, pointer);
     }
 }
 
 // The Fsts of the three fields, a link among them.
-fn push_fields(heap: &[u64], work: &mut [u64], block: u64) {
-    push_pointer(work, words::fst_in(heap, block, 0));
-    push_pointer(work, words::fst_in(heap, block, 1));
-    push_pointer(work, words::fst_in(heap, block, 2));
+fn push_fields(heap: &[u64], memory: &mut [u64], block: u64) {
+    push_pointer(memory, words::fst_in(heap, block, 0));
+    push_pointer(memory, words::fst_in(heap, block, 1));
+    push_pointer(memory, words::fst_in(heap, block, 2));
 }
 
 // From HEAP to 0.
-pub fn linear(heap: &[u64], marks: &mut [u64], blocks: u64, head: u64) -> bool {
+pub fn linear(heap: &[u64], memory: &mut [u64], blocks: u64, head: u64) -> bool {
     let mut next = head;
     let mut i = 0;
     while i < blocks {
@@ -72,7 +77,7 @@ pub fn linear(heap: &[u64], marks: &mut [u64], blocks: u64, head: u64) -> bool {
             return true;
         }
         let block = words::block_at(heap, next);
-        if claim(marks, block, LINEAR) {} else {
+        if claim(memory, block, LINEAR) {} else {
             return false;
         }
         next = words::word_in(heap, block, 0);
@@ -82,7 +87,7 @@ pub fn linear(heap: &[u64], marks: &mut [u64], blocks: u64, head: u64) -> bool {
 }
 
 // From FREE to the first block that starts with 0, which is the frontier; NONE if there is none.
-pub fn lazy(heap: &[u64], marks: &mut [u64], work: &mut [u64], blocks: u64, head: u64) -> u64 {
+pub fn lazy(heap: &[u64], memory: &mut [u64], blocks: u64, head: u64) -> u64 {
     let mut next = head;
     let mut i = 0;
     while i < blocks {
@@ -91,69 +96,55 @@ pub fn lazy(heap: &[u64], marks: &mut [u64], work: &mut [u64], blocks: u64, head
         if next == 0 {
             return block;
         }
-        if claim(marks, block, LAZY) {} else {
+        if claim(memory, block, LAZY) {} else {
             return table::NONE;
         }
-        push_fields(heap, work, block);
+        push_fields(heap, memory, block);
         i += 1;
     }
     table::NONE
 }
 
-fn push_root(
-    registers: &[u64; 16],
-    stack: &[u64; 320],
-    nodes: &[u64],
-    values: &[u64],
-    work: &mut [u64],
-    i: u64,
-) {
-    let v = table::at(values, i);
-    if plain::count_of(nodes, v) == plain::INTEGER {} else {
-        push_pointer(work, words::fst(registers, stack, i));
+fn push_root(memory: &mut [u64], i: u64) {
+    if plain::count_of(memory, plain::value(memory, i)) == plain::INTEGER {} else {
+        push_pointer(memory, words::fst(memory, i));
     }
 }
 
 // The pointers in variables.
-pub fn roots(
-    registers: &[u64; 16],
-    stack: &[u64; 320],
-    nodes: &[u64],
-    values: &[u64],
-    length: u64,
-    work: &mut [u64],
-) {
+pub fn roots(memory: &mut [u64]) {
+    let n = plain::length(memory);
     let mut i = 0;
-    while i < length {
-        push_root(registers, stack, nodes, values, work, i);
+    while i < n {
+        push_root(memory, i);
         i += 1;
     }
 }
 
 // One pointer: the block that it names is held, and its fields are pointers too.
-fn hold(heap: &[u64], marks: &mut [u64], work: &mut [u64], pointer: u64) -> bool {
+fn hold(heap: &[u64], memory: &mut [u64], pointer: u64) -> bool {
     let block = words::block_at(heap, pointer);
-    let pointers = word::sum(mark(marks, block, 1), 1);
-    set_mark(marks, block, 1, pointers);
-    if mark(marks, block, 0) == HELD {
+    let pointers = word::sum(mark(memory, block, 1), 1);
+    set_mark(memory, block, 1, pointers);
+    if mark(memory, block, 0) == HELD {
         return true;
     }
-    if claim(marks, block, HELD) {
-        push_fields(heap, work, block);
+    if claim(memory, block, HELD) {
+        push_fields(heap, memory, block);
         return true;
     }
     false
 }
 
 // The pointers that are left to follow, which are at most `most`.
-pub fn follow(heap: &[u64], marks: &mut [u64], work: &mut [u64], most: u64) -> bool {
+pub fn follow(heap: &[u64], memory: &mut [u64], most: u64) -> bool {
     let mut i = 0;
     while i < most {
-        let pointer = table::pop(work);
+        let pointer = work::pop(memory);
         if pointer == 0 {
             return true;
         }
-        if hold(heap, marks, work, pointer) {} else {
+        if hold(heap, memory, pointer) {} else {
             return false;
         }
         i += 1;
@@ -162,41 +153,41 @@ pub fn follow(heap: &[u64], marks: &mut [u64], work: &mut [u64], most: u64) -> b
 }
 
 // Below the frontier a block is in one of the three, and a held block's count is its pointers less one; from the frontier up it is in none.
-fn block_sound(heap: &[u64], marks: &[u64], block: u64, frontier: u64) -> bool {
-    let place = mark(marks, block, 0);
+fn block_sound(heap: &[u64], memory: &[u64], block: u64, frontier: u64) -> bool {
+    let place = mark(memory, block, 0);
     if frontier <= block {
         return place == 0;
     }
     if place == HELD {
-        return words::word_in(heap, block, 0) == word::difference(mark(marks, block, 1), 1);
+        return words::word_in(heap, block, 0) == word::difference(mark(memory, block, 1), 1);
     }
     place == LINEAR || place == LAZY
 }
 
-fn remember(marks: &mut [u64], block: u64, place: u64) {
+fn remember(memory: &mut [u64], block: u64, place: u64) {
     if place == HELD || place == LINEAR {
-        set_mark(marks, block, 2, 1);
+        set_mark(memory, block, 2, 1);
     }
 }
 
 // The frontier is the first block never held or on HEAP's list.
-fn history_sound(marks: &mut [u64], block: u64, frontier: u64) -> bool {
-    let place = mark(marks, block, 0);
-    remember(marks, block, place);
-    let ever = mark(marks, block, 2);
+fn history_sound(memory: &mut [u64], block: u64, frontier: u64) -> bool {
+    let place = mark(memory, block, 0);
+    remember(memory, block, place);
+    let ever = mark(memory, block, 2);
     if block < frontier {
         return ever == 1;
     }
     ever == 0
 }
 
-pub fn all_sound(heap: &[u64], marks: &mut [u64], blocks: u64, frontier: u64) -> bool {
+pub fn all_sound(heap: &[u64], memory: &mut [u64], blocks: u64, frontier: u64) -> bool {
     let mut b = 0;
     while b < blocks {
-        if block_sound(heap, marks, b, frontier) {} else {
+        if block_sound(heap, memory, b, frontier) {} else {
             return false;
         }
-        if history_sound(marks, b, frontier) {} else {
+        if history_sound(memory, b, frontier) {} else {
             return false;
         }
         b += 1;

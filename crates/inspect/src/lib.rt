@@ -1,5 +1,6 @@
 // A check of document 01's demand 3 on one state: its words beside the plain machine's values. It stands on none of the definitions that the proofs are about.
-pub mod table; // words by number
+pub mod table; // the checker's memory, words by number
+pub mod work; // what is left to look at
 pub mod plain; // the plain machine
 pub mod words; // blocks, fields and variables in the words
 pub mod heap; // linear list, lazy list and held blocks

@@ -1,63 +1,74 @@
-// The plain machine of demand 3. A value goes by its number: in `nodes` it has four words, its integer or tag, where its list starts in `cells`, how
-// long that is (INTEGER for an integer), and one unused. `values` has the number of each variable's value.
+// The plain machine of demand 3. A value goes by its number: among NODES it has four words, its integer or tag, where its list starts among CELLS, how
+// long that is (INTEGER for an integer), and one unused. VALUES has the number of each variable's value. MADE is how many values there are, USED how many
+// cells are used, and LENGTH how many variables there are.
 use crate::table;
 use records::order::Operation;
 use records::order::Order;
+use records::order::OrderRead;
 
 pub const INTEGER: u64 = 18446744073709551615;
 
-// How many values there are, how many cells are used, and how many variables there are.
-pub struct Plain {
-    pub made: u64,
-    pub used: u64,
-    pub length: u64,
+fn node(v: u64, i: u64) -> u64 {
+    table::place_in(table::NODES, table::CELLS, 4, v, i)
 }
 
-pub fn word_of(nodes: &[u64], v: u64) -> u64 {
-    table::at(nodes, word::product(4, v))
+fn cell(i: u64) -> u64 {
+    table::place(table::CELLS, table::VALUES, i)
 }
 
-pub fn first_of(nodes: &[u64], v: u64) -> u64 {
-    table::at(nodes, word::sum(word::product(4, v), 1))
+fn variable(i: u64) -> u64 {
+    table::place(table::VALUES, table::VARIABLES, i)
 }
 
-pub fn count_of(nodes: &[u64], v: u64) -> u64 {
-    table::at(nodes, word::sum(word::product(4, v), 2))
+pub fn length(memory: &[u64]) -> u64 {
+    table::at(memory, table::LENGTH)
 }
 
-fn push(values: &mut [u64], p: Plain, v: u64) -> Plain {
-    table::set(values, p.length, v);
-    Plain {
-        made: p.made,
-        used: p.used,
-        length: word::sum(p.length, 1),
-    }
+// The value of a variable.
+pub fn value(memory: &[u64], i: u64) -> u64 {
+    table::at(memory, variable(i))
+}
+
+// A value in a list.
+pub fn listed(memory: &[u64], i: u64) -> u64 {
+    table::at(memory, cell(i))
+}
+
+pub fn word_of(memory: &[u64], v: u64) -> u64 {
+    table::at(memory, node(v, 0))
+}
+
+pub fn first_of(memory: &[u64], v: u64) -> u64 {
+    table::at(memory, node(v, 1))
+}
+
+pub fn count_of(memory: &[u64], v: u64) -> u64 {
+    table::at(memory, node(v, 2))
+}
+
+// A value in a new variable.
+fn push(memory: &mut [u64], v: u64) {
+    let n = length(memory);
+    table::set(memory, variable(n), v);
+    table::set(memory, table::LENGTH, word::sum(n, 1));
+}
+
+fn set_node(memory: &mut [u64], v: u64, content: u64, first: u64, count: u64) {
+    table::set(memory, node(v, 0), content);
+    table::set(memory, node(v, 1), first);
+    table::set(memory, node(v, 2), count);
 }
 
 // A new value, in a new variable.
-fn make(
-    nodes: &mut [u64],
-    values: &mut [u64],
-    p: Plain,
-    content: u64,
-    first: u64,
-    count: u64,
-) -> Plain {
-    let v = p.made;
-    let at = word::product(4, v);
-    table::set(nodes, at, content);
-    table::set(nodes, word::sum(at, 1), first);
-    table::set(nodes, word::sum(at, 2), count);
-    let q = push(values, p, v);
-    Plain {
-        made: word::sum(v, 1),
-        used: q.used,
-        length: q.length,
-    }
+fn make(memory: &mut [u64], content: u64, first: u64, count: u64) {
+    let v = table::at(memory, table::MADE);
+    set_node(memory, v, content, first, count);
+    table::set(memory, table::MADE, word::sum(v, 1));
+    push(memory, v);
 }
 
-fn put(nodes: &mut [u64], values: &mut [u64], p: Plain, integer: u64) -> Plain {
-    make(nodes, values, p, integer, 0, INTEGER)
+fn put(memory: &mut [u64], integer: u64) {
+    make(memory, integer, 0, INTEGER)
 }
 
 // A division by zero has no result; the list of orders has none.
@@ -71,82 +82,78 @@ fn result(operation: Operation, x: u64, y: u64) -> u64 {
     }
 }
 
-fn copy(values: &mut [u64], p: Plain, a: u64, n: u64) -> Plain {
-    let v = table::at(values, a);
-    let mut q = p;
-    let mut i = 0;
-    while i < n {
-        q = push(values, q, v);
-        i += 1;
-    }
-    q
+fn compute(memory: &mut [u64], operation: Operation, a: u64, b: u64) {
+    let x = word_of(memory, value(memory, a));
+    let y = word_of(memory, value(memory, b));
+    put(memory, result(operation, x, y))
 }
 
-fn store(
-    nodes: &mut [u64],
-    cells: &mut [u64],
-    values: &mut [u64],
-    p: Plain,
-    n: u64,
-    tag: u64,
-) -> Plain {
-    let kept = word::difference(p.length, n);
-    let first = p.used;
+fn copy(memory: &mut [u64], a: u64, n: u64) {
+    let v = value(memory, a);
     let mut i = 0;
     while i < n {
-        let v = table::at(values, word::sum(kept, i));
-        table::set(cells, word::sum(first, i), v);
+        push(memory, v);
         i += 1;
     }
-    let q = Plain {
-        made: p.made,
-        used: word::sum(first, n),
-        length: kept,
-    };
-    make(nodes, values, q, tag, first, n)
 }
 
-fn load(nodes: &[u64], cells: &[u64], values: &mut [u64], p: Plain) -> Plain {
-    let kept = word::difference(p.length, 1);
-    let v = table::at(values, kept);
-    let first = first_of(nodes, v);
-    let n = count_of(nodes, v);
-    let mut q = Plain {
-        made: p.made,
-        used: p.used,
-        length: kept,
-    };
+// The last n variables go.
+fn shorten(memory: &mut [u64], n: u64) {
+    let kept = word::difference(length(memory), n);
+    table::set(memory, table::LENGTH, kept)
+}
+
+// The n values of variables from `first` on, into new cells.
+fn list(memory: &mut [u64], first: u64, n: u64) {
+    let used = table::at(memory, table::USED);
     let mut i = 0;
     while i < n {
-        q = push(values, q, table::at(cells, word::sum(first, i)));
+        let v = value(memory, word::sum(first, i));
+        table::set(memory, cell(word::sum(used, i)), v);
         i += 1;
     }
-    q
+    table::set(memory, table::USED, word::sum(used, n));
+}
+
+fn store(memory: &mut [u64], n: u64, tag: u64) {
+    let first = table::at(memory, table::USED);
+    shorten(memory, n);
+    list(memory, length(memory), n);
+    make(memory, tag, first, n);
+}
+
+// The n values in cells from `first` on, into new variables.
+fn unlist(memory: &mut [u64], first: u64, n: u64) {
+    let mut i = 0;
+    while i < n {
+        push(memory, listed(memory, word::sum(first, i)));
+        i += 1;
+    }
+}
+
+fn load(memory: &mut [u64]) {
+    shorten(memory, 1);
+    let v = value(memory, length(memory));
+    let first = first_of(memory, v);
+    unlist(memory, first, count_of(memory, v));
 }
 
 // What an accepted order does.
-pub fn perform(
-    nodes: &mut [u64],
-    cells: &mut [u64],
-    values: &mut [u64],
-    p: Plain,
-    order: Order,
-) -> Plain {
+fn act(memory: &mut [u64], order: Order) {
     match order {
-        Order::Put(integer) => put(nodes, values, p, integer),
-        Order::Compute(operation, a, b) => {
-            let x = word_of(nodes, table::at(values, a as u64));
-            let y = word_of(nodes, table::at(values, b as u64));
-            put(nodes, values, p, result(operation, x, y))
-        }
-        Order::Copy(a, n) => copy(values, p, a as u64, n as u64),
-        Order::Drop => Plain {
-            made: p.made,
-            used: p.used,
-            length: word::difference(p.length, 1),
-        },
-        Order::Store(n, tag) => store(nodes, cells, values, p, n as u64, tag),
-        Order::Load(_) => load(nodes, cells, values, p),
-        Order::Print(_, _) => p,
+        Order::Put(integer) => put(memory, integer),
+        Order::Compute(operation, a, b) => compute(memory, operation, a as u64, b as u64),
+        Order::Copy(a, n) => copy(memory, a as u64, n as u64),
+        Order::Drop => shorten(memory, 1),
+        Order::Store(n, tag) => store(memory, n as u64, tag),
+        Order::Load(_) => load(memory),
+        Order::Print(_, _) => {}
+    }
+}
+
+pub fn perform(memory: &mut [u64], order: &[u8]) {
+    match records::order::read_order(order) {
+        OrderRead::Whole(read) => act(memory, read),
+        OrderRead::Malformed(_) => {}
     }
 }

@@ -1,15 +1,37 @@
-// Tables of words read and written by number. Past its end a table has NONE at every number, and nothing is written.
+// The checker's memory: one lent slice of MEMORY words, tables one after the other. From its end on a table has NONE at every number, and nothing is written.
 pub const NONE: u64 = 18446744073709551615;
 
-pub fn at(table: &[u64], i: u64) -> u64 {
+// Where each table starts, which is where the one before it ends.
+pub const NODES: u64 = 0;
+
+pub const CELLS: u64 = 32768;
+
+pub const VALUES: u64 = 65536;
+
+pub const VARIABLES: u64 = 65792;
+
+pub const MARKS: u64 = 66560;
+
+pub const WORK: u64 = 72560;
+
+// Three words by themselves.
+pub const MADE: u64 = 84560;
+
+pub const USED: u64 = 84561;
+
+pub const LENGTH: u64 = 84562;
+
+pub const MEMORY: usize = 84563;
+
+pub fn at(words: &[u64], i: u64) -> u64 {
     let n = i as usize;
-    if n < table.len() { table[n] } else { NONE }
+    if n < words.len() { words[n] } else { NONE }
 }
 
-pub fn set(table: &mut [u64], i: u64, x: u64) {
+pub fn set(words: &mut [u64], i: u64, x: u64) {
     let n = i as usize;
-    if n < table.len() {
-        table[n] = x;
+    if n < words.len() {
+        words[n] = x;
     }
 }
 
@@ -18,20 +40,16 @@ pub fn byte_at(bytes: &[u8], i: u64) -> u8 {
     if n < bytes.len() { bytes[n] } else { 255 }
 }
 
-// A stack in a table: word 0 is how many there are.
-pub fn push(stack: &mut [u64], x: u64) {
-    let top = word::sum(at(stack, 0), 1);
-    set(stack, top, x);
-    set(stack, 0, top);
+// Where the table between two places has its number i.
+pub fn place(start: u64, end: u64, i: u64) -> u64 {
+    if i < word::difference(end, start) {
+        word::sum(start, i)
+    } else {
+        NONE
+    }
 }
 
-// 0 where there is none.
-pub fn pop(stack: &mut [u64]) -> u64 {
-    let top = at(stack, 0);
-    if top == 0 {
-        return 0;
-    }
-    let x = at(stack, top);
-    set(stack, 0, word::difference(top, 1));
-    x
+// Where a table has word j of row i, a row having so many words.
+pub fn place_in(start: u64, end: u64, words: u64, i: u64, j: u64) -> u64 {
+    place(start, end, word::sum(word::product(words, i), j))
 }

@@ -1,15 +1,21 @@
 // The values that variables hold, and the objects behind them.
 use crate::heap;
 use crate::plain;
-use crate::table;
 use crate::words;
+use crate::work;
 
-// Two words hold value v. An object that is behind them is left on `work`: its address above the value's number plus one.
-fn holds(nodes: &[u64], work: &mut [u64], v: u64, fst: u64, snd: u64) -> bool {
-    if snd == plain::word_of(nodes, v) {} else {
+// An object is left to look at: its address above the value's number plus one.
+fn leave(memory: &mut [u64], v: u64, fst: u64) {
+    work::push(memory, word::sum(v, 1));
+    work::push(memory, fst);
+}
+
+// Two words hold value v. An object that is behind them is left.
+fn holds(memory: &mut [u64], v: u64, fst: u64, snd: u64) -> bool {
+    if snd == plain::word_of(memory, v) {} else {
         return false;
     }
-    let count = plain::count_of(nodes, v);
+    let count = plain::count_of(memory, v);
     if count == plain::INTEGER {
         return true;
     }
@@ -19,48 +25,27 @@ fn holds(nodes: &[u64], work: &mut [u64], v: u64, fst: u64, snd: u64) -> bool {
     if fst == 0 {
         return false;
     }
-    table::push(work, word::sum(v, 1));
-    table::push(work, fst);
+    leave(memory, v, fst);
     true
 }
 
 // A variable has its value's kind and holds it.
-fn variable_sound(
-    context: &[u8],
-    registers: &[u64; 16],
-    stack: &[u64; 320],
-    nodes: &[u64],
-    values: &[u64],
-    work: &mut [u64],
-    i: u64,
-) -> bool {
-    let v = table::at(values, i);
-    let kind = table::byte_at(context, word::sum(word::product(8, i), 2));
-    let count = plain::count_of(nodes, v);
-    if (kind == 1) == (count == plain::INTEGER) {} else {
+fn variable_sound(memory: &mut [u64], i: u64) -> bool {
+    let v = plain::value(memory, i);
+    let integer = plain::count_of(memory, v) == plain::INTEGER;
+    if (words::kind(memory, i) == 1) == integer {} else {
         return false;
     }
-    holds(
-        nodes,
-        work,
-        v,
-        words::fst(registers, stack, i),
-        words::snd(registers, stack, i),
-    )
+    let fst = words::fst(memory, i);
+    let snd = words::snd(memory, i);
+    holds(memory, v, fst, snd)
 }
 
-pub fn variables_sound(
-    context: &[u8],
-    registers: &[u64; 16],
-    stack: &[u64; 320],
-    nodes: &[u64],
-    values: &[u64],
-    length: u64,
-    work: &mut [u64],
-) -> bool {
+fn variables_sound(memory: &mut [u64]) -> bool {
+    let n = plain::length(memory);
     let mut i = 0;
-    while i < length {
-        if variable_sound(context, registers, stack, nodes, values, work, i) {} else {
+    while i < n {
+        if variable_sound(memory, i) {} else {
             return false;
         }
         i += 1;
@@ -69,21 +54,14 @@ pub fn variables_sound(
 }
 
 // A field holds value v; an integer's Fst is 0.
-fn field_sound(
-    heap: &[u64],
-    nodes: &[u64],
-    work: &mut [u64],
-    block: u64,
-    field: u64,
-    v: u64,
-) -> bool {
+fn field_sound(heap: &[u64], memory: &mut [u64], block: u64, field: u64, v: u64) -> bool {
     let fst = words::fst_in(heap, block, field);
-    if plain::count_of(nodes, v) == plain::INTEGER {
+    if plain::count_of(memory, v) == plain::INTEGER {
         if fst == 0 {} else {
             return false;
         }
     }
-    holds(nodes, work, v, fst, words::snd_in(heap, block, field))
+    holds(memory, v, fst, words::snd_in(heap, block, field))
 }
 
 // The first field that an object of n values uses: three in the last block, two in each other, from the last value on.
@@ -107,15 +85,7 @@ fn unused_sound(heap: &[u64], block: u64, first: u64) -> bool {
 }
 
 // The n values whose numbers start at a cell lie in an object.
-fn object_sound(
-    heap: &[u64],
-    nodes: &[u64],
-    cells: &[u64],
-    work: &mut [u64],
-    head: u64,
-    cell: u64,
-    n: u64,
-) -> bool {
+fn object_sound(heap: &[u64], memory: &mut [u64], head: u64, cell: u64, n: u64) -> bool {
     let mut block = head;
     let mut field = first_field(n);
     if unused_sound(heap, block, field) {} else {
@@ -131,8 +101,8 @@ fn object_sound(
                 last = n - i <= 3;
             }
         }
-        let v = table::at(cells, word::sum(cell, i));
-        if field_sound(heap, nodes, work, block, field, v) {} else {
+        let v = plain::listed(memory, word::sum(cell, i));
+        if field_sound(heap, memory, block, field, v) {} else {
             return false;
         }
         field = word::sum(field, 1);
@@ -142,50 +112,28 @@ fn object_sound(
 }
 
 // An object is looked at once for each value that is to be in it.
-fn look(
-    heap: &[u64],
-    nodes: &[u64],
-    cells: &[u64],
-    marks: &mut [u64],
-    work: &mut [u64],
-    block: u64,
-    number: u64,
-) -> bool {
-    if heap::seen(marks, block) == number {
+fn look(heap: &[u64], memory: &mut [u64], block: u64, number: u64) -> bool {
+    if heap::seen(memory, block) == number {
         return true;
     }
-    heap::set_seen(marks, block, number);
+    heap::set_seen(memory, block, number);
     let v = word::difference(number, 1);
-    let first = plain::first_of(nodes, v);
-    object_sound(
-        heap,
-        nodes,
-        cells,
-        work,
-        block,
-        first,
-        plain::count_of(nodes, v),
-    )
+    let first = plain::first_of(memory, v);
+    let count = plain::count_of(memory, v);
+    object_sound(heap, memory, block, first, count)
 }
 
 // The objects that are left to look at, which are at most `most`.
-pub fn objects_sound(
-    heap: &[u64],
-    nodes: &[u64],
-    cells: &[u64],
-    marks: &mut [u64],
-    work: &mut [u64],
-    most: u64,
-) -> bool {
+fn objects_sound(heap: &[u64], memory: &mut [u64], most: u64) -> bool {
     let mut i = 0;
     while i < most {
-        let address = table::pop(work);
+        let address = work::pop(memory);
         if address == 0 {
             return true;
         }
-        let number = table::pop(work);
+        let number = work::pop(memory);
         let block = words::block_at(heap, address);
-        if look(heap, nodes, cells, marks, work, block, number) {} else {
+        if look(heap, memory, block, number) {} else {
             return false;
         }
         i += 1;
@@ -193,22 +141,10 @@ pub fn objects_sound(
     false
 }
 
-// The values of all variables, on an empty `work`.
-pub fn values_sound(
-    context: &[u8],
-    registers: &[u64; 16],
-    stack: &[u64; 320],
-    heap: &[u64],
-    nodes: &[u64],
-    cells: &[u64],
-    values: &[u64],
-    length: u64,
-    marks: &mut [u64],
-    work: &mut [u64],
-    most: u64,
-) -> bool {
-    if variables_sound(context, registers, stack, nodes, values, length, work) {} else {
+// The values of all variables, where nothing is left to look at yet.
+pub fn values_sound(heap: &[u64], memory: &mut [u64], most: u64) -> bool {
+    if variables_sound(memory) {} else {
         return false;
     }
-    objects_sound(heap, nodes, cells, marks, work, most)
+    objects_sound(heap, memory, most)
 }

@@ -1,5 +1,11 @@
-// Blocks, fields and variables in the machine's words.
+// Blocks and fields in the heap's words, and the variables' words.
+use crate::plain;
 use crate::table;
+
+// How many blocks there are.
+pub fn blocks(heap: &[u64]) -> u64 {
+    (heap.len() / 8) as u64
+}
 
 // The block at an address, by number, or NONE.
 pub fn block_at(heap: &[u64], address: u64) -> u64 {
@@ -38,10 +44,45 @@ fn at_position(registers: &[u64; 16], stack: &[u64; 320], position: u64) -> u64 
     table::at(stack, word::difference(323, position))
 }
 
-pub fn fst(registers: &[u64; 16], stack: &[u64; 320], variable: u64) -> u64 {
-    at_position(registers, stack, word::product(2, variable))
+// Among VARIABLES a variable has three words: its Fst, its Snd and its kind.
+fn place(i: u64, j: u64) -> u64 {
+    table::place_in(table::VARIABLES, table::MARKS, 3, i, j)
 }
 
-pub fn snd(registers: &[u64; 16], stack: &[u64; 320], variable: u64) -> u64 {
-    at_position(registers, stack, word::sum(word::product(2, variable), 1))
+fn note_words(memory: &mut [u64], registers: &[u64; 16], stack: &[u64; 320], i: u64) {
+    let position = word::product(2, i);
+    table::set(memory, place(i, 0), at_position(registers, stack, position));
+    table::set(
+        memory,
+        place(i, 1),
+        at_position(registers, stack, word::sum(position, 1)),
+    );
+}
+
+fn note_kind(memory: &mut [u64], context: &[u8], i: u64) {
+    let kind = table::byte_at(context, word::sum(word::product(8, i), 2));
+    table::set(memory, place(i, 2), kind as u64)
+}
+
+// A state's variables.
+pub fn note(memory: &mut [u64], context: &[u8], registers: &[u64; 16], stack: &[u64; 320]) {
+    let n = plain::length(memory);
+    let mut i = 0;
+    while i < n {
+        note_words(memory, registers, stack, i);
+        note_kind(memory, context, i);
+        i += 1;
+    }
+}
+
+pub fn fst(memory: &[u64], variable: u64) -> u64 {
+    table::at(memory, place(variable, 0))
+}
+
+pub fn snd(memory: &[u64], variable: u64) -> u64 {
+    table::at(memory, place(variable, 1))
+}
+
+pub fn kind(memory: &[u64], variable: u64) -> u64 {
+    table::at(memory, place(variable, 2))
 }

@@ -7,10 +7,10 @@ use Rattle.inspect.proofs.heap.follow.Statement.{statement}
 use Rattle.inspect.proofs.heap.follow.Tie as tie
 
 abbrev Inv-loop : tie.InvT-loop
-Inv-loop heap marks₀ work₀ most i₀ marks work i = (length marks ≡ length marks₀) × (length work ≡ length work₀)
+Inv-loop heap memory₀ most i₀ memory i = length memory ≡ length memory₀
 
 abbrev μ-loop : tie.MeasureT-loop
-μ-loop heap marks₀ work₀ most i₀ marks work i = most - i
+μ-loop heap memory₀ most i₀ memory i = most - i
 
 pub follow-spec : {M : Type 1} → statement M
 follow-spec =
@@ -22,14 +22,11 @@ follow-spec =
     (λ c κs. search needs)
     (λ c. search needs)
     (λ c. search needs)
-    (λ c. search needs)
     (λ c κs. search needs)
     (λ c. search needs)
     (λ c. search needs)
-    (λ c. search needs)
     (λ c. omega arith)
     (λ c. omega arith)
-    (λ c. search needs)
     (λ c. search needs)
     (λ c. search needs)
     (λ c. search needs))

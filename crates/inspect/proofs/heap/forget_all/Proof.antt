@@ -7,10 +7,10 @@ use Rattle.inspect.proofs.heap.forget_all.Statement.{statement}
 use Rattle.inspect.proofs.heap.forget_all.Tie as tie
 
 abbrev Inv-loop : tie.InvT-loop
-Inv-loop marks₀ blocks b₀ marks b = length marks ≡ length marks₀
+Inv-loop memory₀ blocks b₀ memory b = length memory ≡ length memory₀
 
 abbrev μ-loop : tie.MeasureT-loop
-μ-loop marks₀ blocks b₀ marks b = blocks - b
+μ-loop memory₀ blocks b₀ memory b = blocks - b
 
 pub forget-all-spec : {M : Type 1} → statement M
 forget-all-spec =

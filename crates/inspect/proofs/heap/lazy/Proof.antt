@@ -7,10 +7,10 @@ use Rattle.inspect.proofs.heap.lazy.Statement.{statement}
 use Rattle.inspect.proofs.heap.lazy.Tie as tie
 
 abbrev Inv-loop : tie.InvT-loop
-Inv-loop heap marks₀ work₀ blocks head next₀ i₀ marks work next i = (length marks ≡ length marks₀) × (length work ≡ length work₀)
+Inv-loop heap memory₀ blocks head next₀ i₀ memory next i = length memory ≡ length memory₀
 
 abbrev μ-loop : tie.MeasureT-loop
-μ-loop heap marks₀ work₀ blocks head next₀ i₀ marks work next i = blocks - i
+μ-loop heap memory₀ blocks head next₀ i₀ memory next i = blocks - i
 
 pub lazy-spec : {M : Type 1} → statement M
 lazy-spec =
@@ -23,15 +23,12 @@ lazy-spec =
     (λ c κs. search needs)
     (λ c. search needs)
     (λ c. search needs)
-    (λ c. search needs)
     (λ c κs. search needs)
-    (λ c. search needs)
     (λ c. search needs)
     (λ c. search needs)
     (λ c κs. search needs)
     (λ c. omega arith)
     (λ c. omega arith)
-    (λ c. search needs)
     (λ c. search needs)
     (λ c. search needs)
     (λ c. search needs))

@@ -7,10 +7,10 @@ use Rattle.inspect.proofs.plain.copy.Statement.{statement}
 use Rattle.inspect.proofs.plain.copy.Tie as tie
 
 abbrev Inv-loop : tie.InvT-loop
-Inv-loop values₀ a n v q₀ i₀ values q i = length values ≡ length values₀
+Inv-loop memory₀ a n v i₀ memory i = length memory ≡ length memory₀
 
 abbrev μ-loop : tie.MeasureT-loop
-μ-loop values₀ a n v q₀ i₀ values q i = n - i
+μ-loop memory₀ a n v i₀ memory i = n - i
 
 pub copy-spec : {M : Type 1} → statement M
 copy-spec =

@@ -7,10 +7,10 @@ use Rattle.inspect.proofs.values.objects_sound.Statement.{statement}
 use Rattle.inspect.proofs.values.objects_sound.Tie as tie
 
 abbrev Inv-loop : tie.InvT-loop
-Inv-loop heap nodes cells marks₀ work₀ most i₀ marks work i = (length marks ≡ length marks₀) × (length work ≡ length work₀)
+Inv-loop heap memory₀ most i₀ memory i = length memory ≡ length memory₀
 
 abbrev μ-loop : tie.MeasureT-loop
-μ-loop heap nodes cells marks₀ work₀ most i₀ marks work i = most - i
+μ-loop heap memory₀ most i₀ memory i = most - i
 
 pub objects-sound-spec : {M : Type 1} → statement M
 objects-sound-spec =
@@ -22,16 +22,13 @@ objects-sound-spec =
     (λ c κs. search needs)
     (λ c. search needs)
     (λ c. search needs)
-    (λ c. search needs)
     (λ c κs. search needs)
     (λ c κs. search needs)
     (λ c κs. search needs)
-    (λ c. search needs)
     (λ c. search needs)
     (λ c. search needs)
     (λ c. omega arith)
     (λ c. omega arith)
-    (λ c. search needs)
     (λ c. search needs)
     (λ c. search needs)
     (λ c. search needs))

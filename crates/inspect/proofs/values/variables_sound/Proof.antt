@@ -1,16 +1,16 @@
 use borrow.Author.Needs.{needs}
 use Prim.Native.Nat.{_-_}
 use mathlib.Core.Path.{_≡_}
-use lib.ListN as list
+use lib.ListN.{length}
 use native.Mathlib.Omega.{arith}
 use Rattle.inspect.proofs.values.variables_sound.Statement.{statement}
 use Rattle.inspect.proofs.values.variables_sound.Tie as tie
 
 abbrev Inv-loop : tie.InvT-loop
-Inv-loop context registers stack nodes values length work₀ i₀ work i = list.length work ≡ list.length work₀
+Inv-loop memory₀ n i₀ memory i = length memory ≡ length memory₀
 
 abbrev μ-loop : tie.MeasureT-loop
-μ-loop context registers stack nodes values length work₀ i₀ work i = length - i
+μ-loop memory₀ n i₀ memory i = n - i
 
 pub variables-sound-spec : {M : Type 1} → statement M
 variables-sound-spec =
@@ -18,6 +18,7 @@ variables-sound-spec =
     (tie.spec
     Inv-loop
     μ-loop
+    (λ c κs. search needs)
     (λ c. search needs)
     (λ c κs. search needs)
     (λ c. search needs)

@@ -3,27 +3,23 @@ use Prim.Native.Nat.{_-_}
 use mathlib.Core.Path.{_≡_}
 use lib.ListN.{length}
 use native.Mathlib.Omega.{arith}
-use Rattle.inspect.proofs.plain.load.Statement.{statement}
-use Rattle.inspect.proofs.plain.load.Tie as tie
+use Rattle.inspect.proofs.words.note.Statement.{statement}
+use Rattle.inspect.proofs.words.note.Tie as tie
 
 abbrev Inv-loop : tie.InvT-loop
-Inv-loop nodes cells values₀ kept v first n q₀ i₀ values q i = length values ≡ length values₀
+Inv-loop memory₀ context registers stack n i₀ memory i = length memory ≡ length memory₀
 
 abbrev μ-loop : tie.MeasureT-loop
-μ-loop nodes cells values₀ kept v first n q₀ i₀ values q i = n - i
+μ-loop memory₀ context registers stack n i₀ memory i = n - i
 
-pub load-spec : {M : Type 1} → statement M
-load-spec =
+pub note-spec : {M : Type 1} → statement M
+note-spec =
     tie.close
     (tie.spec
     Inv-loop
     μ-loop
     (λ c κs. search needs)
-    (λ c κs. search needs)
-    (λ c κs. search needs)
-    (λ c κs. search needs)
     (λ c. search needs)
-    (λ c κs. search needs)
     (λ c κs. search needs)
     (λ c κs. search needs)
     (λ c. omega arith)
