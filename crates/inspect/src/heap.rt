@@ -1,5 +1,6 @@
 // The linear list, the lazy list and the held blocks. Among MARKS a block has four words: where it is, how many pointers name it, whether it was ever held
 // or on HEAP's list, and the value that was seen in it.
+use crate::arithmetic;
 use crate::plain;
 use crate::table;
 use crate::words;
@@ -124,7 +125,7 @@ pub fn roots(memory: &mut [u64]) {
 // One pointer: the block that it names is held, and its fields are pointers too.
 fn hold(heap: &[u64], memory: &mut [u64], pointer: u64) -> bool {
     let block = words::block_at(heap, pointer);
-    let pointers = word::sum(mark(memory, block, 1), 1);
+    let pointers = arithmetic::sum(mark(memory, block, 1), 1);
     set_mark(memory, block, 1, pointers);
     if mark(memory, block, 0) == HELD {
         return true;
@@ -159,7 +160,7 @@ fn block_sound(heap: &[u64], memory: &[u64], block: u64, frontier: u64) -> bool 
         return place == 0;
     }
     if place == HELD {
-        return words::word_in(heap, block, 0) == word::difference(mark(memory, block, 1), 1);
+        return words::word_in(heap, block, 0) == arithmetic::difference(mark(memory, block, 1), 1);
     }
     place == LINEAR || place == LAZY
 }

@@ -1,6 +1,8 @@
-// A check of document 01's demand 3 on one state: its words beside the plain machine's values. It stands on none of the definitions that the proofs are about.
+// A check of document 01's demand 3 on one state: its words beside the plain machine's values. It stands on no other crate.
+pub mod arithmetic; // 64-bit numbers
 pub mod table; // the checker's memory, words by number
 pub mod work; // what is left to look at
+pub mod order; // the fields of an order
 pub mod plain; // the plain machine
 pub mod words; // blocks, fields and variables in the words
 pub mod heap; // linear list, lazy list and held blocks

@@ -1,10 +1,9 @@
 // The plain machine of demand 3. A value goes by its number: among NODES it has four words, its integer or tag, where its list starts among CELLS, how
 // long that is (INTEGER for an integer), and one unused. VALUES has the number of each variable's value. MADE is how many values there are, USED how many
 // cells are used, and LENGTH how many variables there are.
+use crate::arithmetic;
+use crate::order;
 use crate::table;
-use records::order::Operation;
-use records::order::Order;
-use records::order::OrderRead;
 
 pub const INTEGER: u64 = 18446744073709551615;
 
@@ -50,7 +49,7 @@ pub fn count_of(memory: &[u64], v: u64) -> u64 {
 fn push(memory: &mut [u64], v: u64) {
     let n = length(memory);
     table::set(memory, variable(n), v);
-    table::set(memory, table::LENGTH, word::sum(n, 1));
+    table::set(memory, table::LENGTH, arithmetic::sum(n, 1));
 }
 
 fn set_node(memory: &mut [u64], v: u64, content: u64, first: u64, count: u64) {
@@ -63,7 +62,7 @@ fn set_node(memory: &mut [u64], v: u64, content: u64, first: u64, count: u64) {
 fn make(memory: &mut [u64], content: u64, first: u64, count: u64) {
     let v = table::at(memory, table::MADE);
     set_node(memory, v, content, first, count);
-    table::set(memory, table::MADE, word::sum(v, 1));
+    table::set(memory, table::MADE, arithmetic::sum(v, 1));
     push(memory, v);
 }
 
@@ -71,21 +70,20 @@ fn put(memory: &mut [u64], integer: u64) {
     make(memory, integer, 0, INTEGER)
 }
 
-// A division by zero has no result; the list of orders has none.
-fn result(operation: Operation, x: u64, y: u64) -> u64 {
-    match operation {
-        Operation::Add => word::sum(x, y),
-        Operation::Sub => word::difference(x, y),
-        Operation::Mul => word::product(x, y),
-        Operation::Div => { if 0 < y { word::quotient(x, y) } else { 0 } }
-        Operation::Rem => { if 0 < y { word::remainder(x, y) } else { 0 } }
+fn result(flag: u8, x: u64, y: u64) -> u64 {
+    match flag {
+        0 => arithmetic::sum(x, y),
+        1 => arithmetic::difference(x, y),
+        2 => arithmetic::product(x, y),
+        3 => arithmetic::quotient(x, y),
+        _ => arithmetic::remainder(x, y),
     }
 }
 
-fn compute(memory: &mut [u64], operation: Operation, a: u64, b: u64) {
+fn compute(memory: &mut [u64], flag: u8, a: u64, b: u64) {
     let x = word_of(memory, value(memory, a));
     let y = word_of(memory, value(memory, b));
-    put(memory, result(operation, x, y))
+    put(memory, result(flag, x, y))
 }
 
 fn copy(memory: &mut [u64], a: u64, n: u64) {
@@ -99,7 +97,7 @@ fn copy(memory: &mut [u64], a: u64, n: u64) {
 
 // The last n variables go.
 fn shorten(memory: &mut [u64], n: u64) {
-    let kept = word::difference(length(memory), n);
+    let kept = arithmetic::difference(length(memory), n);
     table::set(memory, table::LENGTH, kept)
 }
 
@@ -108,11 +106,11 @@ fn list(memory: &mut [u64], first: u64, n: u64) {
     let used = table::at(memory, table::USED);
     let mut i = 0;
     while i < n {
-        let v = value(memory, word::sum(first, i));
-        table::set(memory, cell(word::sum(used, i)), v);
+        let v = value(memory, arithmetic::sum(first, i));
+        table::set(memory, cell(arithmetic::sum(used, i)), v);
         i += 1;
     }
-    table::set(memory, table::USED, word::sum(used, n));
+    table::set(memory, table::USED, arithmetic::sum(used, n));
 }
 
 fn store(memory: &mut [u64], n: u64, tag: u64) {
@@ -126,7 +124,7 @@ fn store(memory: &mut [u64], n: u64, tag: u64) {
 fn unlist(memory: &mut [u64], first: u64, n: u64) {
     let mut i = 0;
     while i < n {
-        push(memory, listed(memory, word::sum(first, i)));
+        push(memory, listed(memory, arithmetic::sum(first, i)));
         i += 1;
     }
 }
@@ -139,21 +137,14 @@ fn load(memory: &mut [u64]) {
 }
 
 // What an accepted order does.
-fn act(memory: &mut [u64], order: Order) {
-    match order {
-        Order::Put(integer) => put(memory, integer),
-        Order::Compute(operation, a, b) => compute(memory, operation, a as u64, b as u64),
-        Order::Copy(a, n) => copy(memory, a as u64, n as u64),
-        Order::Drop => shorten(memory, 1),
-        Order::Store(n, tag) => store(memory, n as u64, tag),
-        Order::Load(_) => load(memory),
-        Order::Print(_, _) => {}
-    }
-}
-
 pub fn perform(memory: &mut [u64], order: &[u8]) {
-    match records::order::read_order(order) {
-        OrderRead::Whole(read) => act(memory, read),
-        OrderRead::Malformed(_) => {}
+    match order::code(order) {
+        1 => put(memory, order::value(order)),
+        2 => compute(memory, order::flag(order), order::a(order), order::b(order)),
+        3 => copy(memory, order::a(order), order::n(order)),
+        4 => shorten(memory, 1),
+        5 => store(memory, order::n(order), order::value(order)),
+        6 => load(memory),
+        _ => {}
     }
 }

@@ -1,4 +1,5 @@
 // All that demand 3 says of one state.
+use crate::arithmetic;
 use crate::heap;
 use crate::plain;
 use crate::table;
@@ -39,12 +40,12 @@ fn frame_sound(context: &[u8], registers: &[u64; 16], length: u64) -> bool {
     if registers[0] == 1099511625672 {} else {
         return false;
     }
-    (context.len() as u64) == word::product(8, length)
+    (context.len() as u64) == arithmetic::product(8, length)
 }
 
 // A state whose variables are noted.
 fn words_sound(heap: &[u64], memory: &mut [u64], head: u64, free: u64) -> bool {
-    let most = word::sum(word::product(4, words::blocks(heap)), 1000);
+    let most = arithmetic::sum(arithmetic::product(4, words::blocks(heap)), 1000);
     if heap_sound(heap, memory, most, head, free) {} else {
         return false;
     }

@@ -1,4 +1,6 @@
 // The checker's memory: one lent slice of MEMORY words, tables one after the other. From its end on a table has NONE at every number, and nothing is written.
+use crate::arithmetic;
+
 pub const NONE: u64 = 18446744073709551615;
 
 // Where each table starts, which is where the one before it ends.
@@ -42,8 +44,8 @@ pub fn byte_at(bytes: &[u8], i: u64) -> u8 {
 
 // Where the table between two places has its number i.
 pub fn place(start: u64, end: u64, i: u64) -> u64 {
-    if i < word::difference(end, start) {
-        word::sum(start, i)
+    if i < arithmetic::difference(end, start) {
+        arithmetic::sum(start, i)
     } else {
         NONE
     }
@@ -51,5 +53,9 @@ pub fn place(start: u64, end: u64, i: u64) -> u64 {
 
 // Where a table has word j of row i, a row having so many words.
 pub fn place_in(start: u64, end: u64, words: u64, i: u64, j: u64) -> u64 {
-    place(start, end, word::sum(word::product(words, i), j))
+    place(
+        start,
+        end,
+        arithmetic::sum(arithmetic::product(words, i), j),
+    )
 }

@@ -1,4 +1,5 @@
 // The values that variables hold, and the objects behind them.
+use crate::arithmetic;
 use crate::heap;
 use crate::plain;
 use crate::words;
@@ -6,7 +7,7 @@ use crate::work;
 
 // An object is left to look at: its address above the value's number plus one.
 fn leave(memory: &mut [u64], v: u64, fst: u64) {
-    work::push(memory, word::sum(v, 1));
+    work::push(memory, arithmetic::sum(v, 1));
     work::push(memory, fst);
 }
 
@@ -101,11 +102,11 @@ fn object_sound(heap: &[u64], memory: &mut [u64], head: u64, cell: u64, n: u64) 
                 last = n - i <= 3;
             }
         }
-        let v = plain::listed(memory, word::sum(cell, i));
+        let v = plain::listed(memory, arithmetic::sum(cell, i));
         if field_sound(heap, memory, block, field, v) {} else {
             return false;
         }
-        field = word::sum(field, 1);
+        field = arithmetic::sum(field, 1);
         i += 1;
     }
     true
@@ -117,7 +118,7 @@ fn look(heap: &[u64], memory: &mut [u64], block: u64, number: u64) -> bool {
         return true;
     }
     heap::set_seen(memory, block, number);
-    let v = word::difference(number, 1);
+    let v = arithmetic::difference(number, 1);
     let first = plain::first_of(memory, v);
     let count = plain::count_of(memory, v);
     object_sound(heap, memory, block, first, count)

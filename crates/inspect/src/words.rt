@@ -1,4 +1,5 @@
 // Blocks and fields in the heap's words, and the variables' words.
+use crate::arithmetic;
 use crate::plain;
 use crate::table;
 
@@ -24,16 +25,24 @@ pub fn block_at(heap: &[u64], address: u64) -> u64 {
 
 // Word 0 is the count or the next pointer.
 pub fn word_in(heap: &[u64], block: u64, i: u64) -> u64 {
-    table::at(heap, word::sum(word::product(8, block), i))
+    table::at(heap, arithmetic::sum(arithmetic::product(8, block), i))
 }
 
 // The Fst and the Snd of a field.
 pub fn fst_in(heap: &[u64], block: u64, field: u64) -> u64 {
-    word_in(heap, block, word::sum(word::product(2, field), 2))
+    word_in(
+        heap,
+        block,
+        arithmetic::sum(arithmetic::product(2, field), 2),
+    )
 }
 
 pub fn snd_in(heap: &[u64], block: u64, field: u64) -> u64 {
-    word_in(heap, block, word::sum(word::product(2, field), 3))
+    word_in(
+        heap,
+        block,
+        arithmetic::sum(arithmetic::product(2, field), 3),
+    )
 }
 
 // Positions 0 to 11 are registers 4 to 15; 12 and on are spills 1 and on, the last of which is where STACK points, at word 57 of the stack.
@@ -41,7 +50,7 @@ fn at_position(registers: &[u64; 16], stack: &[u64; 320], position: u64) -> u64 
     if position < 12 {
         return table::at(registers, position + 4);
     }
-    table::at(stack, word::difference(323, position))
+    table::at(stack, arithmetic::difference(323, position))
 }
 
 // Among VARIABLES a variable has three words: its Fst, its Snd and its kind.
@@ -50,17 +59,17 @@ fn place(i: u64, j: u64) -> u64 {
 }
 
 fn note_words(memory: &mut [u64], registers: &[u64; 16], stack: &[u64; 320], i: u64) {
-    let position = word::product(2, i);
+    let position = arithmetic::product(2, i);
     table::set(memory, place(i, 0), at_position(registers, stack, position));
     table::set(
         memory,
         place(i, 1),
-        at_position(registers, stack, word::sum(position, 1)),
+        at_position(registers, stack, arithmetic::sum(position, 1)),
     );
 }
 
 fn note_kind(memory: &mut [u64], context: &[u8], i: u64) {
-    let kind = table::byte_at(context, word::sum(word::product(8, i), 2));
+    let kind = table::byte_at(context, arithmetic::sum(arithmetic::product(8, i), 2));
     table::set(memory, place(i, 2), kind as u64)
 }
 

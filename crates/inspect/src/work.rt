@@ -1,4 +1,5 @@
 // What is left to look at: a stack, whose word 0 is how many there are.
+use crate::arithmetic;
 use crate::table;
 
 fn place(i: u64) -> u64 {
@@ -10,7 +11,7 @@ pub fn clear(memory: &mut [u64]) {
 }
 
 pub fn push(memory: &mut [u64], x: u64) {
-    let top = word::sum(table::at(memory, table::WORK), 1);
+    let top = arithmetic::sum(table::at(memory, table::WORK), 1);
     table::set(memory, place(top), x);
     table::set(memory, table::WORK, top);
 }
@@ -21,6 +22,6 @@ pub fn pop(memory: &mut [u64]) -> u64 {
     if top == 0 {
         return 0;
     }
-    table::set(memory, table::WORK, word::difference(top, 1));
+    table::set(memory, table::WORK, arithmetic::difference(top, 1));
     table::at(memory, place(top))
 }
