@@ -4,12 +4,12 @@ use mathlib.Core.List.{List, [], _∷_, _++_}
 use mathlib.Core.Logic.{_≢_}
 use mathlib.Core.Path.{_≡_, refl, sym, _∙_, ap, subst}
 use Prim.Native.Nat.{ℕ, suc, _+_, _*_, _%_, _^_, _≤_, _<_}
-use native.Mathlib.Decide.{ℕ-discrete}
+use native.Mathlib.Decide.{ℕ-discrete, decLt}
 use native.Mathlib.Omega.{arith}
 use lib.Dec.{ltb}
 use lib.ListN.{length}
 use borrow.Author.Tests.{eq-eqb, ne-eqb, ltb-true, ltb-false}
-use Rattle.records.specs.declared.code.Code.the-variants.{ADDI, MOV, MOVS, MOVIM, CMPI}
+use Rattle.records.specs.declared.code.Code.the-variants.{ADDI, MOV, MOVS, MOVL, MOVIM, CMPI}
 use Rattle.word.specs.Words.{sum}
 use Rattle.trees.specs.Tree.{Tree, leaf, seq, if-zero}
 use Rattle.layout.specs.Config.{base, TEMP, stackOffset}
@@ -21,14 +21,15 @@ use Rattle.heap.specs.Blocks.{pointers, children}
 use Rattle.heap.specs.Counting.{same}
 use Rattle.heap.specs.CountingLemmas.{same-self, remove}
 use Rattle.heap.specs.Invariant.{Invariant}
-use Rattle.heap.specs.OperationLemmas.{head-free, acquire-lazy}
-use Rattle.heap.specs.Operations.{Acquire, from-linear, from-frontier, from-lazy}
+use Rattle.heap.specs.OperationLemmas.{head-free, acquire-lazy, erase-pointers}
+use Rattle.heap.specs.Operations.{EraseAll, Acquire, from-linear, from-frontier, from-lazy}
 use Rattle.heap.specs.WordLemmas.{header-at, fields-at, cells-agree}
 use Rattle.heap.specs.Words.{headers, cellsFrom, blockFields}
 use Rattle.positions.specs.Held.{held, withRegister, withHeap, Keeps, Placed, blockAddress}
 use Rattle.positions.specs.HeldLemmas.{upd-same, upd-other, register-same, spill-same, keeps-refl, keeps-trans, keeps-sub, keeps-put, keeps-spill, keeps-register, placed-keeps}
 use Rattle.positions.specs.RecordLemmas.{register-MOV, register-ADDI, register-compared, block-MOVL, block-MOVIM, spill-MOVS}
-use Rattle.positions.specs.Runs.{Does, one, then, go, weaken, if-yes, if-no}
+use Rattle.positions.specs.Runs.{Does, one, go, weaken, if-yes, if-no}
+use Rattle.bridge.specs.Attempting.{Attempts, does, faults, attempt-then, attempt-go, attempt-weaken, attempt-yes, block-outside}
 use Rattle.bridge.specs.Erasing.{children-does}
 use Rattle.bridge.specs.Shown.{L, SameFields, head-same, head-off, head-fields, head-cells}
 
@@ -40,7 +41,7 @@ module _ {n heap free : ℕ} {h : ℕ → ℕ} {k : ℕ → List ℕ} {rest lazy
   pub heap-ok : Invariant L k h heap free n rest lazy live roots → (i : ℕ) × (i < n) × (heap ≡ blockAddress i)
   heap-ok v = block-number L n heap (omega (arith, head-free v .0))
 
-free-ok : {n heap free : ℕ} {h : ℕ → ℕ} {k : ℕ → List ℕ} {rest live roots : List ℕ} (lazy : List ℕ) → Invariant L k h heap free n rest lazy live roots → (i : ℕ) × (i < suc n) × (free ≡ blockAddress i)
+pub free-ok : {n heap free : ℕ} {h : ℕ → ℕ} {k : ℕ → List ℕ} {rest live roots : List ℕ} (lazy : List ℕ) → Invariant L k h heap free n rest lazy live roots → (i : ℕ) × (i < suc n) × (free ≡ blockAddress i)
 free-ok {n} [] v = (n, omega arith, v .lazy-chain)
 free-ok {n} (f ∷ ys) v =
     let r = block-number L n f (omega (arith, v .lazy-live f, v .parts f, same-self f)) in
@@ -49,6 +50,10 @@ free-ok {n} (f ∷ ys) v =
 bumped : (i : ℕ) → i < 1048576 → (x : ℕ) → blockAddress i ≡ blockAddress x → sum (blockAddress i) 64 ≡ blockAddress (suc x)
 unfolding sum
 bumped i h x e = let q : (blockAddress i + 64) % 2 ^ 64 ≡ blockAddress i + 64 = omega arith in q ∙ omega arith
+
+-- FREE is a block's address or that of the end
+abbrev pub Within : ℕ → ℕ → Type 0
+Within N free = (i : ℕ) × (i ≤ N) × (free ≡ blockAddress i)
 
 -- what taking a block does to the memory and to HEAP and FREE
 pub record Taken (m : ℕ → ℕ) (heap free : ℕ) (m′ : ℕ → ℕ) (heap′ free′ : ℕ) : Type 0 where
@@ -69,9 +74,13 @@ module _ (words : ℕ → ℕ) where
           go (register-MOV words s 1 2) (one (spill-MOVS words (withRegister s 1 (s .state .reg 2)) v l h b 2)
           (spill-same (upd (s .state .reg) 1 (s .state .reg 2)) (s .state .stk) l (s .state .reg 2) h, refl, refl, keeps-spill l (s .state .reg 2) h b (λ x d. d .1) (keeps-put 1 (s .state .reg 2) (λ x d. d .0) keeps-refl)))
 
-  module _ {N n : ℕ} (roots : List ℕ) (s : Config) (v : Placed N s) (room : n < N) (few : length roots ≤ 1048559) where
+  module _ {N n : ℕ} (roots : List ℕ) (s : Config) (v : Placed N s) (room : n ≤ N) (few : length roots ≤ 1048559) where
     abbrev Goal : Tree → Config → Type 0
-    Goal t u = Does words t u (λ r. Taken (s .state .mem) (s .state .reg 2) (s .state .reg 3) (r .state .mem) (r .state .reg 2) (r .state .reg 3) × Keeps Low s r)
+    Goal t u = Does words t u (λ r. Taken (s .state .mem) (s .state .reg 2) (s .state .reg 3) (r .state .mem) (r .state .reg 2) (r .state .reg 3) × Within N (r .state .reg 3) × Keeps Low s r)
+
+    -- or the fault, where the frontier is no block of the heap
+    abbrev Attempt : Tree → Config → Type 0
+    Attempt t u = Attempts words t u (n < N → ⊥) (λ r. Taken (s .state .mem) (s .state .reg 2) (s .state .reg 3) (r .state .mem) (r .state .reg 2) (r .state .reg 3) × Within N (r .state .reg 3) × Keeps Low s r)
 
     abbrev K : ℕ → List ℕ
     K = children (blockFields 3 (s .state .mem))
@@ -100,22 +109,25 @@ module _ (words : ℕ → ℕ) where
         let l₃ : blockFields 3 m (s .state .reg 3) ≡ cellsFrom 3 m i 0 3 = rw is (fields-at 3 m i) in
         let k₃ : K (s .state .reg 3) ≡ pointers (cellsFrom 3 m₁ i 0 3) = ap pointers (l₃ ∙ sym (cells-agree 3 m m₁ i 0 3 (λ y a b. head-fields m i 0 i y (omega arith) (omega arith)))) in
         let q₃ : Invariant L (children (blockFields 3 m₁)) (headers 3 m₁) (s .state .reg 3) (m (8 * i + 0)) n [] ys (s .state .reg 2 ∷ o .0) (pointers (cellsFrom 3 m₁ i 0 3) ++ (s .state .reg 2 ∷ roots)) = rw (f₃, ← k₃, ← h₃) q₂ in
+        let within : (h′ : ℕ → ℕ) (free′ : ℕ) → EraseAll (pointers (cellsFrom 3 m₁ i 0 3)) (headers 3 m₁) (m (8 * i + 0)) h′ free′ → Within N free′
+        = λ h′ free′ es. (let r = erase-pointers (s .state .reg 2 ∷ roots) es q₃ in let f = free-ok (r .0) (r .1) in (f .0, omega (arith, f .1), f .2)) in
         go (block-MOVIM words (dropped u) v 2 i 0 0 is lt refl (omega arith) 0)
         (weaken (λ r g. (
           record {
             did = subst (λ x. Acquire L K (headers 3 m) (s .state .reg 2) (s .state .reg 3) (headers 3 (r .state .mem)) x (r .state .reg 3)) (sym (keeps-register (g .2) 2 (omega arith) (omega arith))) (from-lazy z (λ x. nz (sym h₃ ∙ x)) at₁ off (rw (k₃, h₃) (g .0)));
             fields = λ x y a b. g .1 x y a b ∙ head-fields m i 0 x y a b;
           },
+          within _ _ (g .0),
           keeps-trans (keeps-put 3 (m (8 * i + 0)) (λ l x. x .2) (keeps-put 2 (s .state .reg 3) (λ l x. x .1) (keeps-put 2 w (λ l x. x .1) keeps-refl))) (keeps-sub (λ l x. (x .0, x .2)) (g .2)),
         ))
-        (children-does words (s .state .reg 2 ∷ roots) (withHeap (dropped u) (8 * i + 0) 0) i v is lt (omega arith) (omega arith) q₃))
+        (children-does words (s .state .reg 2 ∷ roots) (withHeap (dropped u) (8 * i + 0) 0) i v is lt room (omega arith) q₃))
 
     -- HEAP's next block, whichever of the three it is
-    next-does : {rest lazy live : List ℕ} (b : ℕ) → b ≢ 2 → s .state .reg b ≡ s .state .reg 2 → Invariant L K (headers 3 (s .state .mem)) (s .state .reg 2) (s .state .reg 3) n rest lazy live (K (s .state .reg 2) ++ roots) → Goal (nextBlock base b) s
+    next-does : {rest lazy live : List ℕ} (b : ℕ) → b ≢ 2 → s .state .reg b ≡ s .state .reg 2 → Invariant L K (headers 3 (s .state .mem)) (s .state .reg 2) (s .state .reg 3) n rest lazy live (K (s .state .reg 2) ++ roots) → Attempt (nextBlock base b) s
     next-does {rest} {lazy} {live} b nb eb q =
         let j = heap-ok q in
         let w : ℕ = s .state .mem (8 * j .0 + 0) in
-        go (block-MOVL words s v 2 (j .0) 0 0 (j .2) (omega (arith, j .1)) refl (omega arith) 2) (by (j .0) (j .2) (omega (arith, j .1)) (ℕ-discrete (s .state .mem (8 * j .0 + 0)) 0))
+        attempt-go (block-MOVL words s v 2 (j .0) 0 0 (j .2) (omega (arith, j .1)) refl (omega arith) 2) (by (j .0) (j .2) (omega (arith, j .1)) (ℕ-discrete (s .state .mem (8 * j .0 + 0)) 0))
       where
         slow : (w i : ℕ) → s .state .reg 3 ≡ blockAddress i → i < N → headers 3 (s .state .mem) (s .state .reg 2) ≡ 0 → Dec (s .state .mem (8 * i + 0) ≡ 0)
             → Goal (if-zero (CMPI 3 0) refl (seq (leaf (MOV 3 2) refl) (leaf (ADDI 3 64) refl)) (seq (leaf (MOVIM 2 0 0) refl) (eraseFields 3))) (withRegister (withRegister (dropped (withRegister s 2 w)) 2 (s .state .reg 3)) 3 (s .state .mem (8 * i + 0)))
@@ -126,43 +138,59 @@ module _ (words : ℕ → ℕ) where
                 did = from-frontier z (rw is (header-at 3 (s .state .mem) i ∙ e)) refl (λ x y. rw is (bumped i (omega (arith, v .fits)) x (sym is ∙ y)));
                 fields = λ x y a b. refl;
               },
+              (suc i, omega arith, rw is (bumped i (omega (arith, v .fits)) i refl)),
               keeps-put 3 _ (λ l x. x .2) (keeps-put 3 _ (λ l x. x .2) (keeps-put 3 _ (λ l x. x .2) (keeps-put 2 _ (λ l x. x .1) (keeps-put 2 w (λ l x. x .1) keeps-refl)))),
             )))
         slow w i is lt z (no e) =
             if-no (register-compared words (withRegister (withRegister (dropped (withRegister s 2 w)) 2 (s .state .reg 3)) 3 (s .state .mem (8 * i + 0))) 3 0) (ne-eqb (s .state .mem (8 * i + 0)) 0 e)
             (recycled rest lazy w i is lt z e q)
 
-        by : (j : ℕ) → s .state .reg 2 ≡ blockAddress j → j < N → Dec (s .state .mem (8 * j + 0) ≡ 0) → Goal (if-zero (CMPI 2 0) refl (nextLazy base) (leaf (MOVIM b 0 0) refl)) (withRegister s 2 (s .state .mem (8 * j + 0)))
+        by : (j : ℕ) → s .state .reg 2 ≡ blockAddress j → j < N → Dec (s .state .mem (8 * j + 0) ≡ 0) → Attempt (if-zero (CMPI 2 0) refl (nextLazy base) (leaf (MOVIM b 0 0) refl)) (withRegister s 2 (s .state .mem (8 * j + 0)))
         by j is lt (yes e) =
             let f = free-ok lazy q in
             let w : ℕ = s .state .mem (8 * j + 0) in
-            if-yes (register-compared words (withRegister s 2 w) 2 0) (eq-eqb w 0 e)
-            (go (register-MOV words (dropped (withRegister s 2 w)) 2 3) (go (block-MOVL words (withRegister (dropped (withRegister s 2 w)) 2 (s .state .reg 3)) v 3 (f .0) 0 0 (f .2) (omega (arith, f .1)) refl (omega arith) 3)
-            (slow w (f .0) (f .2) (omega (arith, f .1)) (rw is (header-at 3 (s .state .mem) j ∙ e)) (ℕ-discrete (s .state .mem (8 * f .0 + 0)) 0))))
+            attempt-yes (register-compared words (withRegister s 2 w) 2 0) (eq-eqb w 0 e)
+            (attempt-go (register-MOV words (dropped (withRegister s 2 w)) 2 3) (lazily (decLt (f .0) N)))
+          where
+            lazily : Dec (free-ok lazy q .0 < N) → Attempts words (seq (leaf (MOVL 3 3 0) refl) (if-zero (CMPI 3 0) refl (seq (leaf (MOV 3 2) refl) (leaf (ADDI 3 64) refl)) (seq (leaf (MOVIM 2 0 0) refl) (eraseFields 3))))
+                (withRegister (dropped (withRegister s 2 (s .state .mem (8 * j + 0)))) 2 (s .state .reg 3)) (n < N → ⊥)
+                (λ r. Taken (s .state .mem) (s .state .reg 2) (s .state .reg 3) (r .state .mem) (r .state .reg 2) (r .state .reg 3) × Within N (r .state .reg 3) × Keeps Low s r)
+            lazily (yes l) =
+                let f = free-ok lazy q in
+                let w : ℕ = s .state .mem (8 * j + 0) in
+                does (go (block-MOVL words (withRegister (dropped (withRegister s 2 w)) 2 (s .state .reg 3)) v 3 (f .0) 0 0 (f .2) l refl (omega arith) 3)
+                (slow w (f .0) (f .2) l (rw is (header-at 3 (s .state .mem) j ∙ e)) (ℕ-discrete (s .state .mem (8 * f .0 + 0)) 0)))
+            lazily (no l) =
+                let f = free-ok lazy q in
+                let u : Config = withRegister (dropped (withRegister s 2 (s .state .mem (8 * j + 0)))) 2 (s .state .reg 3) in
+                faults u (rw (block-outside words u v 3 (f .0) (f .2) (omega arith) (omega (arith, f .1, v .fits)) 3)) (λ h. omega (arith, f .1))
         by j is lt (no e) =
             let w : ℕ = s .state .mem (8 * j + 0) in
             let h₁ : headers 3 (s .state .mem) (s .state .reg 2) ≡ w = rw is (header-at 3 (s .state .mem) j) in
-            if-no (register-compared words (withRegister s 2 w) 2 0) (ne-eqb w 0 e)
+            let f = free-ok lazy q in
+            does (if-no (register-compared words (withRegister s 2 w) 2 0) (ne-eqb w 0 e)
             (one (block-MOVIM words (dropped (withRegister s 2 w)) v b j 0 0 (upd-other (s .state .reg) 2 w b nb ∙ eb ∙ is) lt refl (omega arith) 0) (
               record {
                 did = subst (λ x. Acquire L K (headers 3 (s .state .mem)) (s .state .reg 2) (s .state .reg 3) (headers 3 (upd (s .state .mem) (8 * j + 0) 0)) x (s .state .reg 3)) h₁
                     (from-linear (λ z. e (sym h₁ ∙ z)) (rw is (head-same (s .state .mem) j 0)) (λ c d. head-off (s .state .mem) j 0 c (λ y. d (y ∙ sym is))));
                 fields = head-fields (s .state .mem) j 0;
               },
+              (f .0, omega (arith, f .1), f .2),
               keeps-put 2 w (λ l x. x .1) keeps-refl,
-            ))
+            )))
 
   -- a block taken into a location
-  pub acquire-does : {N n : ℕ} {rest lazy live : List ℕ} (roots : List ℕ) (s : Config) (l : ℕ) → Placed N s → n < N → length roots ≤ 1048559 → 4 ≤ l → l < 272
+  pub acquire-attempts : {N n : ℕ} {rest lazy live : List ℕ} (roots : List ℕ) (s : Config) (l : ℕ) → Placed N s → n ≤ N → length roots ≤ 1048559 → 4 ≤ l → l < 272
       → Invariant L (children (blockFields 3 (s .state .mem))) (headers 3 (s .state .mem)) (s .state .reg 2) (s .state .reg 3) n rest lazy live (children (blockFields 3 (s .state .mem)) (s .state .reg 2) ++ roots)
-      → Does words (acquireBlock base l) s (λ r. (held r l ≡ s .state .reg 2) × Taken (s .state .mem) (s .state .reg 2) (s .state .reg 3) (r .state .mem) (r .state .reg 2) (r .state .reg 3) × Keeps (λ x. Low x × (x ≢ l)) s r)
-  acquire-does {N} {n} {rest} {lazy} {live} roots s l v room few a b q =
-      then (take-does s l v a b) (λ r g.
+      → Attempts words (acquireBlock base l) s (n < N → ⊥)
+      (λ r. (held r l ≡ s .state .reg 2) × Taken (s .state .mem) (s .state .reg 2) (s .state .reg 3) (r .state .mem) (r .state .reg 2) (r .state .reg 3) × Within N (r .state .reg 3) × Keeps (λ x. Low x × (x ≢ l)) s r)
+  acquire-attempts {N} {n} {rest} {lazy} {live} roots s l v room few a b q =
+      attempt-then (does (take-does s l v a b)) (λ r g.
       let e : r .state .mem ≡ s .state .mem = g .2 in
       let e2 : r .state .reg 2 ≡ s .state .reg 2 = keeps-register (g .3) 2 (omega arith) (omega arith) in
       let e3 : r .state .reg 3 ≡ s .state .reg 3 = keeps-register (g .3) 3 (omega arith) (omega arith) in
       let q₁ : Invariant L (children (blockFields 3 (r .state .mem))) (headers 3 (r .state .mem)) (r .state .reg 2) (r .state .reg 3) n rest lazy live (children (blockFields 3 (r .state .mem)) (r .state .reg 2) ++ roots) = rw (e, e2, e3) q in
-      weaken (λ t d. (d .1 .kept l b (omega arith) ∙ g .0, rw (e, e2, e3) at (d .0), keeps-trans (keeps-sub (λ x y. (y .0 .0, y .1)) (g .3)) (keeps-sub (λ x y. y .0) (d .1))))
+      attempt-weaken (λ t d. (d .2 .kept l b (omega arith) ∙ g .0, rw (e, e2, e3) at (d .0), d .1, keeps-trans (keeps-sub (λ x y. (y .0 .0, y .1)) (g .3)) (keeps-sub (λ x y. y .0) (d .2))))
       (next-does roots r (placed-keeps (omega arith) (g .3) v) room few (blockRegister l) (low (ltb l 16) refl) (g .1 ∙ sym e2) q₁))
     where
       low : (c : Bool) → ltb l 16 ≡ c → cond c l TEMP ≢ 2

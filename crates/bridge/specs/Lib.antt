@@ -2,6 +2,7 @@
 pub mod Shown  -- the heap that a configuration's words show
 pub mod Variables  -- the variables of a context as cells
 pub mod Erasing  -- a pointer erased, and the children of HEAP's block
+pub mod Attempting  -- a run that may fault for a reason
 pub mod Acquiring  -- a block taken
 pub mod Storing  -- values into the fields of HEAP's block
 pub mod StoringBlock  -- a block written whole and taken

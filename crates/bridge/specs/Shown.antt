@@ -73,6 +73,3 @@ module _ (words : ℕ → ℕ) where
 -- the same run of another tree
 pub alike : {words : ℕ → ℕ} {t u : Tree} {c : Config} {Q : Config → Type 0} → evaluate words u c ≡ evaluate words t c → Does words t c Q → Does words u c Q
 alike e d = record { to = d .to; run = e ∙ d .run; post = d .post }
-
-pub regroup : {words : ℕ → ℕ} {t u v : Tree} {c : Config} {Q : Config → Type 0} → Does words (seq (seq t u) v) c Q → Does words (seq t (seq u v)) c Q
-regroup {words} {t} {u} {v} {c} d = record { to = d .to; run = grouped words t u v c ∙ d .run; post = d .post }

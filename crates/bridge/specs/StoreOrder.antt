@@ -16,7 +16,7 @@ use Rattle.layout.specs.Positions.{location}
 use Rattle.instructions.specs.Step.{Config}
 use Rattle.instructions.specs.View.{upd}
 use Rattle.memory.specs.Objects.{storeSome, storeObject}
-use Rattle.heap.specs.Blocks.{Cell, cell, pointers}
+use Rattle.heap.specs.Blocks.{Cell, cell, pointers, Memory}
 use Rattle.heap.specs.Invariant.{Represents}
 use Rattle.heap.specs.Orders.{store, Performs, stores-none, stores-some}
 use Rattle.heap.specs.Reachability.{ReachableCount}
@@ -25,11 +25,12 @@ use Rattle.heap.specs.Words.{blockFields}
 use Rattle.positions.specs.Held.{held, Keeps, Placed}
 use Rattle.positions.specs.HeldLemmas.{upd-other, register-same, spill-same, keeps-refl, keeps-trans, keeps-sub, keeps-put, keeps-spill, placed-keeps, location-grows, location-fits}
 use Rattle.positions.specs.RecordLemmas.{register-MOVI, spill-MOVIM}
-use Rattle.positions.specs.Runs.{Does, one, then, so}
-use Rattle.bridge.specs.Acquiring.{Low}
+use Rattle.positions.specs.Runs.{Does, one, so}
+use Rattle.bridge.specs.Acquiring.{Low, Within, free-ok}
+use Rattle.bridge.specs.Attempting.{Attempts, does, attempt-then, attempt-weaken, surely}
 use Rattle.bridge.specs.Shown.{L, heapOf, memory-is}
 use Rattle.bridge.specs.Sizes.{objectSizes}
-use Rattle.bridge.specs.StoringObject.{store-does}
+use Rattle.bridge.specs.StoringObject.{ObjectStored, store-attempts}
 use Rattle.bridge.specs.Variables.{variable, variables, variables-snoc, variables-append, variables-length, variables-kept, variables-kinds}
 
 -- what a store of n variables from r on leaves: with every tag the order is performed, and what is below r stays
@@ -54,34 +55,49 @@ module _ (words : ℕ → ℕ) where
           one (spill-MOVIM words s v l h b 0) (spill-same (s .state .reg) (s .state .stk) l 0 h, refl, keeps-spill l 0 h b (λ y d. d) keeps-refl)
 
   module _ {N : ℕ} (ext : ℕ → Bool) (s : Config) (r : ℕ) (en : Placed N s) where
-    store-none : r ≤ 133 → Does words (storeObject base ext r 0) s (StoredFrom ext s r 0)
+    store-none : r ≤ 133 → Does words (storeObject base ext r 0) s (λ u. StoredFrom ext s r 0 u × (heapOf u ≡ heapOf s))
     store-none h =
         let f = location-fits (2 * r) (omega arith) in
         so (zero-does s (location (2 * r)) en (f .0) (f .1)) (λ u x.
         let z : r + 0 ≡ r = omega arith in
-        ((λ tag. rw (x .0, x .1, z) (stores-none (variables ext s 0 r) tag)), keeps-sub (λ l y. omega (arith, y .1)) (x .2)))
+        (((λ tag. rw (x .0, x .1, z) (stores-none (variables ext s 0 r) tag)), keeps-sub (λ l y. omega (arith, y .1)) (x .2)), x .1))
 
-    store-some : {m : ℕ} {values : Values} (k : ℕ) → r + suc k ≤ 133
-        → ((count : ℕ) → ReachableCount (blockFields 3 (s .state .mem)) (pointers (variables ext s 0 (r + suc k))) count → count + length (objectSizes (suc k)) < N) → m < N
-        → Represents objectSizes L (heapOf s) m (variables ext s 0 (r + suc k)) values → Does words (storeSome base ext r (suc k)) s (StoredFrom ext s r (suc k))
-    store-some k h room lt rep =
-        so (store-does words ext s r (suc k) en h (omega arith) (rep .consistent) lt room) (λ u w. (
-          (λ tag.
-              let vs : variables ext s 0 (r + suc k) ≡ variables ext s 0 r ++ concat (w .head ∷ w .others)
-              = variables-append ext s 0 r (suc k) ∙ ap (λ (x : ℕ). variables ext s 0 r ++ variables ext s x (suc k)) (zero-add r) ∙ ap (λ (x : List Cell). variables ext s 0 r ++ x) (sym (w .cells)) in
-              let n : length (concat (w .head ∷ w .others)) ≡ suc k = ap length (w .cells) ∙ variables-length ext s r (suc k) in
-              let p : Performs objectSizes L (heapOf s) (store (length (concat (w .head ∷ w .others))) tag) (variables ext s 0 r ++ concat (w .head ∷ w .others)) (heapOf u) (variables ext s 0 r ++ (cell (held u (location (2 * r))) tag ∷ []))
-              = stores-some (variables ext s 0 r) (w .head) (w .others) (heapOf u) (held u (location (2 * r))) tag (w .shapes ∙ ap objectSizes (sym n)) (w .did) in
-              rw vs (rw n at p)),
-          w .keeps,
+    -- the room that a store wants: for the blocks reachable before it and those that it acquires
+    abbrev Roomy : ℕ → Type 0
+    Roomy n = (count : ℕ) → ReachableCount (blockFields 3 (s .state .mem)) (pointers (variables ext s 0 (r + n))) count → count + length (objectSizes n) < N
+
+    store-some : {m : ℕ} {values : Values} (k : ℕ) → r + suc k ≤ 133 → m ≤ N
+        → Represents objectSizes L (heapOf s) m (variables ext s 0 (r + suc k)) values
+        → Attempts words (storeSome base ext r (suc k)) s (Roomy (suc k) → m < N → ⊥) (λ u. StoredFrom ext s r (suc k) u × Within N (u .state .reg 3))
+    store-some k h le rep =
+        attempt-weaken (λ u x. (
+          let w : ObjectStored ext (heapOf s) s r (suc k) u = x .0 in (
+            (λ tag.
+                let vs : variables ext s 0 (r + suc k) ≡ variables ext s 0 r ++ concat (w .head ∷ w .others)
+                = variables-append ext s 0 r (suc k) ∙ ap (λ (x : ℕ). variables ext s 0 r ++ variables ext s x (suc k)) (zero-add r) ∙ ap (λ (x : List Cell). variables ext s 0 r ++ x) (sym (w .cells)) in
+                let n : length (concat (w .head ∷ w .others)) ≡ suc k = ap length (w .cells) ∙ variables-length ext s r (suc k) in
+                let p : Performs objectSizes L (heapOf s) (store (length (concat (w .head ∷ w .others))) tag) (variables ext s 0 r ++ concat (w .head ∷ w .others)) (heapOf u) (variables ext s 0 r ++ (cell (held u (location (2 * r))) tag ∷ []))
+                = stores-some (variables ext s 0 r) (w .head) (w .others) (heapOf u) (held u (location (2 * r))) tag (w .shapes ∙ ap objectSizes (sym n)) (w .did) in
+                rw vs (rw n at p)),
+            w .keeps,
+          ),
+          x .1,
         ))
+        (store-attempts words ext s r (suc k) en h (omega arith) (rep .consistent) le)
 
     -- n variables from r on stored, whatever registers and spills they have
+    pub store-tries : {m : ℕ} {values : Values} (n : ℕ) → r + n ≤ 133 → m ≤ N
+        → Represents objectSizes L (heapOf s) m (variables ext s 0 (r + n)) values
+        → Attempts words (storeObject base ext r n) s (Roomy n → m < N → ⊥) (λ u. StoredFrom ext s r n u × Within N (u .state .reg 3))
+    store-tries zero h le rep =
+        let f = free-ok (rep .consistent .lazy) (rep .consistent .invariant) in
+        does (so (store-none (omega arith)) (λ u x. (x .0, (f .0, omega (arith, f .1), ap (λ (M : Memory). M .lazy-head) (x .1) ∙ f .2))))
+    store-tries (suc k) h le rep = rw (ne-eqb (suc k) 0 (omega arith)) (store-some k h le rep)
+
     pub store-performs : {m : ℕ} {values : Values} (n : ℕ) → r + n ≤ 133
         → ((count : ℕ) → ReachableCount (blockFields 3 (s .state .mem)) (pointers (variables ext s 0 (r + n))) count → count + length (objectSizes n) < N) → m < N
         → Represents objectSizes L (heapOf s) m (variables ext s 0 (r + n)) values → Does words (storeObject base ext r n) s (StoredFrom ext s r n)
-    store-performs zero h room lt rep = store-none (omega arith)
-    store-performs (suc k) h room lt rep = rw (ne-eqb (suc k) 0 (omega arith)) (store-some k h room lt rep)
+    store-performs n h room lt rep = so (surely (λ o. o room lt) (store-tries n h (omega arith) rep)) (λ u x. x .0)
 
   -- the tag written, the variables are those before and the new one
   tagged : (ext ext′ : ℕ → Bool) (s u z : Config) (r tag : ℕ) → r < 133 → ((x : ℕ) → x < r → ext′ x ≡ ext x) → ext′ r ≡ false → Keeps (λ x. Low x × (x < location (2 * r))) s u
@@ -99,15 +115,16 @@ module _ (words : ℕ → ℕ) where
       variables-snoc ext′ z 0 r ∙ rw (front, zero-add, last)
 
   -- the store order's code: the variables stored, and then a tree that writes the tag
-  pub store-order : {N m : ℕ} {values : Values} (ext ext′ : ℕ → Bool) (s : Config) (r n tag : ℕ) (t : Tree) → Placed N s → r + n ≤ 133 → r < 133 → ((x : ℕ) → x < r → ext′ x ≡ ext x) → ext′ r ≡ false
+  pub store-order-tries : {N m : ℕ} {values : Values} (ext ext′ : ℕ → Bool) (s : Config) (r n tag : ℕ) (t : Tree) → Placed N s → r + n ≤ 133 → r < 133 → ((x : ℕ) → x < r → ext′ x ≡ ext x) → ext′ r ≡ false
       → ((u : Config) → Placed N u → Does words t u (λ z. (held z (location (2 * r + 1)) ≡ tag) × (heapOf z ≡ heapOf u) × Keeps (λ x. (x ≢ 1) × (x ≢ location (2 * r + 1))) u z))
-      → ((count : ℕ) → ReachableCount (blockFields 3 (s .state .mem)) (pointers (variables ext s 0 (r + n))) count → count + length (objectSizes n) < N) → m < N
-      → Represents objectSizes L (heapOf s) m (variables ext s 0 (r + n)) values
-      → Does words (seq (storeObject base ext r n) t) s
-      (λ z. Performs objectSizes L (heapOf s) (store n tag) (variables ext s 0 (r + n)) (heapOf z) (variables ext′ z 0 (suc r)) × Keeps (λ x. Low x × (x < location (2 * r))) s z)
-  store-order ext ext′ s r n tag t en h r1 agree linked does room lt rep =
-      then (store-performs ext s r en n h room lt rep) (λ u w.
-      so (does u (placed-keeps (omega (arith, location-fits (2 * r) (omega arith) .0)) (w .1) en)) (λ z x. (
-        rw (x .1, tagged ext ext′ s u z r tag r1 agree linked (w .1) (x .0) (x .2)) (w .0 tag),
-        keeps-trans (w .1) (keeps-sub (λ l y. (omega arith, omega (arith, y .1, location-grows (2 * r) (2 * r + 1) (omega arith) .1))) (x .2)),
-      )))
+      → m ≤ N → Represents objectSizes L (heapOf s) m (variables ext s 0 (r + n)) values
+      → Attempts words (seq (storeObject base ext r n) t) s
+      (((count : ℕ) → ReachableCount (blockFields 3 (s .state .mem)) (pointers (variables ext s 0 (r + n))) count → count + length (objectSizes n) < N) → m < N → ⊥)
+      (λ z. Performs objectSizes L (heapOf s) (store n tag) (variables ext s 0 (r + n)) (heapOf z) (variables ext′ z 0 (suc r)) × Within N (heapOf z .lazy-head) × Keeps (λ x. Low x × (x < location (2 * r))) s z)
+  store-order-tries {N} ext ext′ s r n tag t en h r1 agree linked writes le rep =
+      attempt-then (store-tries ext s r en n h le rep) (λ u w.
+      does (so (writes u (placed-keeps (omega (arith, location-fits (2 * r) (omega arith) .0)) (w .0 .1) en)) (λ z x. (
+        rw (x .1, tagged ext ext′ s u z r tag r1 agree linked (w .0 .1) (x .0) (x .2)) (w .0 .0 tag),
+        (w .1 .0, w .1 .1, ap (λ (M : Memory). M .lazy-head) (x .1) ∙ w .1 .2),
+        keeps-trans (w .0 .1) (keeps-sub (λ l y. (omega arith, omega (arith, y .1, location-grows (2 * r) (2 * r + 1) (omega arith) .1))) (x .2)),
+      ))))

@@ -23,8 +23,9 @@ use Rattle.heap.specs.WordLemmas.{fields-at, cells-append, header-all, fields-a
 use Rattle.heap.specs.Words.{headers, cellsFrom, blockFields}
 use Rattle.positions.specs.Held.{held, Keeps, Placed, blockAddress}
 use Rattle.positions.specs.HeldLemmas.{upd-same, upd-other, keeps-trans, keeps-sub, keeps-register, placed-keeps}
-use Rattle.positions.specs.Runs.{Does, then, weaken}
-use Rattle.bridge.specs.Acquiring.{Low, acquire-does}
+use Rattle.positions.specs.Runs.{Does}
+use Rattle.bridge.specs.Attempting.{Attempts, does, attempt-then, attempt-weaken}
+use Rattle.bridge.specs.Acquiring.{Low, Within, acquire-attempts}
 use Rattle.bridge.specs.Shown.{L, heapOf}
 use Rattle.bridge.specs.Storing.{Filled}
 use Rattle.bridge.specs.Variables.{variables}
@@ -81,24 +82,26 @@ module _ (ext : ℕ → Bool) where
       }
 
 module _ (words : ℕ → ℕ) where
-  pub store-block : {N n : ℕ} {i : ℕ → ℕ} {roots₀ : List ℕ} {t : Tree} (roots : List ℕ) (s : Config) (l : ℕ) (c : List Cell) → Placed N s → n < N → length roots ≤ 1048559 → 4 ≤ l → l < 272
+  pub store-block : {N n : ℕ} {i : ℕ → ℕ} {roots₀ : List ℕ} {t : Tree} (roots : List ℕ) (s : Config) (l : ℕ) (c : List Cell) → Placed N s → n ≤ N → length roots ≤ 1048559 → 4 ≤ l → l < 272
       → Consistent L (heapOf s) i n roots₀ → ((b : ℕ) → b ≢ 0 → occ b (pointers c) + occ b roots ≡ occ b roots₀)
       → Does words t s (λ r. BlockWritten (s .state .reg 2) (s .state .mem) c (r .state .mem) × Keeps (λ x. x ≢ 1) s r)
-      → Does words (seq t (acquireBlock base l)) s (λ r. (unused : List Cell) × NoPointers unused × StoreBlock L (heapOf s) (unused ++ c) (heapOf r) × (held r l ≡ s .state .reg 2) × Keeps (λ x. Low x × (x ≢ l)) s r)
+      → Attempts words (seq t (acquireBlock base l)) s (n < N → ⊥)
+      (λ r. (unused : List Cell) × NoPointers unused × StoreBlock L (heapOf s) (unused ++ c) (heapOf r) × (held r l ≡ s .state .reg 2) × Within N (r .state .reg 3) × Keeps (λ x. Low x × (x ≢ l)) s r)
   store-block {n = n} {roots₀ = roots₀} roots s l c v room few a b g e d =
-      then d (λ r f.
+      attempt-then (does d) (λ r f.
       let y : BlockWritten (s .state .reg 2) (s .state .mem) c (r .state .mem) = f .0 in
       let e2 : r .state .reg 2 ≡ s .state .reg 2 = keeps-register (f .1) 2 (omega arith) (omega arith) in
       let e3 : r .state .reg 3 ≡ s .state .reg 3 = keeps-register (f .1) 3 (omega arith) (omega arith) in
       let q : Invariant L (children (blockFields 3 (r .state .mem))) (headers 3 (s .state .mem)) (s .state .reg 2) (s .state .reg 3) n (g .linear-rest) (g .lazy) (g .live) (children (blockFields 3 (r .state .mem)) (s .state .reg 2) ++ roots)
       = same-roots (λ x nz. rw (y .written) (omega (arith, occ-append x (pointers (y .unused ++ c)) roots, occ-pointers x (y .unused) c, y .no-pointers x nz, e x nz))) (write-head (children (blockFields 3 (r .state .mem))) (λ x ne. ap pointers (y .elsewhere x ne)) (g .invariant)) in
       let q₁ : Invariant L (children (blockFields 3 (r .state .mem))) (headers 3 (r .state .mem)) (r .state .reg 2) (r .state .reg 3) n (g .linear-rest) (g .lazy) (g .live) (children (blockFields 3 (r .state .mem)) (r .state .reg 2) ++ roots) = rw (y .heads, e2, e3) q in
-      weaken (λ u k.
+      attempt-weaken (λ u k.
       let ft : blockFields 3 (u .state .mem) ≡ blockFields 3 (r .state .mem) = fields-all 3 (r .state .mem) (u .state .mem) (k .1 .fields) in (
         y .unused,
         y .no-pointers,
         record { written = rw ft (y .written); elsewhere = λ x ne. rw ft (y .elsewhere x ne); acquired = rw (← ft, y .heads, e2, e3) at (k .1 .did) },
         k .0 ∙ e2,
-        keeps-trans (keeps-sub (λ x z. z .0 .0) (f .1)) (k .2),
+        k .2,
+        keeps-trans (keeps-sub (λ x z. z .0 .0) (f .1)) (k .3),
       ))
-      (acquire-does words roots r l (placed-keeps (omega arith) (f .1) v) room few a b q₁))
+      (acquire-attempts words roots r l (placed-keeps (omega arith) (f .1) v) room few a b q₁))

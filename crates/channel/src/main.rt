@@ -247,7 +247,7 @@ fn show_variables(channel: Channel, text: &mut [u8]) {
 fn show_blocks(channel: Channel, heap: &[u64]) {
     let state = channel.state;
     let registers = state.registers;
-    let blocks = playing::blocks::count_blocks(&registers, heap);
+    let blocks = chains::count_blocks(&registers, heap);
     let mut line = [0u8; 256];
     let size = reporting::put_blocks(
         &mut line,

@@ -16,7 +16,7 @@ use Rattle.records.specs.Contexts.{checkedContext, extAt}
 use Rattle.heap.specs.Values.{Value, integer, object, Values, nil, cons, countOf, joined, firstOf, restOf, valueAt, copies, KindsFrom}
 use Rattle.heap.specs.Orders.{listOf}
 use Rattle.orders.specs.Writes.{made, madeAll, wanted, kindAt, contextAfter, present, asked}
-use Rattle.orders.specs.Plain.{integerOf, result, plainly, AsStored}
+use Rattle.orders.specs.Plain.{integerOf, result, plainly, AsStored, OwedKinds}
 use Rattle.contexts.specs.Bindings.{good-length, good-append, good-take, good-made, good-made-all}
 use Rattle.contexts.specs.Kinds.{ext-left, ext-right, ext-take, isExt, ext-made, ext-made-all, kind-at}
 use Rattle.contexts.specs.ValueKinds.{count-joined, count-first, count-copies, isInteger, kinds-at, kinds-joined, kinds-first, kinds-copies, kinds-cons, kinds-moved}
@@ -54,16 +54,6 @@ pub context-one : (kind : Kind) (place : ℕ) (v : Value) → isExt kind ≡ isI
 context-one kind place v e = (good-made kind place, kinds-cons (extAt (made kind place)) 0 v nil (ext-made kind place ∙ e) tt)
 
 -- ---- each order
-
--- what the user owes of an order's kinds: a load names those that its object was stored with
-abbrev pub OwedKinds : List ℕ → Order → Values → Type 0
-OwedKinds bindings (Put value) vs = Unit {0}
-OwedKinds bindings (Compute operation a b) vs = Unit {0}
-OwedKinds bindings (Copy a n) vs = Unit {0}
-OwedKinds bindings Drop vs = Unit {0}
-OwedKinds bindings (Store n tag) vs = Unit {0}
-OwedKinds bindings (Load n) vs = AsStored bindings n (valueAt (countOf vs - 1) vs)
-OwedKinds bindings (Print newline a) vs = Unit {0}
 
 as-stored : (bindings : List ℕ) (n : ℕ) (v : Value) → AsStored bindings n v → (countOf (listOf v) ≡ n) × KindsFrom (extAt bindings) 0 (listOf v)
 as-stored bindings n (integer w) a = absurd a

@@ -1,5 +1,5 @@
 -- What the crate promises: after every list of orders from the fresh heap, the heap is sound in document 01's sense, each variable holds its value,
--- and the frontier is at most one past the most blocks that the variables reached after any one order (document 02, Job 7).
+-- and the frontier is one past the most blocks that the variables led to at once.
 -- The number of fields in a block, the blocks' addresses and the chunk sizes of an object are any.
 use mathlib.Core.Path.{_≡_}
 use mathlib.Core.Logic.{_≢_}
@@ -64,13 +64,22 @@ pub record HeapAfter (sizes : ℕ → List ℕ) (L : Layout) (past : List State)
 unfoldable pub AbstractHeapStaysSound : Type 0
 AbstractHeapStaysSound = (sizes : ℕ → List ℕ) (L : Layout) (past : List State) (now : State) → [] ≡ sizes 0 → Run sizes L past now → HeapAfter sizes L past now
 
--- the variables lead to at most that many blocks
-abbrev pub ReachesAtMost : ℕ → State → Type 0
-ReachesAtMost most s = (count : ℕ) → ReachableCount (s .memory .fields) (pointers (s .variables)) count → count ≤ most
+-- the variables lead to that many blocks, and to at most that many
+abbrev pub Reaches : ℕ → State → Type 0
+Reaches count s = ReachableCount (s .memory .fields) (pointers (s .variables)) count
 
-unfoldable pub FrontierWithinPeak : Type 0
-FrontierWithinPeak = (sizes : ℕ → List ℕ) (L : Layout) (past : List State) (now : State) (frontier peak : ℕ) → [] ≡ sizes 0 → Run sizes L past now
-    → SoundState L frontier now → Every (ReachesAtMost peak) (now ∷ past) → frontier ≤ suc peak
+abbrev pub ReachesAtMost : ℕ → State → Type 0
+ReachesAtMost most s = (count : ℕ) → Reaches count s → count ≤ most
+
+-- the most blocks that the variables lead to in any of the states
+pub record Peak (peak : ℕ) (states : List State) : Type 0 where
+  pub within : Every (ReachesAtMost peak) states
+  pub met : Some (Reaches peak) states
+
+-- the frontier is one past that peak
+unfoldable pub AbstractFrontierIsPeak : Type 0
+AbstractFrontierIsPeak = (sizes : ℕ → List ℕ) (L : Layout) (past : List State) (now : State) (frontier : ℕ) → [] ≡ sizes 0 → Run sizes L past now
+    → SoundState L frontier now → (peak : ℕ) × Peak peak (now ∷ past) × (frontier ≡ suc peak)
 
 -- Runs are there to speak of: in any layout, some run of three orders ends with an integer that was put, stored and loaded.
 unfoldable pub RunsExist : Type 0

@@ -99,7 +99,7 @@ module _ {sizes : ℕ → List ℕ} {L : Layout} {M : Memory} {m : ℕ} {values 
   }
 
 -- the roots are those stored and the rest
-stored-roots : (xs ys : List Cell) (b : ℕ) → occ b (pointers (xs ++ ys)) ≡ occ b (pointers ys) + occ b (pointers xs)
+pub stored-roots : (xs ys : List Cell) (b : ℕ) → occ b (pointers (xs ++ ys)) ≡ occ b (pointers ys) + occ b (pointers xs)
 stored-roots xs ys b = omega (arith, occ-pointers b xs ys)
 
 what-is-stored : {sizes : ℕ → List ℕ} {L : Layout} {M M′ : Memory} {m : ℕ} {values : Values} (xs c : List Cell) (chunks : List (List Cell)) (p : ℕ) → StoreObject L M c chunks M′ p

@@ -73,3 +73,13 @@ reachable-count-le p q = omega (arith, p .size, q .size, length-le (p .list) (q 
 
 pub reachable-count-unique : {fields : ℕ → List Cell} {roots : List ℕ} {c d : ℕ} → ReachableCount fields roots c → ReachableCount fields roots d → c ≡ d
 reachable-count-unique p q = omega (arith, reachable-count-le p q, reachable-count-le q p)
+
+-- the same blocks from roots in another sequence
+pub reachable-count-same : {fields : ℕ → List Cell} {roots roots′ : List ℕ} {c : ℕ} → ((b : ℕ) → occ b roots′ ≡ occ b roots) → ReachableCount fields roots c → ReachableCount fields roots′ c
+reachable-count-same e p = record {
+  list = p .list;
+  size = p .size;
+  once = p .once;
+  listed = λ b m. reachable-through (λ x nz k. start nz (omega (arith, e x))) (p .listed b m);
+  complete = λ b r. p .complete b (reachable-through (λ x nz k. start nz (omega (arith, e x))) r);
+}

@@ -1,5 +1,5 @@
--- The number of blocks that the roots lead to exists in every consistent heap, and a store adds no more to it than its own blocks.
--- So the frontier after a store is below what the blocks reachable before it and those it acquires make room for (document 02, Job 7).
+-- The number of blocks that the roots lead to exists in every consistent heap, and a store adds just its own blocks to it.
+-- So the frontier after a store is below what the blocks reachable before it and those it acquires make room for.
 use mathlib.Core.Path.{_≡_, refl, ap}
 use mathlib.Core.Logic.{_≢_}
 use mathlib.Core.List.{List, [], _∷_, _++_}
@@ -16,7 +16,8 @@ use Rattle.heap.specs.Invariant.{NewestFirst, Consistent, spare, Stored}
 use Rattle.heap.specs.CountingLemmas.{same-self, same-other, split, occ-append, occ-pointers, refs-member, refs-find, length-le}
 use Rattle.heap.specs.BlockLemmas.{block-once, block-nonzero, unnamed-outside}
 use Rattle.heap.specs.ConsistencyLemmas.{reachable-held}
-use Rattle.heap.specs.StoreLemmas.{store-object}
+use Rattle.heap.specs.OperationLemmas.{head-free}
+use Rattle.heap.specs.StoreLemmas.{not-head, still-reachable, store-object}
 use Rattle.heap.specs.SoundLemmas.{full-heap}
 
 module _ {L : Layout} {M : Memory} {linked : ℕ → ℕ} {n : ℕ} {roots : List ℕ} (g : Consistent L M linked n roots) where
@@ -69,7 +70,8 @@ module _ {L : Layout} {M : Memory} {linked : ℕ → ℕ} {n : ℕ} {roots : Lis
   pub reachable-counted : (count : ℕ) × ReachableCount (M .fields) roots count
   reachable-counted = count-led [] (g .live) [] (λ b. omega arith) (g .invariant .newest-first) (λ b. omega arith) (λ b m. absurd (m refl)) (λ b m r. absurd (m refl))
 
-module _ {L : Layout} {M M′ : Memory} {body : List Cell} (before roots : List ℕ) (taken : (b : ℕ) → b ≢ 0 → occ b (pointers body) + occ b roots ≡ occ b before) (p : StoreBlock L M body M′) where
+module _ {L : Layout} {M M′ : Memory} {linked : ℕ → ℕ} {n : ℕ} {body : List Cell} (before roots : List ℕ) (taken : (b : ℕ) → b ≢ 0 → occ b (pointers body) + occ b roots ≡ occ b before) (p : StoreBlock L M body M′)
+    (g : Consistent L M linked n before) where
   -- what is led to after a block is stored was led to before, but for the block itself
   led-before : {b : ℕ} → ReachableFrom (M′ .fields) (M .linear-head ∷ roots) b → b ≢ M .linear-head → ReachableFrom (M .fields) before b
   led-before {b} (start nz m) d = start nz (omega (arith, taken b nz, same-other d))
@@ -79,29 +81,45 @@ module _ {L : Layout} {M M′ : Memory} {body : List Cell} (before roots : List 
       by (yes q) k = start nz (omega (arith, taken b nz, ap (λ (x : ℕ). occ b (children (M′ .fields) x)) q, ap (λ (x : List Cell). occ b (pointers x)) (p .written)))
       by (no n) k = follow y (k n) nz (rw (p .elsewhere y n) at m)
 
-  block-count : {c c′ : ℕ} → ReachableCount (M .fields) before c → ReachableCount (M′ .fields) (M .linear-head ∷ roots) c′ → c′ ≤ suc c
+  -- the block is counted once more
+  block-count : {c c′ : ℕ} → ReachableCount (M .fields) before c → ReachableCount (M′ .fields) (M .linear-head ∷ roots) c′ → c′ ≡ suc c
   block-count r r′ =
-      omega (arith, r .size, r′ .size, length-le (r′ .list) (M .linear-head ∷ r .list) (split (M .linear-head) (omega (arith, r′ .once (M .linear-head), same-self (M .linear-head))) (λ b d. by b d (ℕ-discrete (occ b (r′ .list)) 0))))
+      omega (
+        arith,
+        r .size,
+        r′ .size,
+        length-le (r′ .list) (M .linear-head ∷ r .list) (split (M .linear-head) (omega (arith, r′ .once (M .linear-head), same-self (M .linear-head))) (λ b d. no-more b d (ℕ-discrete (occ b (r′ .list)) 0))),
+        length-le (M .linear-head ∷ r .list) (r′ .list) (split (M .linear-head) (head (ℕ-discrete (occ (M .linear-head) (r .list)) 0)) (λ b d. no-less b d (ℕ-discrete (occ b (r .list)) 0))),
+      )
     where
-      by : (b : ℕ) → b ≢ M .linear-head → Dec (occ b (r′ .list) ≡ 0) → occ b (r′ .list) ≤ occ b (M .linear-head ∷ r .list)
-      by b d (yes z) = omega arith
-      by b d (no z) = omega (arith, r′ .once b, r .complete b (led-before (r′ .listed b z) d))
+      no-more : (b : ℕ) → b ≢ M .linear-head → Dec (occ b (r′ .list) ≡ 0) → occ b (r′ .list) ≤ occ b (M .linear-head ∷ r .list)
+      no-more b d (yes z) = omega arith
+      no-more b d (no z) = omega (arith, r′ .once b, r .complete b (led-before (r′ .listed b z) d))
+
+      head : Dec (occ (M .linear-head) (r .list) ≡ 0) → occ (M .linear-head) (M .linear-head ∷ r .list) ≤ occ (M .linear-head) (r′ .list)
+      head (yes z) = let s = same-self (M .linear-head) in omega (arith, r′ .complete (M .linear-head) (start (head-free (g .invariant) .4) (omega arith)))
+      head (no z) = absurd (not-head roots [] (λ b. omega arith) taken p g (r .listed (M .linear-head) z) refl)
+
+      no-less : (b : ℕ) → b ≢ M .linear-head → Dec (occ b (r .list) ≡ 0) → occ b (M .linear-head ∷ r .list) ≤ occ b (r′ .list)
+      no-less b d (yes z) = omega (arith, same-other d)
+      no-less b d (no z) = omega (arith, same-other d, r .once b, r′ .complete b (still-reachable roots [] (λ b. omega arith) taken p g (r .listed b z)))
 
 pub store-count : {L : Layout} {M : Memory} {linked : ℕ → ℕ} {n k k′ : ℕ} {before : List ℕ} (M′ : Memory) (p : ℕ) (roots : List ℕ) (c : List Cell) (chunks : List (List Cell)) → StoreObject L M c chunks M′ p
     → ((b : ℕ) → occ b before ≡ occ b (pointers (concat (c ∷ chunks))) + occ b roots) → Consistent L M linked n before
-    → ReachableCount (M .fields) before k → ReachableCount (M′ .fields) (p ∷ roots) k′ → k′ ≤ k + length (c ∷ chunks)
+    → ReachableCount (M .fields) before k → ReachableCount (M′ .fields) (p ∷ roots) k′ → k′ ≡ k + length (c ∷ chunks)
 store-count {M} {k′} {before} M′ p roots c [] s e g r r′ =
     let r₂ : ReachableCount (M′ .fields) (M .linear-head ∷ roots) k′ = rw (s .0) r′ in
-    omega (arith, block-count before roots (λ b nz. omega (arith, e b, occ-pointers b c [], occ-pointers b (s .1) c, s .2 b nz)) (s .3) r r₂)
+    omega (arith, block-count before roots (λ b nz. omega (arith, e b, occ-pointers b c [], occ-pointers b (s .1) c, s .2 b nz)) (s .3) g r r₂)
 store-count {k′} {before} M′ p roots c (d ∷ chunks) s e g r r′ =
     let q = s .4 .fst in
     let e₁ : (b : ℕ) → occ b before ≡ occ b (pointers (concat (d ∷ chunks))) + occ b (pointers c ++ roots) = λ b. omega (arith, e b, occ-pointers b c (concat (d ∷ chunks)), occ-append b (pointers c) roots) in
-    let r₁ = reachable-counted (store-object (pointers c ++ roots) 1 (omega arith) d chunks (s .5) e₁ g .outcome .consistent) in
+    let g₁ = store-object (pointers c ++ roots) 1 (omega arith) d chunks (s .5) e₁ g .outcome .consistent in
+    let r₁ = reachable-counted g₁ in
     let r₂ : ReachableCount (M′ .fields) (s .0 .linear-head ∷ roots) k′ = rw (s .1) r′ in
     omega (
       arith,
       store-count (s .0) q (pointers c ++ roots) d chunks (s .5) e₁ g r (r₁ .1),
-      block-count (q ∷ (pointers c ++ roots)) roots (λ b nz. omega (arith, occ-pointers b (s .2) (c ++ (s .4 ∷ [])), occ-pointers b c (s .4 ∷ []), s .3 b nz, occ-append b (pointers c) roots)) (s .6) (r₁ .1) r₂,
+      block-count (q ∷ (pointers c ++ roots)) roots (λ b nz. omega (arith, occ-pointers b (s .2) (c ++ (s .4 ∷ [])), occ-pointers b c (s .4 ∷ []), s .3 b nz, occ-append b (pointers c) roots)) (s .6) g₁ (r₁ .1) r₂,
     )
 
 -- room: the frontier after the store stays below a bound that it and the store's count stay below before

@@ -61,10 +61,10 @@ module _ {L : Layout} {M M′ : Memory} {linked : ℕ → ℕ} {n : ℕ} {before
         linked-live = split (M .linear-head) (omega (arith, head-only (M .linear-head), head-before .0, head-before .2)) (λ b d. omega (arith, head-only b, same-other d));
       }
 
-  not-head : {b : ℕ} → ReachableFrom (M .fields) before b → b ≢ M .linear-head
+  pub not-head : {b : ℕ} → ReachableFrom (M .fields) before b → b ≢ M .linear-head
   not-head {b} r = differ-by-occ b (M .linear-head) (g .live) (omega (arith, reachable-held g r .is-live, head-free (g .invariant) .1))
 
-  still-reachable : {b : ℕ} → ReachableFrom (M .fields) before b → ReachableFrom (M′ .fields) (M .linear-head ∷ roots) b
+  pub still-reachable : {b : ℕ} → ReachableFrom (M .fields) before b → ReachableFrom (M′ .fields) (M .linear-head ∷ roots) b
   still-reachable {b} (start nz m) = by (ℕ-discrete (occ b roots) 0)
     where
       by : Dec (occ b roots ≡ 0) → ReachableFrom (M′ .fields) (M .linear-head ∷ roots) b

@@ -50,3 +50,23 @@ plainly (Print newline a) vs = vs
 abbrev pub AsStored : List ℕ → ℕ → Value → Type 0
 AsStored bindings n (integer w) = ⊥
 AsStored bindings n (object tag ws) = (countOf ws ≡ n) × KindsFrom (extAt bindings) 0 ws
+
+-- what the user owes an order of its kinds: a load names those that its object was stored with
+abbrev pub OwedKinds : List ℕ → Order → Values → Type 0
+OwedKinds bindings (Put value) vs = Unit {0}
+OwedKinds bindings (Compute operation a b) vs = Unit {0}
+OwedKinds bindings (Copy a n) vs = Unit {0}
+OwedKinds bindings Drop vs = Unit {0}
+OwedKinds bindings (Store n tag) vs = Unit {0}
+OwedKinds bindings (Load n) vs = AsStored bindings n (valueAt (countOf vs - 1) vs)
+OwedKinds bindings (Print newline a) vs = Unit {0}
+
+-- and of its result: no division fault
+abbrev pub OwedResult : Order → Values → Type 0
+OwedResult (Put value) vs = Unit {0}
+OwedResult (Compute operation a b) vs = resultDefined operation (integerOf (valueAt a vs)) (integerOf (valueAt b vs)) ≡ true
+OwedResult (Copy a n) vs = Unit {0}
+OwedResult Drop vs = Unit {0}
+OwedResult (Store n tag) vs = Unit {0}
+OwedResult (Load n) vs = Unit {0}
+OwedResult (Print newline a) vs = Unit {0}

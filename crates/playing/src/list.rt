@@ -18,7 +18,7 @@ fn least(a: usize, b: usize) -> usize
 }
 
 // How many bytes of bindings follow an order.
-fn bytes_after(order: OrderRead) -> usize
+pub fn bytes_after(order: OrderRead) -> usize
     ensures { λ r. ⌜ r ≡ bytesAfter order ⌝ }
 {
     match order {

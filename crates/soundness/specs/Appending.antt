@@ -14,6 +14,7 @@ use Rattle.layout.specs.Config.{base}
 use Rattle.layout.specs.Positions.{location, operandOk}
 use Rattle.layout.proofs.Placing.{register, spilled}
 use Rattle.instructions.specs.Step.{Config}
+use Rattle.structured.specs.Evaluation.{faulted, evaluate}
 use Rattle.code.specs.Code.{loadImmediate, arithmetic}
 use Rattle.heap.specs.Blocks.{cell}
 use Rattle.heap.specs.Orders.{Order, put, Performs, puts}
@@ -128,3 +129,29 @@ module _ {N : ℕ} (ext ext′ : ℕ → Bool) (c : Config) (k : ℕ) (v : Place
         by Mul e = so (all .mul) (appended (result Mul (held c A) (held c B)))
         by Div e = so (parts .div (no-fault (held c A) (held c B) e)) (appended (result Div (held c A) (held c B)))
         by Rem e = so (parts .rem (no-fault (held c A) (held c B) e)) (appended (result Rem (held c A) (held c B)))
+
+    -- and a fault where it has one
+    faults-where : (x y : ℕ) → divisible x y ≡ false → divisionFaults x y ≡ true
+    faults-where x y = by (eqb y 0) (eqb x (2 ^ 63)) (eqb y (2 ^ 64 - 1))
+      where
+        by : (p q r : Bool) → not p && not (q && r) ≡ false → p || (q && r) ≡ true
+        by false false r e = let z : _≡_ {A = ℕ} 0 1 = cc in absurd (omega arith)
+        by false true false e = let z : _≡_ {A = ℕ} 0 1 = cc in absurd (omega arith)
+        by false true true e = refl
+        by true q r e = refl
+
+    pub compute-stops : (o : Operation) → resultDefined o (held c A) (held c B) ≡ false → (d : Config) × (evaluate words (arithmetic base o T A B) c ≡ faulted d)
+    compute-stops o e = by o e
+      where
+        ok : (p : ℕ) → p < 267 → Given (location p)
+        ok p l = given (location p) (position-ok p l)
+
+        parts : Divides words c T A B
+        parts = division words c v T A B (ok (2 * k + 1) (omega arith)) (ok (2 * a + 1) (omega arith)) (ok (2 * b + 1) (omega arith)) apart
+
+        by : (o : Operation) → resultDefined o (held c A) (held c B) ≡ false → (d : Config) × (evaluate words (arithmetic base o T A B) c ≡ faulted d)
+        by Add e = let z : _≡_ {A = ℕ} 0 1 = cc in absurd (omega arith)
+        by Sub e = let z : _≡_ {A = ℕ} 0 1 = cc in absurd (omega arith)
+        by Mul e = let z : _≡_ {A = ℕ} 0 1 = cc in absurd (omega arith)
+        by Div e = let p = parts .div-faults (faults-where (held c A) (held c B) e) in (p .at, p .run)
+        by Rem e = let p = parts .rem-faults (faults-where (held c A) (held c B) e) in (p .at, p .run)

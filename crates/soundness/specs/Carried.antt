@@ -1,8 +1,9 @@
 -- What the induction over a list of items carries, and how an order that changes something carries it on.
 use mathlib.Core.Bool.{true}
 use mathlib.Core.List.{List, _∷_}
-use mathlib.Core.Path.{_≡_, refl, ap, subst}
-use Prim.Native.Nat.{ℕ, suc, _+_, _-_, _≤_}
+use mathlib.Core.Logic.{_≢_}
+use mathlib.Core.Path.{_≡_, refl, sym, _∙_, ap, subst}
+use Prim.Native.Nat.{ℕ, suc, _+_, _-_, _≤_, _<_}
 use native.Mathlib.Omega.{arith}
 use lib.ListN.{length}
 use Rattle.records.specs.declared.check.Checked.the-variants.{Good}
@@ -11,31 +12,36 @@ use Rattle.records.specs.declared.order.Order.the-variants.{Put, Compute, Copy,
 use Rattle.records.specs.Contexts.{checkedContext, extAt}
 use Rattle.instructions.specs.Step.{Config}
 use Rattle.memory.specs.Answered.{variablesIn}
-use Rattle.heap.specs.GrowthLemmas.{Bounded, represents-bounded}
+use Rattle.heap.specs.Blocks.{pointers}
+use Rattle.heap.specs.Claims.{Reaches}
+use Rattle.heap.specs.GrowthLemmas.{Bounded, represents-bounded, store-reaches}
+use Rattle.heap.specs.Reachability.{ReachableCount}
 use Rattle.heap.specs.Invariant.{Represents}
 use Rattle.heap.specs.OrderLemmas.{storedBy}
 use Rattle.heap.specs.Orders as abstract
 use Rattle.heap.specs.Orders.{State, Run, plain, Legal, listOf}
 use Rattle.heap.specs.Values.{integer, object, Value, Values, countOf, joined, firstOf, valueAt, KindsFrom}
 use Rattle.positions.specs.Held.{Placed}
+use Rattle.bridge.specs.Acquiring.{Within}
 use Rattle.bridge.specs.Shown.{L, heapOf}
 use Rattle.bridge.specs.Sizes.{objectSizes}
 use Rattle.bridge.specs.Variables.{variables}
 use Rattle.orders.specs.Answered.{placesIn}
-use Rattle.orders.specs.Plain.{integerOf, result, plainly, AsStored}
+use Rattle.orders.specs.Plain.{integerOf, result, plainly, AsStored, OwedKinds}
 use Rattle.playing.specs.Playing.{Channel}
 use Rattle.soundness.specs.Claims.{stateOf, acquires, changes, Owed}
 use Rattle.soundness.specs.Ending.{start}
 use Rattle.soundness.specs.Appending.{Performed}
+use Rattle.soundness.specs.Rooms.{represents-within}
 
--- for a channel beside the plain machine's values, `acquired` blocks acquired so far, and the states before
-pub record Carried (blocks acquired : ℕ) (past : List State) (ch : Channel) (vs : Values) : Type 0 where
+-- for a channel beside the plain machine's values, with the frontier below a bound, and the states before
+pub record Carried (blocks bound : ℕ) (past : List State) (ch : Channel) (vs : Values) : Type 0 where
   pub places : checkedContext (ch .context) ≡ Good (countOf vs)
   pub kinds : KindsFrom (extAt (ch .context)) 0 vs
   pub few : countOf vs ≤ 133
   pub placed : Placed blocks (start (ch .view))
   pub frontier : ℕ
-  pub low : frontier ≤ suc acquired
+  pub low : frontier < bound
   pub represents : Represents objectSizes L (heapOf (start (ch .view))) frontier (variables (extAt (ch .context)) (start (ch .view)) 0 (countOf vs)) vs
   pub run : Run objectSizes L past (stateOf ch vs)
 
@@ -70,7 +76,7 @@ object-is bindings n (integer w) a = absurd a
 object-is bindings n (object tag ws) a = (tag, ws, refl, a .0)
 
 -- what the user owes is what the abstract heap asks
-pub legal : (bindings : List ℕ) (o : Order) (vs : Values) → changes o ≡ true → Owed bindings o vs → Legal (abstractly o vs) vs
+pub legal : (bindings : List ℕ) (o : Order) (vs : Values) → changes o ≡ true → OwedKinds bindings o vs → Legal (abstractly o vs) vs
 unfolding Legal
 legal bindings (Put value) vs e w = tt
 legal bindings (Compute operation a b) vs e w = tt
@@ -97,15 +103,41 @@ state-is : (ch : Channel) (k : ℕ) (vs ws : Values) → placesIn (ch .context) 
     → _≡_ {A = State} (record { memory = heapOf (start (ch .view)); variables = variables (extAt (ch .context)) (start (ch .view)) 0 k; values = vs }) (stateOf ch ws)
 state-is ch k vs ws e f = rw (e, f)
 
+-- a bound leaves room for the blocks that the variables lead to before an order, and those that it acquires
+abbrev pub Room : Channel → Values → Order → ℕ → Type 0
+Room ch vs o bound =
+    (count : ℕ) → ReachableCount (heapOf (start (ch .view)) .fields) (pointers (variables (extAt (ch .context)) (start (ch .view)) 0 (countOf vs))) count → suc (count + acquires o) < bound
+
+-- the variables hold the plain machine's values after an order, and the frontier is below a bound
+abbrev pub BoundedAfter : Values → Order → List ℕ → ℕ → Config → Type 0
+BoundedAfter vs o context bound d = Bounded objectSizes L bound (heapOf d) (variables (extAt context) d 0 (countOf (plainly o vs))) (plain (abstractly o vs) vs)
+
 -- an order that changes something, on from a channel
-module _ {blocks acquired : ℕ} {past : List State} {ch : Channel} {vs : Values} (f : Carried blocks acquired past ch vs) (bindings : List ℕ) (o : Order) (changing : changes o ≡ true) (owed : Owed bindings o vs)
-    (context : List ℕ) (good : checkedContext context ≡ Good (countOf (plainly o vs))) (same-kinds : KindsFrom (extAt context) 0 (plainly o vs)) (few : countOf (plainly o vs) ≤ 133) where
-  pub carried-on : (d : Config) → Performed blocks (start (ch .view)) (abstractly o vs) (extAt (ch .context)) (extAt context) (countOf vs) (countOf (plainly o vs)) d
-      → Carried blocks (acquires o + acquired) (stateOf ch vs ∷ past) (record { context = context; view = d .state }) (plainly o vs)
-  carried-on d p =
+module _ {blocks bound : ℕ} {past : List State} {ch : Channel} {vs : Values} (f : Carried blocks bound past ch vs) (bindings : List ℕ) (o : Order) (changing : changes o ≡ true) (owed : Owed bindings o vs) (context : List ℕ) where
+  abbrev Did : Config → Type 0
+  Did d = Performed blocks (start (ch .view)) (abstractly o vs) (extAt (ch .context)) (extAt context) (countOf vs) (countOf (plainly o vs)) d
+
+  -- with room for what is reachable before it and what it acquires
+  pub bounded-by-room : (bound′ : ℕ) → bound ≤ bound′ → Room ch vs o bound′ → (d : Config) → Did d → BoundedAfter vs o context bound′ d
+  bounded-by-room bound′ grows room d p =
       let low = f .low in
-      let b : Bounded objectSizes L (suc (suc (acquires o + acquired))) (heapOf d) (variables (extAt context) d 0 (countOf (plainly o vs))) (plain (abstractly o vs) vs)
-      = represents-bounded refl (suc (suc (acquires o + acquired))) (omega arith) (p .performs) (legal bindings o vs changing owed) (f .represents) (omega (arith, stored-blocks o vs)) in
+      represents-bounded refl bound′ (omega arith) (p .performs) (legal bindings o vs changing (owed .0)) (f .represents) (λ count k. omega (arith, stored-blocks o vs, room count k))
+
+  -- with FREE within the heap
+  pub bounded-by-run : f .frontier ≤ blocks → (d : Config) → Did d → (storedBy (abstractly o vs) ≢ 0 → Within blocks (heapOf d .lazy-head)) → BoundedAfter vs o context (suc blocks) d
+  bounded-by-run le d p free = represents-within le (p .performs) (legal bindings o vs changing (owed .0)) (f .represents) free
+
+  -- a store leaves the variables with the blocks that they led to before it and those it acquires
+  pub reaches-on : checkedContext context ≡ Good (countOf (plainly o vs)) → (d : Config) → Did d → acquires o ≢ 0
+      → (n m : ℕ) → Reaches n (stateOf ch vs) → Reaches m (stateOf (record { context = context; view = d .state }) (plainly o vs)) → m ≡ n + acquires o
+  reaches-on good d p some n m a b =
+      let before : ReachableCount (heapOf (start (ch .view)) .fields) (pointers (variables (extAt (ch .context)) (start (ch .view)) 0 (countOf vs))) n = rw (places-are (ch .context) (countOf vs) (f .places)) at a in
+      let after : ReachableCount (heapOf d .fields) (pointers (variables (extAt context) d 0 (countOf (plainly o vs)))) m = rw (places-are context (countOf (plainly o vs)) good) at b in
+      omega (arith, store-reaches (p .performs) (λ e. some (sym (stored-blocks o vs) ∙ ap (λ (k : ℕ). length (objectSizes k)) e)) (f .represents) before after, stored-blocks o vs)
+
+  pub carried-on : (bound′ : ℕ) → checkedContext context ≡ Good (countOf (plainly o vs)) → KindsFrom (extAt context) 0 (plainly o vs) → countOf (plainly o vs) ≤ 133
+      → (d : Config) → Did d → BoundedAfter vs o context bound′ d → Carried blocks bound′ (stateOf ch vs ∷ past) (record { context = context; view = d .state }) (plainly o vs)
+  carried-on bound′ good same-kinds few d p b =
       let next : Channel = record { context = context; view = d .state } in
       record {
         places = good;
@@ -113,16 +145,20 @@ module _ {blocks acquired : ℕ} {past : List State} {ch : Channel} {vs : Values
         few = few;
         placed = p .placed;
         frontier = b .frontier;
-        low = let l = b .below in omega arith;
+        low = b .below;
         represents = rw (plain-same o vs changing) at (b .represents);
         run = subst (λ (s : State). Run objectSizes L (stateOf ch vs ∷ past) s) (state-is next (countOf (plainly o vs)) (plain (abstractly o vs) vs) (plainly o vs) (places-are context (countOf (plainly o vs)) good) (plain-same o vs changing))
-            (abstract.next (abstractly o vs) (f .run) (legal bindings o vs changing owed) (rw (places-are (ch .context) (countOf vs) (f .places)) (p .performs)));
+            (abstract.next (abstractly o vs) (f .run) (legal bindings o vs changing (owed .0)) (rw (places-are (ch .context) (countOf vs) (f .places)) (p .performs)));
       }
 
 -- a print, which leaves variables and heap as they were
-module _ {blocks acquired : ℕ} {past : List State} {ch : Channel} {vs : Values} (f : Carried blocks acquired past ch vs) where
+module _ {blocks bound : ℕ} {past : List State} {ch : Channel} {vs : Values} (f : Carried blocks bound past ch vs) (bound′ : ℕ) (grows : bound ≤ bound′) where
+  pub state-same : (d : Config) → variables (extAt (ch .context)) d 0 (countOf vs) ≡ variables (extAt (ch .context)) (start (ch .view)) 0 (countOf vs) → heapOf d ≡ heapOf (start (ch .view))
+      → stateOf (record { context = ch .context; view = d .state }) vs ≡ stateOf ch vs
+  state-same d v h = rw (places-are (ch .context) (countOf vs) (f .places), h, v)
+
   pub carried-same : (d : Config) → variables (extAt (ch .context)) d 0 (countOf vs) ≡ variables (extAt (ch .context)) (start (ch .view)) 0 (countOf vs) → heapOf d ≡ heapOf (start (ch .view)) → Placed blocks d
-      → Carried blocks acquired past (record { context = ch .context; view = d .state }) vs
+      → Carried blocks bound′ past (record { context = ch .context; view = d .state }) vs
   carried-same d v h p =
       let next : Channel = record { context = ch .context; view = d .state } in
       let e = places-are (ch .context) (countOf vs) (f .places) in
@@ -132,7 +168,7 @@ module _ {blocks acquired : ℕ} {past : List State} {ch : Channel} {vs : Values
         few = f .few;
         placed = p;
         frontier = f .frontier;
-        low = f .low;
+        low = let l = f .low in omega arith;
         represents = rw (h, v) (f .represents);
         run = subst (λ (s : State). Run objectSizes L past s) (rw (e, h, v)) (f .run);
       }

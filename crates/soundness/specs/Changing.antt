@@ -1,6 +1,7 @@
 -- Each order that changes something, on a channel that carries what the induction carries, performs its abstract order.
 use mathlib.Core.Bool.{Bool, true, false, not, cond}
 use mathlib.Core.List.{List, _++_}
+use mathlib.Core.Logic.{_≢_}
 use mathlib.Core.Path.{_≡_, refl, sym, _∙_, ap, fun-ext}
 use Prim.Native.Nat.{ℕ, zero, suc, _+_, _-_, _*_, _≤_, _<_}
 use native.Mathlib.Omega.{arith}
@@ -18,37 +19,46 @@ use Rattle.layout.specs.Config.{base}
 use Rattle.layout.specs.Positions.{location}
 use Rattle.memory.specs.Objects.{extIn, loadObject}
 use Rattle.instructions.specs.Step.{Config}
+use Rattle.structured.specs.Evaluation.{done, evaluate}
 use Rattle.heap.specs.ValueLemmas.{hold-at}
+use Rattle.heap.specs.Blocks.{pointers}
+use Rattle.heap.specs.Reachability.{ReachableCount}
 use Rattle.heap.specs.Values.{Value, integer, object, Values, nil, cons, countOf, joined, firstOf, restOf, copies, valueAt, Holds}
 use Rattle.heap.specs.Orders as abstract
 use Rattle.heap.specs.Orders.{State, listOf}
 use Rattle.positions.specs.Held.{held}
-use Rattle.positions.specs.Runs.{Does}
+use Rattle.positions.specs.Runs.{Does, so}
+use Rattle.bridge.specs.Acquiring.{Within}
+use Rattle.bridge.specs.Attempting.{Attempts, apart, does, attempt-weaken, attempt-why}
+use Rattle.heap.specs.OrderLemmas.{storedBy}
 use Rattle.bridge.specs.Shown.{heapOf}
 use Rattle.bridge.specs.Sizes.{objectSizes}
 use Rattle.bridge.specs.Variables.{variable, variables, variables-length}
 use Rattle.contexts.specs.Bindings.{good-length}
 use Rattle.contexts.specs.Kinds.{ext-left, ext-right, ext-take, ext-made, ext-made-all, kind-at, ext-in, ext-in-whole}
 use Rattle.contexts.specs.ValueKinds.{count-joined, count-first, count-copies, integer-at, kinds-moved}
-use Rattle.orders.specs.Plain.{integerOf, result, plainly, AsStored}
+use Rattle.orders.specs.Plain.{integerOf, result, resultDefined, plainly, AsStored, OwedKinds, OwedResult}
 use Rattle.orders.specs.Writes.{made, madeAll, kindAt, treeOf, contextAfter, present, kindsOk, asked}
 use Rattle.playing.specs.Playing.{Channel}
-use Rattle.soundness.specs.Claims.{acquires, changes, Owed}
+use Rattle.soundness.specs.Claims.{changes, Owed}
 use Rattle.soundness.specs.Ending.{start}
-use Rattle.soundness.specs.Appending.{Performed, put-does, compute-does}
+use Rattle.soundness.specs.Appending.{Performed, put-does, compute-does, compute-stops}
 use Rattle.soundness.specs.Copying.{among, copy-does}
-use Rattle.soundness.specs.Dropping.{drop-does, store-does}
+use Rattle.soundness.specs.Dropping.{drop-does, store-tries}
 use Rattle.soundness.specs.Loading.{load-does}
-use Rattle.soundness.specs.Carried.{Carried, abstractly}
+use Rattle.soundness.specs.Carried.{Carried, Room, abstractly}
 
 -- as many variables as the plain machine has values after the order
 recounted : {words : ℕ → ℕ} {blocks : ℕ} {c : Config} {o : _} {ext ext′ : ℕ → Bool} {k j n : ℕ} {t : _} → n ≡ j → Does words t c (Performed blocks c o ext ext′ k j) → Does words t c (Performed blocks c o ext ext′ k n)
 recounted e d = rw e d
 
-rebased : {words : ℕ → ℕ} {blocks : ℕ} {c : Config} {o : _} {ext ext′ : ℕ → Bool} {k j n : ℕ} {t : _} → k ≡ n → Does words t c (Performed blocks c o ext ext′ k j) → Does words t c (Performed blocks c o ext ext′ n j)
-rebased e d = rw (← e) d
+attempted : {words : ℕ → ℕ} {blocks : ℕ} {c : Config} {o : _} {ext ext′ : ℕ → Bool} {k j n : ℕ} {t : _} {F : Type 0} {W : Config → Type 0} → n ≡ j → Attempts words t c F (λ d. Performed blocks c o ext ext′ k j d × W d) → Attempts words t c F (λ d. Performed blocks c o ext ext′ k n d × W d)
+attempted e d = rw e d
 
-module _ (words : ℕ → ℕ) {blocks acquired : ℕ} {past : List State} {ch : Channel} {vs : Values} (f : Carried blocks acquired past ch vs) (bindings : List ℕ) where
+reattempted : {words : ℕ → ℕ} {blocks : ℕ} {c : Config} {o : _} {ext ext′ : ℕ → Bool} {k j n : ℕ} {t : _} {W : Config → Type 0} (F : ℕ → Type 0) → k ≡ n → Attempts words t c (F k) (λ d. Performed blocks c o ext ext′ k j d × W d) → Attempts words t c (F n) (λ d. Performed blocks c o ext ext′ n j d × W d)
+reattempted F e d = rw (← e) d
+
+module _ (words : ℕ → ℕ) {blocks bound : ℕ} {past : List State} {ch : Channel} {vs : Values} (f : Carried blocks bound past ch vs) (bindings : List ℕ) where
   abbrev K : ℕ
   K = countOf vs
 
@@ -91,7 +101,7 @@ module _ (words : ℕ → ℕ) {blocks acquired : ℕ} {past : List State} {ch :
   put-order value h =
       recounted (one-more value) (put-does E (E′ (Put value)) C K (f .placed) (omega arith) (λ x l. ext-left (ch .context) (made Ext K) K long x l) new-integer words value)
 
-  compute-order : (o : Operation) (a b : ℕ) → a < K → b < K → E a ≡ true → E b ≡ true → 2 * K + 2 ≤ 267 → Owed bindings (Compute o a b) vs → Goal (Compute o a b)
+  compute-order : (o : Operation) (a b : ℕ) → a < K → b < K → E a ≡ true → E b ≡ true → 2 * K + 2 ≤ 267 → OwedResult (Compute o a b) vs → Goal (Compute o a b)
   unfolding treeOf contextAfter plainly
   compute-order o a b ak bk ea eb h owed =
       let x = integer-held a ak ea in
@@ -99,10 +109,48 @@ module _ (words : ℕ → ℕ) {blocks acquired : ℕ} {past : List State} {ch :
       recounted (one-more (result o (integerOf (valueAt a vs)) (integerOf (valueAt b vs))))
       (rw (x, y) at (compute-does E (E′ (Compute o a b)) C K (f .placed) (omega arith) (λ x l. ext-left (ch .context) (made Ext K) K long x l) new-integer words a b ak bk o (rw (x, y) owed)))
 
-  module _ (room : suc acquired < blocks) where
-    below : f .frontier ≤ blocks
-    below = omega (arith, f .low)
+  -- a compute that is done has its result
+  computed-result : (o : Operation) (a b : ℕ) → a < K → b < K → E a ≡ true → E b ≡ true → 2 * K + 2 ≤ 267 → (d : Config)
+      → evaluate words (treeOf base (ch .context) K bindings (Compute o a b)) C ≡ done d → OwedResult (Compute o a b) vs
+  unfolding treeOf contextAfter
+  computed-result o a b ak bk ea eb h d e = by (resultDefined o (held C (location (2 * a + 1))) (held C (location (2 * b + 1)))) refl
+    where
+      x : held C (location (2 * a + 1)) ≡ integerOf (valueAt a vs)
+      x = integer-held a ak ea
 
+      y : held C (location (2 * b + 1)) ≡ integerOf (valueAt b vs)
+      y = integer-held b bk eb
+
+      by : (q : Bool) → resultDefined o (held C (location (2 * a + 1))) (held C (location (2 * b + 1))) ≡ q → resultDefined o (integerOf (valueAt a vs)) (integerOf (valueAt b vs)) ≡ true
+      by true z = rw (x, y) at z
+      by false z =
+          let s = compute-stops E (E′ (Compute o a b)) C K (f .placed) (omega arith) (λ x l. ext-left (ch .context) (made Ext K) K long x l) new-integer words a b ak bk o z in
+          absurd (apart (sym e ∙ s .1))
+
+  -- an order whose tree is done has met no division fault
+  pub result-by-run : (o : Order) → present (ch .context) K bindings o ≡ true → kindsOk (ch .context) K bindings o ≡ true → asked (ch .context) K bindings o ≤ 267
+      → (d : Config) → evaluate words (treeOf base (ch .context) K bindings o) C ≡ done d → OwedResult o vs
+  unfolding present kindsOk asked
+  result-by-run (Put value) p e a d r = tt
+  result-by-run (Compute o x y) p e a d r =
+      computed-result o x y (ltb-true x K (and-left (ltb x K) (ltb y K) p)) (ltb-true y K (and-right (ltb x K) (ltb y K) p)) (and-left (E x) (E y) e) (and-right (E x) (E y) e) a d r
+  result-by-run (Copy x n) p e a d r = tt
+  result-by-run Drop p e a d r = tt
+  result-by-run (Store n tag) p e a d r = tt
+  result-by-run (Load n) p e a d r = tt
+  result-by-run (Print newline x) p e a d r = tt
+
+  -- where a context has j variables: room for what they lead to and for n variables stored
+  abbrev Spare : ℕ → ℕ → Type 0
+  Spare n j = (count : ℕ) → ReachableCount (heapOf C .fields) (pointers (variables E C 0 j)) count → count + length (objectSizes n) < blocks
+
+  -- an order does what the abstract heap names, or faults where there is no room; after a store FREE is within the heap
+  abbrev Attempt : Order → Type 0
+  Attempt o =
+      Attempts words (treeOf base (ch .context) K bindings o) C (Room ch vs o (suc blocks) → f .frontier < blocks → ⊥)
+      (λ d. Performed blocks C (abstractly o vs) E (E′ o) K (countOf (plainly o vs)) d × (storedBy (abstractly o vs) ≢ 0 → Within blocks (heapOf d .lazy-head)))
+
+  module _ (below : f .frontier ≤ blocks) where
     copy-order : (a n : ℕ) → a < K → K + n ≤ 133 → Goal (Copy a n)
     unfolding treeOf contextAfter plainly
     copy-order a n ak most =
@@ -121,26 +169,26 @@ module _ (words : ℕ → ℕ) {blocks acquired : ℕ} {past : List State} {ch :
         recounted (count-first (K - 1) vs (omega arith))
         (rw (z, q) (drop-does words E (extAt (take (8 * e) (ch .context))) C (f .placed) e (omega arith) below (λ x l. ext-take (ch .context) e x l) (rw q at (f .represents))))
 
-    store-order : (n tag : ℕ) → n ≤ K → K - n < 133 → suc (acquired + length (objectSizes n)) < blocks → Goal (Store n tag)
+    store-order : (n tag : ℕ) → n ≤ K → K - n < 133 → Attempt (Store n tag)
     unfolding treeOf contextAfter plainly
-    store-order n tag nk most space =
+    store-order n tag nk most =
         let r : ℕ = K - n in
         let e : r + n ≡ K = omega arith in
         let few = f .few in
-        let low = f .low in
         let whole : length (take (8 * r) (ch .context)) ≡ 8 * r = length-take-le (8 * r) (ch .context) (omega (arith, long)) in
         let z : r + 0 ≡ r = omega arith in
         let kinds : extIn (ch .context) 0 ≡ E = fun-ext (ext-in-whole (ch .context)) in
-        recounted (count-joined (firstOf r vs) (cons (object tag (restOf r vs)) nil) ∙ ap (λ (m : ℕ). m + 1) (count-first r vs (omega arith)) ∙ plus-one r)
-        (rw kinds (rebased e (store-does words E (E′ (Store n tag)) C (f .placed) r n tag (omega arith) most
+        attempt-why (λ (o : Spare n K → f .frontier < blocks → ⊥) room lt. o (λ count k. omega (arith, room count k)) lt) (attempt-weaken (λ d x. (x .0, λ y. x .1))
+        (attempted (count-joined (firstOf r vs) (cons (object tag (restOf r vs)) nil) ∙ ap (λ (m : ℕ). m + 1) (count-first r vs (omega arith)) ∙ plus-one r)
+        (rw kinds (reattempted (λ j. Spare n j → f .frontier < blocks → ⊥) e (store-tries words E (E′ (Store n tag)) C (f .placed) r n tag (omega arith) most
         (λ x l. ext-left (take (8 * r) (ch .context)) (made Linked r) r whole x l ∙ ext-take (ch .context) r x l)
         (rw z at (ext-right (take (8 * r) (ch .context)) (made Linked r) r whole 0) ∙ ext-made Linked r)
-        (omega arith) (rw (← e) at (f .represents)))))
+        below (rw (← e) at (f .represents)))))))
       where
         plus-one : (m : ℕ) → m + 1 ≡ suc m
         plus-one m = omega arith
 
-    load-order : (n e : ℕ) → K ≡ suc e → E e ≡ false → e + n ≤ 133 → Owed bindings (Load n) vs → Goal (Load n)
+    load-order : (n e : ℕ) → K ≡ suc e → E e ≡ false → e + n ≤ 133 → OwedKinds bindings (Load n) vs → Goal (Load n)
     unfolding treeOf contextAfter plainly
     load-order n e q linked most owed = by (valueAt (K - 1) vs) refl owed
       where
@@ -168,27 +216,31 @@ module _ (words : ℕ → ℕ) {blocks acquired : ℕ} {past : List State} {ch :
             (rw q at (f .represents)) in
             recounted c (rw (z, q, ← (a .0)) d)
 
-    -- with what an accepted order says, and the room that the user gives
-    pub changing-does : (o : Order) → changes o ≡ true → present (ch .context) K bindings o ≡ true → kindsOk (ch .context) K bindings o ≡ true → asked (ch .context) K bindings o ≤ 267
-        → Owed bindings o vs → suc (acquires o + acquired) < blocks → Goal o
+    -- an order that stores nothing
+    quietly : (o : Order) → storedBy (abstractly o vs) ≡ 0 → Goal o → Attempt o
+    quietly o z g = does (so g (λ d p. (p, λ n. absurd (n z))))
+
+    -- with what an accepted order says
+    pub changing-tries : (o : Order) → changes o ≡ true → present (ch .context) K bindings o ≡ true → kindsOk (ch .context) K bindings o ≡ true → asked (ch .context) K bindings o ≤ 267
+        → Owed bindings o vs → Attempt o
     unfolding present kindsOk asked
-    changing-does (Put value) c p e a w s = put-order value a
-    changing-does (Compute o x y) c p e a w s =
-        compute-order o x y (ltb-true x K (and-left (ltb x K) (ltb y K) p)) (ltb-true y K (and-right (ltb x K) (ltb y K) p)) (and-left (E x) (E y) e) (and-right (E x) (E y) e) a w
-    changing-does (Copy x n) c p e a w s = copy-order x n (ltb-true x K p) (copied n a)
+    changing-tries (Put value) c p e a w = quietly (Put value) refl (put-order value a)
+    changing-tries (Compute o x y) c p e a w =
+        quietly (Compute o x y) refl (compute-order o x y (ltb-true x K (and-left (ltb x K) (ltb y K) p)) (ltb-true y K (and-right (ltb x K) (ltb y K) p)) (and-left (E x) (E y) e) (and-right (E x) (E y) e) a (w .1))
+    changing-tries (Copy x n) c p e a w = quietly (Copy x n) refl (copy-order x n (ltb-true x K p) (copied n a))
       where
         copied : (n : ℕ) → cond (eqb n 0) (cond (E x) 0 (2 * x + 1)) (2 * (K + n)) ≤ 267 → K + n ≤ 133
         copied zero a = omega (arith, f .few)
         copied (suc n) a = let b = rw (ne-eqb (suc n) 0 (λ z. omega arith)) at a in omega arith
-    changing-does Drop c p e a w s = let h = ltb-true 0 K p in drop-order (K - 1) (omega arith)
-    changing-does (Store n tag) c p e a w s = store-order n tag (leb-true n K p) (stored n (leb-true n K p) a) (omega arith)
+    changing-tries Drop c p e a w = let h = ltb-true 0 K p in quietly Drop refl (drop-order (K - 1) (omega arith))
+    changing-tries (Store n tag) c p e a w = store-order n tag (leb-true n K p) (stored n (leb-true n K p) a)
       where
         stored : (n : ℕ) → n ≤ K → cond (eqb n 0) (2 * K + 2) (2 * K) ≤ 267 → K - n < 133
         stored zero l a = omega arith
         stored (suc n) l a = omega (arith, f .few)
-    changing-does (Load n) c p e a w s =
+    changing-tries (Load n) c p e a w =
         let h = ltb-true 0 K p in
-        load-order n (K - 1) (omega arith) (turned (E (K - 1)) e) (loaded n a h) w
+        quietly (Load n) refl (load-order n (K - 1) (omega arith) (turned (E (K - 1)) e) (loaded n a h) (w .0))
       where
         turned : (b : Bool) → not b ≡ true → b ≡ false
         turned false e = refl
@@ -197,4 +249,4 @@ module _ (words : ℕ → ℕ) {blocks acquired : ℕ} {past : List State} {ch :
         loaded : (n : ℕ) → cond (eqb n 0) 0 (2 * (K - 1 + n)) ≤ 267 → 0 < K → K - 1 + n ≤ 133
         loaded zero a h = omega (arith, f .few)
         loaded (suc n) a h = let b = rw (ne-eqb (suc n) 0 (λ z. omega arith)) at a in omega arith
-    changing-does (Print newline x) c p e a w s = let z : _≡_ {A = ℕ} 0 1 = cc in absurd (omega arith)
+    changing-tries (Print newline x) c p e a w = let z : _≡_ {A = ℕ} 0 1 = cc in absurd (omega arith)

@@ -1,8 +1,9 @@
 -- Demand 3: the heap stays sound for every list of orders. One claim on the whole list; this file and the definitions it cites are all that it says.
 -- `fresh` and what an item does to a channel are what the contracts of `playing::channel` cite.
 -- From document 01, 'Order record', 'Plain machine of demand 3' and the lines on the heap in 'Instruction record'.
-use Prim.Native.Nat.{ℕ, _+_, _*_, _-_, _≤_, _<_}
+use Prim.Native.Nat.{ℕ, _+_, _*_, _≤_, _<_}
 use mathlib.Core.Path.{_≡_}
+use mathlib.Core.Logic.{_≢_}
 use mathlib.Core.Bool.{Bool, true, false, _&&_, cond}
 use mathlib.Core.List.{List, [], _∷_}
 use lib.ListN.{length}
@@ -20,11 +21,11 @@ use Rattle.heap.specs.Values.{Values, nil, countOf, valueAt, KindsFrom}
 use Rattle.heap.specs.Words.{memoryOf}
 use Rattle.heap.specs.WordLemmas.{layout}
 use Rattle.heap.specs.Orders.{State}
-use Rattle.heap.specs.Claims.{HeapAfter}
+use Rattle.heap.specs.Claims.{HeapAfter, Reaches}
 use Rattle.bridge.specs.Sizes.{objectSizes}
 use Rattle.bridge.specs.Variables.{variablesIn}
 use Rattle.orders.specs.Answered.{Asked, orderIs, placesIn}
-use Rattle.orders.specs.Plain.{integerOf, resultDefined, plainly, AsStored}
+use Rattle.orders.specs.Plain.{integerOf, plainly, OwedKinds, OwedResult}
 use Rattle.playing.specs.Playing.{Channel, fresh}
 use Rattle.playing.specs.Playing as play
 
@@ -50,13 +51,7 @@ next ch it = play.next ch (it .asked) (it .words)
 
 -- what the user owes an accepted order: a load's own kinds, and no division fault
 abbrev pub Owed : List ℕ → Order → Values → Type 0
-Owed bindings (Put value) vs = Unit {0}
-Owed bindings (Compute operation a b) vs = resultDefined operation (integerOf (valueAt a vs)) (integerOf (valueAt b vs)) ≡ true
-Owed bindings (Copy a n) vs = Unit {0}
-Owed bindings Drop vs = Unit {0}
-Owed bindings (Store n tag) vs = Unit {0}
-Owed bindings (Load n) vs = AsStored bindings n (valueAt (countOf vs - 1) vs)
-Owed bindings (Print newline a) vs = Unit {0}
+Owed bindings o vs = OwedKinds bindings o vs × OwedResult o vs
 
 -- the blocks that an order acquires
 abbrev pub acquires : Order → ℕ
@@ -116,18 +111,25 @@ module _ (blocks : ℕ) where
   values [] = nil
   values (it ∷ its) = cond (isAccepted (reached its) it) (plainly (orderIs (it .asked)) (values its)) (values its)
 
-  -- the blocks that the accepted orders acquire
-  abbrev pub acquired : List Item → ℕ
-  acquired [] = 0
-  acquired (it ∷ its) = cond (isAccepted (reached its) it) (acquires (orderIs (it .asked))) 0 + acquired its
+  abbrev pub stateAfter : List Item → State
+  stateAfter its = stateOf (reached its) (values its)
 
   -- what the user owes each accepted order
   abbrev pub AllOwed : List Item → Type 0
   AllOwed [] = Unit {0}
   AllOwed (it ∷ its) = (isAccepted (reached its) it ≡ true → Owed (it .asked .bindings) (orderIs (it .asked)) (values its)) × AllOwed its
 
-  abbrev pub stateAfter : List Item → State
-  stateAfter its = stateOf (reached its) (values its)
+  -- The peak is at most so many blocks: each accepted store of some counts the blocks that the variables lead to before it and those that it acquires,
+  -- whether or not its run ends. The variables lead to one number of blocks (`reachable-unique`).
+  abbrev pub PeakWithin : ℕ → List Item → Type 0
+  PeakWithin peak [] = Unit {0}
+  PeakWithin peak (it ∷ its) =
+      (isAccepted (reached its) it ≡ true → acquires (orderIs (it .asked)) ≢ 0 → (count : ℕ) → Reaches count (stateAfter its) → count + acquires (orderIs (it .asked)) ≤ peak) × PeakWithin peak its
+
+  -- the blocks that the accepted orders acquire
+  abbrev pub acquired : List Item → ℕ
+  acquired [] = 0
+  acquired (it ∷ its) = cond (isAccepted (reached its) it) (acquires (orderIs (it .asked))) 0 + acquired its
 
   -- the states before, newest first; refused orders and prints leave the state as it was, so it stands once
   abbrev pub statesBefore : List Item → List State
@@ -162,6 +164,10 @@ module _ (blocks : ℕ) where
     pub ran-on : LastRan its
     pub refused-kept : LastRefused its
 
--- after every list of items, on at least two blocks more than the accepted orders acquire
+-- after every list of items, on at least two blocks more than the peak
 unfoldable pub HeapStaysSound : Type 0
-HeapStaysSound = (blocks : ℕ) (its : List Item) → 2 + acquired blocks its ≤ blocks → blocks ≤ 1048576 → AllOwed blocks its → After blocks its
+HeapStaysSound = (blocks peak : ℕ) (its : List Item) → PeakWithin blocks peak its → 2 + peak ≤ blocks → blocks ≤ 1048576 → AllOwed blocks its → After blocks its
+
+-- on at least two blocks more than the accepted orders acquire: more blocks, and nothing to know of what is reachable
+unfoldable pub HeapStaysSoundOnAcquired : Type 0
+HeapStaysSoundOnAcquired = (blocks : ℕ) (its : List Item) → 2 + acquired blocks its ≤ blocks → blocks ≤ 1048576 → AllOwed blocks its → After blocks its

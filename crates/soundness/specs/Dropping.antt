@@ -13,7 +13,8 @@ use Rattle.instructions.specs.Step.{Config}
 use Rattle.code.specs.Code.{loadImmediate}
 use Rattle.memory.specs.Blocks.{eraseBlock}
 use Rattle.memory.specs.Objects.{storeObject}
-use Rattle.heap.specs.GrowthLemmas.{reachable-below}
+use Rattle.heap.specs.Blocks.{pointers}
+use Rattle.heap.specs.Reachability.{ReachableCount}
 use Rattle.heap.specs.Invariant.{Represents}
 use Rattle.heap.specs.Orders.{drop, store}
 use Rattle.heap.specs.Values.{Values}
@@ -22,8 +23,10 @@ use Rattle.positions.specs.HeldLemmas.{keeps-sub, keeps-register, placed-keeps,
 use Rattle.positions.specs.Runs.{Does, one, so}
 use Rattle.meaning.proofs.Puts.{puts-sets}
 use Rattle.meaning.proofs.Records.{immediate-does}
+use Rattle.bridge.specs.Acquiring.{Within}
+use Rattle.bridge.specs.Attempting.{Attempts, attempt-weaken}
 use Rattle.bridge.specs.DropOrder.{drop-integer, drop-order}
-use Rattle.bridge.specs.StoreOrder.{store-order}
+use Rattle.bridge.specs.StoreOrder.{store-order-tries}
 use Rattle.bridge.specs.Shown.{L, heapOf}
 use Rattle.bridge.specs.Sizes.{objectSizes}
 use Rattle.bridge.specs.Variables.{variable, variables, variables-snoc, variables-kinds}
@@ -47,17 +50,19 @@ module _ (words : ℕ → ℕ) {N m : ℕ} {values : Values} (ext ext′ : ℕ �
           so (drop-order words ext c e v mN h q (rw snoc at rep)) (λ d x.
           record { performs = rw (snoc, kinds d) (x .0); placed = placed-keeps (omega arith, omega arith) (x .1) v; quiet = x .1 .calls-kept })
 
-  -- the variables from r on are the last n
-  pub store-does : (r n tag : ℕ) → r + n ≤ 133 → r < 133 → ((x : ℕ) → x < r → ext′ x ≡ ext x) → ext′ r ≡ false → m + length (objectSizes n) < N
+  -- the variables from r on are the last n; it faults only where the heap has no room for what is reachable and what it acquires
+  pub store-tries : (r n tag : ℕ) → r + n ≤ 133 → r < 133 → ((x : ℕ) → x < r → ext′ x ≡ ext x) → ext′ r ≡ false → m ≤ N
       → Represents objectSizes L (heapOf c) m (variables ext c 0 (r + n)) values
-      → Does words (seq (storeObject base ext r n) (loadImmediate base (location (2 * r + 1)) tag)) c (Performed N c (store n tag) ext ext′ (r + n) (suc r))
-  store-does r n tag h l agree linked room rep =
+      → Attempts words (seq (storeObject base ext r n) (loadImmediate base (location (2 * r + 1)) tag)) c
+      (((count : ℕ) → ReachableCount (heapOf c .fields) (pointers (variables ext c 0 (r + n))) count → count + length (objectSizes n) < N) → m < N → ⊥)
+      (λ d. Performed N c (store n tag) ext ext′ (r + n) (suc r) d × Within N (heapOf d .lazy-head))
+  store-tries r n tag h l agree linked le rep =
       let f = location-fits (2 * r + 1) (omega arith) in
       let g = location-fits (2 * r) (omega arith) in
-      so (store-order words ext ext′ c r n tag (loadImmediate base (location (2 * r + 1)) tag) v h l agree linked
+      attempt-weaken (λ d x. (record { performs = x .0; placed = placed-keeps ((omega arith, omega arith, omega arith), omega (arith, g .0)) (x .2) v; quiet = x .2 .calls-kept }, x .1))
+      (store-order-tries words ext ext′ c r n tag (loadImmediate base (location (2 * r + 1)) tag) v h l agree linked
       (λ u p. so (immediate-does words u p (location (2 * r + 1)) tag (f .1)) (λ z s.
       let t = puts-sets s in
       let K = t .1 .kept in
       (t .0, heap-same u z (t .1 .heap) (keeps-register K 2 (omega arith) (omega (arith, f .0), omega arith)) (keeps-register K 3 (omega arith) (omega (arith, f .0), omega arith)), keeps-sub (λ x q. (q .1, q .0)) K)))
-      (λ count k. omega (arith, reachable-below (rep .consistent) k)) (omega arith) rep)
-      (λ d x. record { performs = x .0; placed = placed-keeps ((omega arith, omega arith, omega arith), omega (arith, g .0)) (x .1) v; quiet = x .1 .calls-kept })
+      le rep)

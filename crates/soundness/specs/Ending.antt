@@ -14,6 +14,8 @@ use Rattle.instructions.specs.Step.{Config, config}
 use Rattle.instructions.specs.View.{View}
 use Rattle.machine.specs.declared.run.Answer.the-variants.{Ended}
 use Rattle.machine.specs.Run.{done, ran, started}
+use Rattle.structured.specs.Evaluation.{evaluate}
+use Rattle.structured.specs.Evaluation as evaluation
 use Rattle.structured.proofs.Trees.{tree-ends}
 use Rattle.positions.specs.Held.{Placed}
 use Rattle.positions.specs.Runs.{Does}
@@ -35,6 +37,7 @@ pub record Ends (words : ℕ → ℕ) (t : Tree) (counter : ℕ) (v : View) (Q :
   pub steps : ℕ
   pub within : steps ≤ size t
   pub last : Config
+  pub tree : evaluate words t (start v) ≡ evaluation.done last
   pub run : ran words (joined codeBytes (flat t counter)) (size t) v ≡ done (Ended steps) last
   pub post : Q last
 
@@ -46,6 +49,7 @@ ends {words} {t} {v} counter f l m h d =
       steps = e .0;
       within = e .1;
       last = d .to;
+      tree = d .run;
       run = ran-started words t counter (size t) v f l m h ∙ ap (λ (n : ℕ). started words (flat t counter) n v) (sym (add-zero (size t))) ∙ e .2;
       post = d .post;
     }

@@ -25,8 +25,8 @@ use Rattle.bridge.specs.Sizes.{objectSizes}
 use Rattle.orders.specs.Answered.{Asked, answerTo}
 use Rattle.orders.specs.Plain.{plainly}
 use Rattle.orders.specs.Writes.{made, treeOf, contextAfter, present, kindsOk, asked}
-use Rattle.soundness.specs.Claims.{Item, values, acquired, AllOwed, stateAfter, After, HeapStaysSound}
-use Rattle.soundness.specs.Induction.{heap-stays-sound}
+use Rattle.soundness.specs.Claims.{Item, values, acquired, AllOwed, stateAfter, After, HeapStaysSoundOnAcquired}
+use Rattle.soundness.specs.Induction.{heap-stays-sound-on-acquired}
 
 -- a list of bytes, by a test of each
 pub below : List ℕ → Bool
@@ -115,7 +115,7 @@ plain = refl
 owed : AllOwed 4 workedList
 unfolding answerTo orderBytes le number checked firstBad bindingStarts bindingBytes orderIn orderOf orderReaders orderOk orderOperandsOk usedByOrder orderStarts treeOf contextAfter present kindsOk asked plainly location stackOffset putSeven storeOne copyIt loadShared dropIt nothing loadReleased printIt putMore storeTwo
 owed =
-    ((λ e. tt), ((λ e. tt), ((λ e. tt), ((λ e. (refl, (refl, tt))), ((λ e. absurd (no e)), ((λ e. tt), ((λ e. (refl, (refl, tt))), ((λ e. tt), ((λ e. tt), ((λ e. tt), tt))))))))))
+    ((λ e. (tt, tt)), ((λ e. (tt, tt)), ((λ e. (tt, tt)), ((λ e. ((refl, (refl, tt)), tt)), ((λ e. absurd (no e)), ((λ e. (tt, tt)), ((λ e. ((refl, (refl, tt)), tt)), ((λ e. (tt, tt)), ((λ e. (tt, tt)), ((λ e. (tt, tt)), tt))))))))))
   where
     no : false ≡ true → ⊥
     no e = let z : _≡_ {A = ℕ} 0 1 = cc in omega arith
@@ -134,9 +134,9 @@ two-held fields linked c (d ∷ []) o l h =
     (o .0, o .1, o .3 ∙ ap (λ (x : List Cell). o .1 ++ x) is)
 
 pub worked-list-is-sound : WorkedListIsSound
-unfolding HeapStaysSound
+unfolding HeapStaysSoundOnAcquired
 worked-list-is-sound =
-    let a = heap-stays-sound 4 workedList (rw two (omega arith)) (omega arith) owed in
+    let a = heap-stays-sound-on-acquired 4 workedList (rw two (omega arith)) (omega arith) owed in
     let s = a .sound .heap in
     let h : HoldAll objectSizes (stateAfter 4 workedList .memory .fields) (s .linked) workedValues (stateAfter 4 workedList .variables) = rw plain at (s .holds) in
     let o = h .3 in

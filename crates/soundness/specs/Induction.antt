@@ -1,36 +1,51 @@
--- The claim, by induction over the list of items.
-use mathlib.Core.Bool.{Bool, true, false, cond}
+-- The claims, by one induction over the list of items: what is granted of a list, and how that makes each accepted order do what it names, are its parameters.
+use mathlib.Core.Bool.{Bool, true, false, _&&_, cond}
+use mathlib.Core.Logic.{_≢_}
 use mathlib.Core.List.{List, [], _∷_}
 use mathlib.Core.Path.{_≡_, refl, sym, subst}
-use Prim.Native.Nat.{ℕ, zero, suc, _+_, _*_, _≤_}
+use Prim.Native.Nat.{ℕ, zero, suc, _+_, _*_, _≤_, _<_}
+use native.Mathlib.Decide.{ℕ-discrete}
 use native.Mathlib.Nat.{zero-add}
 use native.Mathlib.Omega.{arith}
 use lib.Dec.{eqb}
 use lib.ListN.{replicate, length-replicate}
 use Rattle.records.specs.Contexts.{extAt}
 use Rattle.instructions.specs.View.{wordsOf}
-use Rattle.heap.specs.Claims.{AbstractHeapStaysSound, HeapAfter}
+use Rattle.heap.specs.Blocks.{pointers}
+use Rattle.heap.specs.Claims.{AbstractHeapStaysSound, HeapAfter, ReachesAtMost, AbstractFrontierIsPeak}
+use Rattle.heap.specs.GrowthLemmas.{nothing-led, reachable-below}
 use Rattle.heap.specs.OrderLemmas.{represents-fresh}
 use Rattle.heap.specs.Orders as abstract
-use Rattle.heap.specs.Orders.{Run, Fresh}
-use Rattle.heap.specs.RunLemmas.{abstract-heap-stays-sound}
+use Rattle.heap.specs.Orders.{Run, Fresh, Every}
+use Rattle.heap.specs.Reachability.{ReachableCount}
+use Rattle.heap.specs.RunLemmas.{met-within, abstract-heap-stays-sound, abstract-frontier-is-peak}
 use Rattle.heap.specs.SoundLemmas.{sound, frontier-unique}
 use Rattle.heap.specs.Values.{nil, countOf}
 use Rattle.heap.specs.Words.{byAddress, headers, addressOf, numberOf}
+use Rattle.layout.specs.Config.{base}
+use Rattle.instructions.specs.Step.{Config}
+use Rattle.machine.specs.declared.run.Answer.the-variants.{Fault}
+use Rattle.structured.specs.Evaluation.{done, evaluate}
+use Rattle.positions.specs.Runs.{so}
+use Rattle.bridge.specs.Attempting.{surely, unless-faulted}
+use Rattle.orders.specs.Writes.{treeOf, contextAfter}
 use Rattle.bridge.specs.Shown.{L, heapOf}
 use Rattle.bridge.specs.Sizes.{objectSizes}
 use Rattle.bridge.specs.Variables.{variables}
 use Rattle.contexts.specs.Bindings.{good-none}
 use Rattle.orders.specs.Answered.{orderIs, placesIn}
+use Rattle.orders.specs.Plain.{OwedKinds}
 use Rattle.playing.specs.Playing.{fresh}
-use Rattle.soundness.specs.Claims.{Item, isAccepted, reached, values, acquired, AllOwed, stateAfter, statesBefore, SoundChannel, LastRan, LastRefused, HeapStaysSound, acquires, Owed}
-use Rattle.playing.specs.Accepting.{taken}
+use Rattle.soundness.specs.Claims.{Item, isAccepted, runOf, reached, values, acquired, changes, PeakWithin, AllOwed, stateAfter, statesBefore, SoundChannel, LastRan, LastRefused, After, HeapStaysSound, HeapStaysSoundOnAcquired, acquires, Owed}
+use Rattle.soundness.specs.Peak.{NoFault, LoadsOwed, ReachesWithin, HeapAfterList, PeakOf, Unfaulted, FrontierWithinPeakOfLists, FrontierIsPeak}
+use Rattle.playing.specs.Accepting.{Taken, taken}
 use Rattle.soundness.specs.Ending.{start}
-use Rattle.soundness.specs.Carried.{Carried, places-are}
-use Rattle.soundness.specs.Stepping.{SteppedAt, stepped}
+use Rattle.soundness.specs.Carried.{Carried, Room, bounded-by-room, bounded-by-run, places-are}
+use Rattle.soundness.specs.Changing.{changing-tries, result-by-run}
+use Rattle.soundness.specs.Stepping.{SteppedAt, Way, runAt, not-faulted, stepped}
 
 -- a zeroed heap
-zeros : (n i : ℕ) → wordsOf (replicate n 0) i ≡ 0
+pub zeros : (n i : ℕ) → wordsOf (replicate n 0) i ≡ 0
 zeros zero i = refl
 zeros (suc n) zero = refl
 zeros (suc n) (suc i) = zeros n i
@@ -43,12 +58,16 @@ zeroed n b = by (eqb (addressOf 3 (numberOf 3 b)) b)
     by true = zeros n (8 * numberOf 3 b + 0)
     by false = refl
 
+-- an accepted item's step, from a bound of the frontier to another
+abbrev pub StepOn : (blocks bound bound′ : ℕ) → Item → List Item → Type 0
+StepOn blocks bound bound′ it its = SteppedAt blocks bound bound′ (statesBefore blocks its) (reached blocks its) (values blocks its) it (placesIn (reached blocks its .context))
+
 module _ (blocks : ℕ) (most : blocks ≤ 1048576) where
   first : Fresh L (heapOf (start (fresh blocks .view)))
   first = record { zeroed = zeroed (8 * blocks); first = refl; second = refl }
 
-  none-yet : Carried blocks 0 [] (fresh blocks) nil
-  none-yet = record {
+  none-yet : (bound : ℕ) → 2 ≤ bound → Carried blocks bound [] (fresh blocks) nil
+  none-yet bound two = record {
     places = good-none;
     kinds = tt;
     few = omega arith;
@@ -59,44 +78,227 @@ module _ (blocks : ℕ) (most : blocks ≤ 1048576) where
     run = subst (λ (k : ℕ). Run objectSizes L [] (record { memory = heapOf (start (fresh blocks .view)); variables = variables (extAt []) (start (fresh blocks .view)) 0 k; values = nil })) (sym (places-are [] 0 good-none)) (abstract.fresh first);
   }
 
-  -- an accepted item
-  step : (it : Item) (its : List Item) → isAccepted (reached blocks its) it ≡ true → 2 + (acquires (orderIs (it .asked)) + acquired blocks its) ≤ blocks
-      → Owed (it .asked .bindings) (orderIs (it .asked)) (values blocks its) → Carried blocks (acquired blocks its) (statesBefore blocks its) (reached blocks its) (values blocks its)
-      → SteppedAt blocks (acquired blocks its) (statesBefore blocks its) (reached blocks its) (values blocks its) it (placesIn (reached blocks its .context))
-  step it its e h w f =
-      subst (λ (k : ℕ). SteppedAt blocks (acquired blocks its) (statesBefore blocks its) (reached blocks its) (values blocks its) it k)
-      (sym (places-are (reached blocks its .context) (countOf (values blocks its)) (f .places)))
-      (stepped blocks (acquired blocks its) (statesBefore blocks its) (reached blocks its) (values blocks its) it f
-      (taken (reached blocks its .context) (it .asked) (countOf (values blocks its)) (f .places) e) w (omega arith))
+  -- what the induction carries after a list, for a bound
+  abbrev CarriedAt : ℕ → List Item → Type 0
+  CarriedAt bound its = Carried blocks bound (statesBefore blocks its) (reached blocks its) (values blocks its)
 
-  carried : (its : List Item) → 2 + acquired blocks its ≤ blocks → AllOwed blocks its → Carried blocks (acquired blocks its) (statesBefore blocks its) (reached blocks its) (values blocks its)
-  carried [] h w = none-yet
-  carried (it ∷ its) h w = by (isAccepted (reached blocks its) it) refl (carried its (omega arith) (w .1))
+  abbrev TakenAt : Item → List Item → Type 0
+  TakenAt it its = Taken (reached blocks its .context) (it .asked) (countOf (values blocks its))
+
+  abbrev OwedAt : Item → List Item → Type 0
+  OwedAt it its = Owed (it .asked .bindings) (orderIs (it .asked)) (values blocks its)
+
+  abbrev WayAt : ℕ → ℕ → Item → List Item → Type 0
+  WayAt bound bound′ it its = Way blocks bound bound′ (statesBefore blocks its) (reached blocks its) (values blocks its) it
+
+  -- The frontier's bound after each list, what is granted of it, and what follows of an accepted order: what is owed, and that it does what it names.
+  record Grants : Type 1 where
+    bound : List Item → ℕ
+    granted : List Item → Type 0
+    before : (it : Item) (its : List Item) → granted (it ∷ its) → granted its
+    two : (its : List Item) → 2 ≤ bound its
+    blocks-two : (its : List Item) → granted its → 2 ≤ blocks
+    grows : (it : Item) (its : List Item) → bound its ≤ bound (it ∷ its)
+    refused : (it : Item) (its : List Item) → isAccepted (reached blocks its) it ≡ false → bound (it ∷ its) ≡ bound its
+    owed : (it : Item) (its : List Item) → granted (it ∷ its) → isAccepted (reached blocks its) it ≡ true → TakenAt it its → CarriedAt (bound its) its → OwedAt it its
+    way : (it : Item) (its : List Item) → granted (it ∷ its) → isAccepted (reached blocks its) it ≡ true → TakenAt it its → CarriedAt (bound its) its → WayAt (bound its) (bound (it ∷ its)) it its
+
+  module _ (g : Grants) where
+    -- an accepted item
+    step : (it : Item) (its : List Item) → isAccepted (reached blocks its) it ≡ true → g .granted (it ∷ its) → CarriedAt (g .bound its) its → StepOn blocks (g .bound its) (g .bound (it ∷ its)) it its
+    step it its e h f =
+        let t = taken (reached blocks its .context) (it .asked) (countOf (values blocks its)) (f .places) e in
+        subst (λ (k : ℕ). SteppedAt blocks (g .bound its) (g .bound (it ∷ its)) (statesBefore blocks its) (reached blocks its) (values blocks its) it k)
+        (sym (places-are (reached blocks its .context) (countOf (values blocks its)) (f .places)))
+        (stepped blocks (g .bound its) (g .bound (it ∷ its)) (statesBefore blocks its) (reached blocks its) (values blocks its) it f t
+        (g .owed it its h e t f) (g .grows it its) (g .blocks-two (it ∷ its) h) (g .way it its h e t f))
+
+    carried : (its : List Item) → g .granted its → CarriedAt (g .bound its) its
+    carried [] h = none-yet (g .bound []) (g .two [])
+    carried (it ∷ its) h = by (isAccepted (reached blocks its) it) refl (carried its (g .before it its h))
+      where
+        by : (q : Bool) → isAccepted (reached blocks its) it ≡ q → CarriedAt (g .bound its) its → CarriedAt (g .bound (it ∷ its)) (it ∷ its)
+        by true e f = rw e (step it its e h f .carried)
+        by false e f = rw (e, g .refused it its e) f
+
+    heap-after : (its : List Item) → CarriedAt (g .bound its) its → (s : HeapAfter objectSizes L (statesBefore blocks its) (stateAfter blocks its)) × (s .frontier < g .bound its)
+    unfolding AbstractHeapStaysSound
+    heap-after its f =
+        let s : HeapAfter objectSizes L (statesBefore blocks its) (stateAfter blocks its) = abstract-heap-stays-sound objectSizes L (statesBefore blocks its) (stateAfter blocks its) refl (f .run) in
+        let e = frontier-unique (s .sound) (sound (f .represents .consistent)) in
+        let low = f .low in
+        (s, omega arith)
+
+    sound-channel : (its : List Item) → g .granted its → g .bound its ≤ blocks → SoundChannel blocks its
+    sound-channel its h fits =
+        let f = carried its h in
+        let s = heap-after its f in
+        record { places = f .places; kinds = f .kinds; heap = s .0; frontier-there = omega (arith, s .1); whole = f .placed .words }
+
+    last-ran : (its : List Item) → g .granted its → LastRan blocks its
+    last-ran [] h = tt
+    last-ran (it ∷ its) h = λ e.
+        let s = step it its e h (carried its (g .before it its h)) in
+        record { steps = s .steps; within = s .within; ended = s .ended; calls = s .calls }
+
+    last-refused : (its : List Item) → LastRefused blocks its
+    last-refused [] = tt
+    last-refused (it ∷ its) = λ e. rw e
+
+    after : (its : List Item) → g .granted its → g .bound its ≤ blocks → After blocks its
+    after its h fits = record { sound = sound-channel its h fits; ran-on = last-ran its h; refused-kept = last-refused its }
+
+  -- with room for what is reachable and what is acquired
+  roomed : (bound bound′ : ℕ) (it : Item) (its : List Item) → bound ≤ bound′ → bound′ ≤ blocks → TakenAt it its → OwedAt it its → (f : CarriedAt bound its) → Room (reached blocks its) (values blocks its) (orderIs (it .asked)) bound′
+      → WayAt bound bound′ it its
+  roomed bound bound′ it its grows fits t owed f room changing =
+      let low : f .frontier < blocks = omega (arith, f .low) in
+      so (surely (λ o. o (λ count k. omega (arith, room count k)) low)
+      (changing-tries (it .words) f (it .asked .bindings) (omega arith) (orderIs (it .asked)) changing (t .there) (t .of-kind) (t .placed) owed))
+      (λ d x. (x .0, bounded-by-room f (it .asked .bindings) (orderIs (it .asked)) changing owed (contextAfter (reached blocks its .context) (countOf (values blocks its)) (it .asked .bindings) (orderIs (it .asked))) bound′ grows room d (x .0)))
+
+  -- two more than the blocks acquired
+  by-acquired : Grants
+  by-acquired = record {
+    bound = λ its. 2 + acquired blocks its;
+    granted = λ its. (2 + acquired blocks its ≤ blocks) × AllOwed blocks its;
+    before = λ it its h. (omega (arith, h .0), h .1 .1);
+    two = λ its. omega arith;
+    blocks-two = λ its h. omega (arith, h .0);
+    grows = λ it its. omega arith;
+    refused = λ it its e. rw (e, zero-add (acquired blocks its));
+    owed = λ it its h e t f. h .1 .0 e;
+    way = λ it its h e t f. roomed (2 + acquired blocks its) (2 + acquired blocks (it ∷ its)) it its (omega arith) (h .0) t (h .1 .0 e) f
+        (λ count k. rw e (let low = f .low in omega (arith, reachable-below (f .represents .consistent) k)));
+  }
+
+  -- two more than the peak
+  by-peak : (peak : ℕ) → 2 + peak ≤ blocks → Grants
+  by-peak peak enough = record {
+    bound = λ its. blocks;
+    granted = λ its. PeakWithin blocks peak its × AllOwed blocks its;
+    before = λ it its h. (h .0 .1, h .1 .1);
+    two = λ its. omega arith;
+    blocks-two = λ its h. omega arith;
+    grows = λ it its. omega arith;
+    refused = λ it its e. refl;
+    owed = λ it its h e t f. h .1 .0 e;
+    way = λ it its h e t f. roomed blocks blocks it its (omega arith) (omega arith) t (h .1 .0 e) f (room it its h e f);
+  }
     where
-      by : (q : Bool) → isAccepted (reached blocks its) it ≡ q → Carried blocks (acquired blocks its) (statesBefore blocks its) (reached blocks its) (values blocks its)
-          → Carried blocks (acquired blocks (it ∷ its)) (statesBefore blocks (it ∷ its)) (reached blocks (it ∷ its)) (values blocks (it ∷ its))
-      by true e f = rw e (step it its e (rw e at h) (w .0 e) f .carried)
-      by false e f = rw (e, zero-add) f
+      -- a store of some has the premise's, and any other order wants none
+      room : (it : Item) (its : List Item) → PeakWithin blocks peak (it ∷ its) × AllOwed blocks (it ∷ its) → isAccepted (reached blocks its) it ≡ true → (f : CarriedAt blocks its)
+          → Room (reached blocks its) (values blocks its) (orderIs (it .asked)) blocks
+      room it its h e f count k = by (ℕ-discrete (acquires (orderIs (it .asked))) 0)
+        where
+          by : Dec (acquires (orderIs (it .asked)) ≡ 0) → suc (count + acquires (orderIs (it .asked))) < blocks
+          by (yes z) = let low = f .low in omega (arith, reachable-below (f .represents .consistent) k)
+          by (no z) = omega (arith, h .0 .0 e z count (rw (places-are (reached blocks its .context) (countOf (values blocks its)) (f .places)) k))
 
-  sound-channel : (its : List Item) → 2 + acquired blocks its ≤ blocks → AllOwed blocks its → SoundChannel blocks its
-  unfolding AbstractHeapStaysSound
-  sound-channel its h w =
-      let f = carried its h w in
-      let s : HeapAfter objectSizes L (statesBefore blocks its) (stateAfter blocks its) = abstract-heap-stays-sound objectSizes L (statesBefore blocks its) (stateAfter blocks its) refl (f .run) in
-      let e = frontier-unique (s .sound) (sound (f .represents .consistent)) in
-      let low = f .low in
-      record { places = f .places; kinds = f .kinds; heap = s; frontier-there = omega arith; whole = f .placed .words }
+  -- by runs that meet no fault
+  tree-done : (it : Item) (its : List Item) → 2 ≤ blocks → ((steps place : ℕ) → runOf (reached blocks its) it .answer ≢ Fault steps place) → TakenAt it its → (f : CarriedAt (suc blocks) its)
+      → (d : Config) × (evaluate (it .words) (treeOf base (reached blocks its .context) (countOf (values blocks its)) (it .asked .bindings) (orderIs (it .asked))) (start (reached blocks its .view)) ≡ done d)
+  tree-done it its two n t f =
+      not-faulted blocks (suc blocks) (suc blocks) (statesBefore blocks its) (reached blocks its) (values blocks its) it f t two
+      (subst (λ (k : ℕ). (steps place : ℕ) → runAt blocks (suc blocks) (suc blocks) (statesBefore blocks its) (reached blocks its) (values blocks its) it k .answer ≢ Fault steps place)
+      (places-are (reached blocks its .context) (countOf (values blocks its)) (f .places)) n)
 
-  last-ran : (its : List Item) → 2 + acquired blocks its ≤ blocks → AllOwed blocks its → LastRan blocks its
-  last-ran [] h w = tt
-  last-ran (it ∷ its) h w = λ e.
-      let s = step it its e (rw e at h) (w .0 e) (carried its (omega arith) (w .1)) in
-      record { steps = s .steps; within = s .within; ended = s .ended; calls = s .calls }
+  owed-by-run : (it : Item) (its : List Item) → 2 ≤ blocks → ((steps place : ℕ) → runOf (reached blocks its) it .answer ≢ Fault steps place) → OwedKinds (it .asked .bindings) (orderIs (it .asked)) (values blocks its)
+      → TakenAt it its → CarriedAt (suc blocks) its → OwedAt it its
+  owed-by-run it its two n kinds t f =
+      let d = tree-done it its two n t f in
+      (kinds, result-by-run (it .words) f (it .asked .bindings) (orderIs (it .asked)) (t .there) (t .of-kind) (t .placed) (d .0) (d .1))
 
-  last-refused : (its : List Item) → LastRefused blocks its
-  last-refused [] = tt
-  last-refused (it ∷ its) = λ e. rw e
+  by-runs : 2 ≤ blocks → Grants
+  by-runs two = record {
+    bound = λ its. suc blocks;
+    granted = λ its. NoFault blocks its × LoadsOwed blocks its;
+    before = λ it its h. (h .0 .1, h .1 .1);
+    two = λ its. omega arith;
+    blocks-two = λ its h. two;
+    grows = λ it its. omega arith;
+    refused = λ it its e. refl;
+    owed = λ it its h e t f. owed-by-run it its two (h .0 .0 e) (h .1 .0 e) t f;
+    way = λ it its h e t f changing.
+        let d = tree-done it its two (h .0 .0 e) t f in
+        let owed = owed-by-run it its two (h .0 .0 e) (h .1 .0 e) t f in
+        let le : f .frontier ≤ blocks = omega (arith, f .low) in
+        so (unless-faulted (changing-tries (it .words) f (it .asked .bindings) le (orderIs (it .asked)) changing (t .there) (t .of-kind) (t .placed) owed) (d .1))
+        (λ u x. (x .0, bounded-by-run f (it .asked .bindings) (orderIs (it .asked)) changing owed (contextAfter (reached blocks its .context) (countOf (values blocks its)) (it .asked .bindings) (orderIs (it .asked))) le u (x .0) (x .1)));
+  }
+
+  -- the fresh state's variables lead to nothing
+  first-reaches : (peak : ℕ) → ReachesAtMost peak (stateAfter blocks [])
+  first-reaches peak =
+      subst (λ (k : ℕ). (count : ℕ) → ReachableCount (heapOf (start (fresh blocks .view)) .fields) (pointers (variables (extAt []) (start (fresh blocks .view)) 0 k)) count → count ≤ peak)
+      (sym (places-are [] 0 good-none)) (λ count k. omega (arith, nothing-led _ [] (λ b nz. refl) count k))
+
+  -- the states so far are the fresh one and those after the orders
+  every : (peak : ℕ) (its : List Item) → ReachesWithin blocks peak its → Every (ReachesAtMost peak) (stateAfter blocks its ∷ statesBefore blocks its)
+  every peak [] h = (first-reaches peak, tt)
+  every peak (it ∷ its) h = (h .0, by (isAccepted (reached blocks its) it && changes (orderIs (it .asked))) (every peak its (h .1)))
+    where
+      by : (q : Bool) → Every (ReachesAtMost peak) (stateAfter blocks its ∷ statesBefore blocks its) → Every (ReachesAtMost peak) (cond q (stateAfter blocks its ∷ statesBefore blocks its) (statesBefore blocks its))
+      by true e = e
+      by false e = e .1
 
 pub heap-stays-sound : HeapStaysSound
-unfolding HeapStaysSound
-heap-stays-sound blocks its h most w = record { sound = sound-channel blocks most its h w; ran-on = last-ran blocks most its h w; refused-kept = last-refused blocks most its }
+unfolding HeapStaysSound by-peak
+heap-stays-sound blocks peak its h enough most w = after blocks most (by-peak blocks most peak enough) its (h, w) (omega arith)
+
+pub heap-stays-sound-on-acquired : HeapStaysSoundOnAcquired
+unfolding HeapStaysSoundOnAcquired by-acquired
+heap-stays-sound-on-acquired blocks its h most w = after blocks most (by-acquired blocks most) its (h, w) h
+
+-- Lists whose runs met no fault: what is carried along them, an accepted order's step, what was owed it, and the heap after them.
+module _ (blocks : ℕ) where
+  pub unfaulted-before : {it : Item} {its : List Item} → Unfaulted blocks (it ∷ its) → Unfaulted blocks its
+  unfaulted-before u = record { two = u .two; most = u .most; no-fault = u .no-fault .1; loads = u .loads .1 }
+
+  carried-by-runs : (its : List Item) → Unfaulted blocks its → Carried blocks (suc blocks) (statesBefore blocks its) (reached blocks its) (values blocks its)
+  unfolding by-runs
+  carried-by-runs its u = carried blocks (u .most) (by-runs blocks (u .most) (u .two)) its (u .no-fault, u .loads)
+
+  pub stepped-by-runs : (it : Item) (its : List Item) → Unfaulted blocks (it ∷ its) → isAccepted (reached blocks its) it ≡ true → StepOn blocks (suc blocks) (suc blocks) it its
+  unfolding by-runs
+  stepped-by-runs it its u e = step blocks (u .most) (by-runs blocks (u .most) (u .two)) it its e (u .no-fault, u .loads) (carried-by-runs its (unfaulted-before u))
+
+  pub owed-by-runs : (it : Item) (its : List Item) → Unfaulted blocks (it ∷ its) → isAccepted (reached blocks its) it ≡ true → Owed (it .asked .bindings) (orderIs (it .asked)) (values blocks its)
+  owed-by-runs it its u e =
+      let f = carried-by-runs its (unfaulted-before u) in
+      owed-by-run blocks (u .most) it its (u .two) (u .no-fault .0 e) (u .loads .0 e) (taken (reached blocks its .context) (it .asked) (countOf (values blocks its)) (f .places) e) f
+
+  -- what they leave: the heap, with the frontier within it and one past the peak
+  pub record LeftByRuns (its : List Item) : Type 0 where
+    pub heap : HeapAfterList blocks its
+    pub within : heap .frontier ≤ blocks
+    pub peak : ℕ
+    pub is-peak : PeakOf blocks its peak
+    pub past-peak : heap .frontier ≡ suc peak
+    pub whole : reached blocks its .view .size ≡ 8 * blocks
+
+  pub left-by-runs : (its : List Item) → Unfaulted blocks its → LeftByRuns its
+  unfolding AbstractFrontierIsPeak by-runs
+  left-by-runs its u =
+      let f = carried-by-runs its u in
+      let s = heap-after blocks (u .most) (by-runs blocks (u .most) (u .two)) its f in
+      let p = abstract-frontier-is-peak objectSizes L (statesBefore blocks its) (stateAfter blocks its) (s .0 .frontier) refl (f .run) (s .0 .sound) in
+      record { heap = s .0; within = omega (arith, s .1); peak = p .0; is-peak = p .1; past-peak = p .2; whole = f .placed .words }
+
+-- a step on a heap of two blocks more than the peak
+pub stepped-by-peak : (blocks peak : ℕ) → blocks ≤ 1048576 → 2 + peak ≤ blocks → (it : Item) (its : List Item) → PeakWithin blocks peak (it ∷ its) → AllOwed blocks (it ∷ its) → isAccepted (reached blocks its) it ≡ true
+    → StepOn blocks blocks blocks it its
+unfolding by-peak
+stepped-by-peak blocks peak most enough it its h w e =
+    let g = by-peak blocks most peak enough in
+    step blocks most g it its e (h, w) (carried blocks most g its (h .1, w .1))
+
+pub frontier-is-peak : FrontierIsPeak
+unfolding FrontierIsPeak
+frontier-is-peak blocks its u = let s = left-by-runs blocks its u in (s .heap, s .peak, s .is-peak, s .past-peak)
+
+pub frontier-within-peak-of-lists : FrontierWithinPeakOfLists
+unfolding FrontierWithinPeakOfLists
+frontier-within-peak-of-lists blocks peak its u e =
+    let s = left-by-runs blocks its u in
+    (s .heap, omega (arith, s .past-peak, met-within (stateAfter blocks its ∷ statesBefore blocks its) (s .is-peak .met) (every blocks (u .most) peak its e)), s .within)

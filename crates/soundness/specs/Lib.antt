@@ -1,13 +1,17 @@
--- Demand 3. `Claims` and what it cites is all that the promise says; lemmas follow.
-pub mod Claims  -- the claim, and all that it says
+-- Demand 3, and how much heap to fit. `Claims`, `Peak`, `Counts` and what they cite is all that the promises say, and `Example` what it says of a list; lemmas beside them.
+pub mod Claims  -- demand 3, and all that it says
+pub mod Peak  -- the frontier against the most blocks reachable at once, and the heap to fit
 pub mod Ending  -- a tree that does something ends as a run of its records
 pub mod Appending  -- put and compute
 pub mod Copying  -- copy
 pub mod Dropping  -- drop and store
 pub mod Loading  -- load
+pub mod Rooms  -- the frontier within the heap, by runs that met no fault
 pub mod Carried  -- what the induction carries
 pub mod Changing  -- each order that changes something
 pub mod Stepping  -- one accepted order
-pub mod Induction  -- the claim, by induction over the list
+pub mod Induction  -- the claims, by induction over the list
+pub mod Fitting  -- a list on a heap of two blocks more than its peak on another
 pub mod Example  -- a list that meets the premises
+pub mod Fewest  -- a list on fewer blocks than it acquires, and one block too few
 pub mod Counts  -- the blocks counted on a sound channel's words

@@ -1,9 +1,10 @@
 -- One accepted order, on from a channel: its run ends within its records, and what the induction carries is carried on.
-use mathlib.Core.Bool.{Bool, true, cond}
+use mathlib.Core.Bool.{Bool, true, false, cond}
 use mathlib.Core.List.{List, [], _∷_, _++_}
+use mathlib.Core.Logic.{_≢_}
 use mathlib.Core.Path.{_≡_, refl, sym, _∙_, ap}
-use Prim.Native.Nat.{ℕ, suc, _+_, _*_, _≤_, _<_}
-use native.Mathlib.Nat.{zero-add}
+use Prim.Native.Nat.{ℕ, _+_, _*_, _≤_, _<_}
+use native.Mathlib.Nat.{add-zero}
 use native.Mathlib.Omega.{arith}
 use borrow.Author.Tests.{ltb-true}
 use Rattle.records.specs.Contexts.{extAt}
@@ -16,16 +17,21 @@ use Rattle.layout.specs.Config.{base}
 use Rattle.layout.specs.Positions.{location}
 use Rattle.printing.specs.Print.{printName}
 use Rattle.instructions.specs.Step.{Config}
-use Rattle.machine.specs.declared.run.Answer.the-variants.{Ended}
-use Rattle.machine.specs.Run.{Done, ran}
+use Rattle.machine.specs.declared.run.Answer.the-variants.{Ended, Fault}
+use Rattle.structured.specs.Evaluation.{Evaluated, done, faulted, evaluate}
+use Rattle.structured.specs.Claims.{Answers, TreeRunsWhole}
+use Rattle.structured.proofs.Trees.{tree-runs-whole}
+use Rattle.machine.specs.Run.{Done, ran, started}
+use Rattle.heap.specs.Claims.{Reaches}
 use Rattle.heap.specs.Orders.{State}
 use Rattle.heap.specs.Values.{Values, countOf}
 use Rattle.positions.specs.Held.{held, Placed}
 use Rattle.positions.specs.Runs.{Does}
 use Rattle.bridge.specs.Shown.{heapOf}
 use Rattle.bridge.specs.Variables.{variables}
+use Rattle.formed.specs.Bytes.{ran-started}
 use Rattle.formed.specs.Orders.{order-formed, order-size}
-use Rattle.contexts.specs.After.{OwedKinds, count-within, context-after}
+use Rattle.contexts.specs.After.{count-within, context-after}
 use Rattle.printed.proofs.Printing.{print-does}
 use Rattle.orders.specs.Plain.{plainly}
 use Rattle.orders.specs.Writes.{treeOf, contextAfter, present, kindsOk}
@@ -34,18 +40,9 @@ use Rattle.playing.specs.Playing.{Channel}
 use Rattle.soundness.specs.Claims.{Item, stateOf, Owed, acquires, callsOf, changes}
 use Rattle.playing.specs.Accepting.{Taken}
 use Rattle.soundness.specs.Ending.{start, heap-ok, Ends, ends}
-use Rattle.soundness.specs.Carried.{Carried, carried-on, carried-same}
-use Rattle.soundness.specs.Changing.{integer-held, changing-does}
-
--- what is owed of kinds alone
-owed-kinds : (bindings : List ℕ) (o : Order) (vs : Values) → Owed bindings o vs → OwedKinds bindings o vs
-owed-kinds bindings (Put value) vs w = tt
-owed-kinds bindings (Compute operation a b) vs w = tt
-owed-kinds bindings (Copy a n) vs w = tt
-owed-kinds bindings Drop vs w = tt
-owed-kinds bindings (Store n tag) vs w = tt
-owed-kinds bindings (Load n) vs w = w
-owed-kinds bindings (Print newline a) vs w = tt
+use Rattle.soundness.specs.Carried.{Carried, abstractly, BoundedAfter, reaches-on, carried-on, state-same, carried-same}
+use Rattle.soundness.specs.Changing.{integer-held}
+use Rattle.soundness.specs.Appending.{Performed}
 
 no-calls : (o : Order) (vs : Values) → changes o ≡ true → callsOf o vs ≡ []
 no-calls (Put value) vs e = refl
@@ -61,42 +58,82 @@ abbrev pub pastOf : Order → State → List State → List State
 pastOf o s past = cond (changes o) (s ∷ past) past
 
 -- where the context has k variables: an order's run, and what holds after it
-module _ (blocks acquired : ℕ) (past : List State) (ch : Channel) (vs : Values) (it : Item) where
-  abbrev O : Order
+module _ (blocks bound bound′ : ℕ) (past : List State) (ch : Channel) (vs : Values) (it : Item) where
+  abbrev pub O : Order
   O = orderIs (it .asked)
 
-  abbrev treeAt : ℕ → Tree
+  abbrev pub treeAt : ℕ → Tree
   treeAt k = treeOf base (ch .context) k (it .asked .bindings) O
 
-  abbrev runAt : ℕ → Done
+  abbrev pub runAt : ℕ → Done
   runAt k = ran (it .words) (joined codeBytes (flat (treeAt k) (it .asked .counter))) (size (treeAt k)) (ch .view)
+
+  -- the channel with its context, where its run has left a configuration
+  abbrev pub leftBy : ℕ → Config → Channel
+  leftBy k d = record { context = contextAfter (ch .context) k (it .asked .bindings) O; view = d .state }
 
   pub record SteppedAt (k : ℕ) : Type 0 where
     pub steps : ℕ
     pub within : steps ≤ size (treeAt k)
     pub ended : runAt k .answer ≡ Ended steps
     pub calls : runAt k .last .calls ≡ callsOf O vs
-    pub carried : Carried blocks (acquires O + acquired) (pastOf O (stateOf ch vs) past) (record { context = contextAfter (ch .context) k (it .asked .bindings) O; view = runAt k .last .state }) (plainly O vs)
+    pub carried : Carried blocks bound′ (pastOf O (stateOf ch vs) past) (leftBy k (runAt k .last)) (plainly O vs)
+    -- what the tree has done is what the run has left
+    pub to : Config
+    pub tree : evaluate (it .words) (treeAt k) (start (ch .view)) ≡ done to
+    pub left : runAt k .last ≡ to
+    -- a store leaves the variables with the blocks before it and those it acquires; an order that changes nothing leaves the state
+    pub reaches : acquires O ≢ 0 → (n m : ℕ) → Reaches n (stateOf ch vs) → Reaches m (stateOf (leftBy k to) (plainly O vs)) → m ≡ n + acquires O
+    pub kept : changes O ≡ false → stateOf (leftBy k to) (plainly O vs) ≡ stateOf ch vs
 
-  module _ (f : Carried blocks acquired past ch vs) (w : Taken (ch .context) (it .asked) (countOf vs)) (owed : Owed (it .asked .bindings) O vs) (room : suc (acquires O + acquired) < blocks) where
+  -- how an order that changes something is known to do so, with the frontier below the bound after it
+  abbrev pub Way : Type 0
+  Way =
+      changes O ≡ true → Does (it .words) (treeAt (countOf vs)) (start (ch .view))
+      (λ d. Performed blocks (start (ch .view)) (abstractly O vs) (extAt (ch .context)) (extAt (contextAfter (ch .context) (countOf vs) (it .asked .bindings) O)) (countOf vs) (countOf (plainly O vs)) d
+      × BoundedAfter vs O (contextAfter (ch .context) (countOf vs) (it .asked .bindings) O) bound′ d)
+
+  module _ (f : Carried blocks bound past ch vs) (w : Taken (ch .context) (it .asked) (countOf vs)) (two : 2 ≤ blocks) where
+    -- the tree does not fault, where its records' run does not
+    pub not-faulted : ((steps place : ℕ) → runAt (countOf vs) .answer ≢ Fault steps place) → (d : Config) × (evaluate (it .words) (treeAt (countOf vs)) (start (ch .view)) ≡ done d)
+    unfolding TreeRunsWhole
+    not-faulted n = by (evaluate (it .words) (treeAt (countOf vs)) (start (ch .view))) (tree-runs-whole (it .words) (treeAt (countOf vs)) (it .asked .counter) 0 (ch .view))
+      where
+        whole : (k : ℕ) → runAt (countOf vs) ≡ started (it .words) (flat (treeAt (countOf vs)) (it .asked .counter)) (size (treeAt (countOf vs)) + 0) (ch .view)
+        whole k =
+            ran-started (it .words) (treeAt (countOf vs)) (it .asked .counter) (size (treeAt (countOf vs))) (ch .view)
+            (order-formed (ch .context) (countOf vs) (it .asked .bindings) O (order-well-formed (it .asked .order) (w .starts) (it .order-bytes))) (w .labelled)
+            (order-size (ch .context) (countOf vs) (it .asked .bindings) O (w .there) (w .placed)) (heap-ok blocks (ch .view) (f .placed) two)
+            ∙ ap (λ (m : ℕ). started (it .words) (flat (treeAt (countOf vs)) (it .asked .counter)) m (ch .view)) (sym (add-zero (size (treeAt (countOf vs)))))
+
+        by : (o : Evaluated) → Answers (size (treeAt (countOf vs))) (started (it .words) (flat (treeAt (countOf vs)) (it .asked .counter)) (size (treeAt (countOf vs)) + 0) (ch .view)) o → (d : Config) × (o ≡ done d)
+        by (done d) a = (d, refl)
+        by (faulted d) a = absurd (n (a .0) (a .1) (ap (λ (d : Done). d .answer) (whole 0 ∙ a .5)))
+
+  module _ (f : Carried blocks bound past ch vs) (w : Taken (ch .context) (it .asked) (countOf vs)) (owed : Owed (it .asked .bindings) O vs) (grows : bound ≤ bound′) (two : 2 ≤ blocks) (way : Way) where
     -- the tree's run, from what the tree does
     ended-by : {Q : Config → Type 0} → Does (it .words) (treeAt (countOf vs)) (start (ch .view)) Q → Ends (it .words) (treeAt (countOf vs)) (it .asked .counter) (ch .view) Q
     ended-by d =
         ends (it .asked .counter) (order-formed (ch .context) (countOf vs) (it .asked .bindings) O (order-well-formed (it .asked .order) (w .starts) (it .order-bytes))) (w .labelled)
-        (order-size (ch .context) (countOf vs) (it .asked .bindings) O (w .there) (w .placed)) (heap-ok blocks (ch .view) (f .placed) (omega arith)) d
+        (order-size (ch .context) (countOf vs) (it .asked .bindings) O (w .there) (w .placed)) (heap-ok blocks (ch .view) (f .placed) two) d
 
     changed : changes O ≡ true → SteppedAt (countOf vs)
     changed e =
-        let r = ended-by (changing-does (it .words) f (it .asked .bindings) (omega arith) O e (w .there) (w .of-kind) (w .placed) owed room) in
-        let o = owed-kinds (it .asked .bindings) O vs owed in
+        let r = ended-by (way e) in
+        let o = owed .0 in
         let c = context-after (ch .context) (it .asked .bindings) (countOf vs) vs refl (f .places) (f .kinds) O (w .bindings-good) (w .there) (w .placed) o in
         let n = count-within (ch .context) (it .asked .bindings) (countOf vs) vs refl 133 O (omega arith) (f .few) (w .there) (w .placed) o in
         record {
           steps = r .steps;
           within = r .within;
           ended = ap (λ (d : Done). d .answer) (r .run);
-          calls = ap (λ (d : Done). d .last .calls) (r .run) ∙ r .post .quiet ∙ sym (no-calls O vs e);
-          carried = rw (e, r .run) (carried-on f (it .asked .bindings) O e owed (contextAfter (ch .context) (countOf vs) (it .asked .bindings) O) (c .0) (c .1) n (r .last) (r .post));
+          calls = ap (λ (d : Done). d .last .calls) (r .run) ∙ r .post .0 .quiet ∙ sym (no-calls O vs e);
+          carried = rw (e, r .run) (carried-on f (it .asked .bindings) O e owed (contextAfter (ch .context) (countOf vs) (it .asked .bindings) O) bound′ (c .0) (c .1) n (r .last) (r .post .0) (r .post .1));
+          to = r .last;
+          tree = r .tree;
+          left = ap (λ (d : Done). d .last) (r .run);
+          reaches = reaches-on f (it .asked .bindings) O e owed (contextAfter (ch .context) (countOf vs) (it .asked .bindings) O) (c .0) (r .last) (r .post .0);
+          kept = λ z. let x : _≡_ {A = ℕ} 0 1 = cc in absurd (omega arith);
         }
 
     abbrev Prints : Bool → ℕ → Config → Type 0
@@ -118,7 +155,12 @@ module _ (blocks acquired : ℕ) (past : List State) (ch : Channel) (vs : Values
           within = r .within;
           ended = ap (λ (d : Done). d .answer) (r .run);
           calls = ap (λ (d : Done). d .last .calls) (r .run) ∙ q .3 ∙ rw (e, integer-held (it .words) f (it .asked .bindings) a h x);
-          carried = rw (r .run, e, zero-add acquired) (carried-same f (r .last) (q .0) (q .1) (q .2));
+          carried = rw (r .run, e) (carried-same f bound′ grows (r .last) (q .0) (q .1) (q .2));
+          to = r .last;
+          tree = r .tree;
+          left = ap (λ (d : Done). d .last) (r .run);
+          reaches = λ z. absurd (z (rw e));
+          kept = λ z. rw e (state-same f bound′ grows (r .last) (q .0) (q .1));
         }
 
     pub stepped : SteppedAt (countOf vs)

@@ -1,18 +1,52 @@
-// Demand 3: the heap stays sound for every list of orders. The claim is in specs/Claims.antt; its proof cites the theorem.
-ghost use Rattle.soundness.specs.Claims.{HeapStaysSound};
-ghost use Rattle.soundness.specs.Counts.{CountsAreTrue};
+// Demand 3: the heap stays sound for every list of orders; and how much heap to fit. The claims are in specs/Claims.antt and specs/Peak.antt; their proofs cite the theorems.
+ghost use Rattle.soundness.specs.Claims.{HeapStaysSound, HeapStaysSoundOnAcquired};
+ghost use Rattle.soundness.specs.Peak.{FrontierWithinPeakOfLists, FrontierIsPeak, PeakIsEnough, OneFewerIsTooFew};
+ghost use Rattle.soundness.specs.Counts.{CountsAreTrue, FitIsForPeak};
 ghost use Rattle.soundness.specs.Example.{WorkedListIsSound};
+ghost use Rattle.soundness.specs.Fewest.{SeasonIsSound};
 
 pub fn heap_stays_sound()
     ensures { λ r. ⌜ HeapStaysSound ⌝ }
 {}
 
-// that it speaks of something
+// by the blocks that are acquired, whatever is reachable
+pub fn heap_stays_sound_on_acquired()
+    ensures { λ r. ⌜ HeapStaysSoundOnAcquired ⌝ }
+{}
+
+// by runs that met no fault, on however many blocks
+pub fn frontier_within_peak_of_lists()
+    ensures { λ r. ⌜ FrontierWithinPeakOfLists ⌝ }
+{}
+
+pub fn frontier_is_peak()
+    ensures { λ r. ⌜ FrontierIsPeak ⌝ }
+{}
+
+// on another heap, of two blocks more than that peak
+pub fn peak_is_enough()
+    ensures { λ r. ⌜ PeakIsEnough ⌝ }
+{}
+
+pub fn one_fewer_is_too_few()
+    ensures { λ r. ⌜ OneFewerIsTooFew ⌝ }
+{}
+
+// that they speak of something
 pub fn worked_list_is_sound()
     ensures { λ r. ⌜ WorkedListIsSound ⌝ }
 {}
 
-// what `playing::blocks::count_blocks` counts of it
+pub fn season_is_sound()
+    ensures { λ r. ⌜ SeasonIsSound ⌝ }
+{}
+
+// what `chains::count_blocks` counts of it
 pub fn counts_are_true()
     ensures { λ r. ⌜ CountsAreTrue ⌝ }
+{}
+
+// what `chains::to_fit` tells
+pub fn fit_is_for_peak()
+    ensures { λ r. ⌜ FitIsForPeak ⌝ }
 {}

@@ -1,0 +1,33 @@
+use Prim.Native.Nat.{_+_}
+use mathlib.Core.Path.{_≡_, ap}
+use borrow.Author.Needs.{needs}
+use native.Mathlib.Omega.{arith}
+use Rattle.instructions.specs.View.{wordsOf}
+use Rattle.heap.specs.Words.{headers}
+use Prim.Native.Nat.{_-_}
+use Rattle.chains.specs.Blocks.{listLength}
+use Rattle.chains.specs.Walks.{list-ends, list-goes, list-stays}
+use Rattle.chains.proofs.walk_list.Statement.{statement}
+use Rattle.chains.proofs.walk_list.Tie as tie
+
+abbrev Inv-loop : tie.InvT-loop
+Inv-loop heap most first b₀ left₀ passed₀ b left passed =
+    (passed + left ≡ most) × (passed + listLength (headers 3 (wordsOf heap)) left b ≡ listLength (headers 3 (wordsOf heap)) most first)
+
+abbrev μ-loop : tie.MeasureT-loop
+μ-loop heap most first b₀ left₀ passed₀ b left passed = left
+
+pub walk-list-spec : {M : Type 1} → statement M
+walk-list-spec =
+    tie.close
+    (tie.spec
+    Inv-loop
+    μ-loop
+    (λ c. (omega arith, omega arith))
+    (λ c. let l = c .before .before .loop in omega (arith, l .inv .1, list-ends (headers 3 (wordsOf (c .before .before .before .before .args .heap .now))) (l .left) (l .b) (c .if1 .taken)))
+    (λ c κs. search needs)
+    (λ c. omega arith)
+    (λ c. omega arith)
+    (λ c. omega arith)
+    (λ c. let h = headers 3 (wordsOf (c .before .before .before .before .before .args .heap .now)) in let l = c .before .before .before .loop in (omega (arith, l .inv .0), omega (arith, l .inv .1, list-goes h (l .left) (l .b) (c .before .before .loop-test .taken) (c .before .if1 .left), ap (listLength h (l .left - 1)) (c .first-word .ensures))))
+    (λ c. let l = c .before .loop in omega (arith, l .inv .1, list-stays (headers 3 (wordsOf (c .before .before .before .args .heap .now))) (l .left) (l .b) (c .loop-test .left))))

@@ -1,0 +1,130 @@
+// The lent heap's two free lists, followed by the first words of their blocks: the blocks counted, and how many to fit.
+ghost use mathlib.Core.Path.{_≡_};
+ghost use Prim.Native.Nat.{_/_};
+ghost use lib.ListN.{length};
+ghost use Rattle.layout.specs.Config.{HEAP, FREE};
+ghost use Rattle.instructions.specs.View.{wordsOf};
+ghost use Rattle.heap.specs.Words.{numberOf, headers};
+ghost use Rattle.chains.specs.Blocks.{listLength, chainLength, chainEnd, counted, fitIn};
+
+// Blocks on HEAP's list, on FREE's chain, held, and never used.
+pub struct Blocks {
+    pub linear: u64,
+    pub lazy: u64,
+    pub held: u64,
+    pub untouched: u64,
+}
+
+// The most blocks that were reachable at once, and the heap to fit for it.
+pub struct Fit {
+    pub peak: u64,
+    pub blocks: u64,
+    pub bytes: u64,
+}
+
+// A chain's blocks, and the block that ends it.
+struct Walked {
+    length: u64,
+    end: u64,
+}
+
+// The number of the block at an address.
+fn number_of(b: u64) -> u64
+    ensures { λ r. ⌜ r ≡ numberOf 3 b ⌝ }
+{
+    if b < 65536 { 0 } else { (b - 65536) / 8 / 8 }
+}
+
+// The first word of the block at an address, 0 where none begins.
+fn first_word(heap: &[u64], b: u64) -> u64
+    ensures { λ r. ⌜ r ≡ headers 3 (wordsOf (now (heap .entry))) b ⌝ }
+{
+    let number = number_of(b);
+    if b < 65536 {
+        return 0;
+    }
+    if (b - 65536) % 64 == 0 {} else {
+        return 0;
+    }
+    let at = 8 * number;
+    if at < (heap.len() as u64) {
+        heap[at as usize]
+    } else {
+        0
+    }
+}
+
+// The blocks of a list that ends in 0, at most `most`.
+fn walk_list(heap: &[u64], most: u64, first: u64) -> u64
+    ensures { λ r. ⌜ r ≡ listLength (headers 3 (wordsOf (now (heap .entry)))) most first ⌝ }
+{
+    let mut b = first;
+    let mut left = most;
+    let mut passed = 0;
+    while 0 < left {
+        if b == 0 {
+            return passed;
+        }
+        b = first_word(heap, b);
+        left -= 1;
+        passed += 1;
+    }
+    passed
+}
+
+// The blocks of a chain before the first whose first word is 0, at most `most`.
+fn walk_chain(heap: &[u64], most: u64, first: u64) -> Walked
+    ensures { λ r. ⌜ (r .length ≡ chainLength (headers 3 (wordsOf (now (heap .entry)))) most first) × (r .end ≡ chainEnd (headers 3 (wordsOf (now (heap .entry)))) most first) ⌝ }
+{
+    let mut b = first;
+    let mut left = most;
+    let mut passed = 0;
+    while 0 < left {
+        let next = first_word(heap, b);
+        if next == 0 {
+            return Walked {
+                length: passed,
+                end: b,
+            };
+        }
+        b = next;
+        left -= 1;
+        passed += 1;
+    }
+    Walked {
+        length: passed,
+        end: b,
+    }
+}
+
+pub fn count_blocks(registers: &[u64; 16], heap: &[u64]) -> Blocks
+    ensures { λ r. ⌜ r ≡ counted (length (now (heap .entry)) / 8) (wordsOf (now (heap .entry))) (wordsOf (now (registers .entry)) HEAP) (wordsOf (now (registers .entry)) FREE) ⌝ }
+{
+    let all = (heap.len() / 8) as u64;
+    let linear = walk_list(heap, all, registers[2]);
+    let lazy = walk_chain(heap, all, registers[3]);
+    let frontier = number_of(lazy.end);
+    let used = layout::utils::less(frontier, linear);
+    Blocks {
+        linear,
+        lazy: lazy.length,
+        held: layout::utils::less(used, lazy.length),
+        untouched: layout::utils::less(all, frontier),
+    }
+}
+
+// What to fit for the orders so far, by where the frontier is.
+pub fn to_fit(registers: &[u64; 16], heap: &[u64]) -> Fit
+    ensures { λ r. ⌜ r ≡ fitIn 3 (length (now (heap .entry)) / 8) (wordsOf (now (heap .entry))) (wordsOf (now (registers .entry)) FREE) ⌝ }
+{
+    let all = (heap.len() / 8) as u64;
+    let lazy = walk_chain(heap, all, registers[3]);
+    let frontier = number_of(lazy.end);
+    let peak = layout::utils::less(frontier, 1);
+    let blocks = peak + 2;
+    Fit {
+        peak,
+        blocks,
+        bytes: 64 * blocks,
+    }
+}

@@ -1,0 +1,61 @@
+-- How much heap to fit: the frontier against the most blocks that the variables led to at once, by runs that met no fault on however many blocks there are.
+-- The frontier is the number of blocks below it. The lists, the states and the heap after a list are those of demand 3's claim.
+use Prim.Native.Nat.{ℕ, suc, _+_, _≤_}
+use mathlib.Core.Path.{_≡_}
+use mathlib.Core.Logic.{_≢_}
+use mathlib.Core.Bool.{true}
+use mathlib.Core.List.{List, [], _∷_}
+use Rattle.machine.specs.declared.run.Answer.the-variants.{Fault}
+use Rattle.heap.specs.WordLemmas.{layout}
+use Rattle.heap.specs.Claims.{HeapAfter, ReachesAtMost, Peak}
+use Rattle.bridge.specs.Sizes.{objectSizes}
+use Rattle.orders.specs.Answered.{orderIs}
+use Rattle.orders.specs.Plain.{OwedKinds}
+use Rattle.soundness.specs.Claims.{Item, isAccepted, runOf, reached, values, stateAfter, AllOwed, PeakWithin, statesBefore, After}
+
+module _ (blocks : ℕ) where
+  -- no accepted order's run has met a fault
+  abbrev pub NoFault : List Item → Type 0
+  NoFault [] = Unit {0}
+  NoFault (it ∷ its) = (isAccepted (reached blocks its) it ≡ true → (steps place : ℕ) → runOf (reached blocks its) it .answer ≢ Fault steps place) × NoFault its
+
+  -- each accepted load names the kinds that its object was stored with
+  abbrev pub LoadsOwed : List Item → Type 0
+  LoadsOwed [] = Unit {0}
+  LoadsOwed (it ∷ its) = (isAccepted (reached blocks its) it ≡ true → OwedKinds (it .asked .bindings) (orderIs (it .asked)) (values blocks its)) × LoadsOwed its
+
+  -- after any one order so far the variables lead to at most so many blocks
+  abbrev pub ReachesWithin : ℕ → List Item → Type 0
+  ReachesWithin peak [] = Unit {0}
+  ReachesWithin peak (it ∷ its) = ReachesAtMost peak (stateAfter blocks (it ∷ its)) × ReachesWithin peak its
+
+  -- the heap after a list, as demand 3 has it
+  abbrev pub HeapAfterList : List Item → Type 0
+  HeapAfterList its = HeapAfter objectSizes (layout 3) (statesBefore blocks its) (stateAfter blocks its)
+
+  -- the most blocks that the variables led to in any state so far, the fresh one's none among them
+  abbrev pub PeakOf : List Item → ℕ → Type 0
+  PeakOf its peak = Peak peak (stateAfter blocks its ∷ statesBefore blocks its)
+
+  -- a list whose runs met no fault, each load naming its kinds, on a heap that the machine takes
+  pub record Unfaulted (its : List Item) : Type 0 where
+    pub two : 2 ≤ blocks
+    pub most : blocks ≤ 1048576
+    pub no-fault : NoFault its
+    pub loads : LoadsOwed its
+
+-- the blocks below the frontier are at most one more than the most reachable after any one order so far
+unfoldable pub FrontierWithinPeakOfLists : Type 0
+FrontierWithinPeakOfLists = (blocks peak : ℕ) (its : List Item) → Unfaulted blocks its → ReachesWithin blocks peak its → (h : HeapAfterList blocks its) × (h .frontier ≤ suc peak) × (h .frontier ≤ blocks)
+
+-- and just one more than that number
+unfoldable pub FrontierIsPeak : Type 0
+FrontierIsPeak = (blocks : ℕ) (its : List Item) → Unfaulted blocks its → (h : HeapAfterList blocks its) × (peak : ℕ) × PeakOf blocks its peak × (h .frontier ≡ suc peak)
+
+-- A list that met no fault on some heap stays sound on every heap of two blocks more than its peak there, and holds the same values.
+unfoldable pub PeakIsEnough : Type 0
+PeakIsEnough = (blocks peak fitted : ℕ) (its : List Item) → Unfaulted blocks its → PeakOf blocks its peak → 2 + peak ≤ fitted → fitted ≤ 1048576 → After fitted its × (values fitted its ≡ values blocks its)
+
+-- One block fewer is too few: the heap statement on one block more than the peak is refuted.
+unfoldable pub OneFewerIsTooFew : Type 0
+OneFewerIsTooFew = ((blocks peak : ℕ) (its : List Item) → PeakWithin blocks peak its → 2 ≤ blocks → 1 + peak ≤ blocks → blocks ≤ 1048576 → AllOwed blocks its → After blocks its) → ⊥
