@@ -1,0 +1,203 @@
+// Plays lists of order records of any length, from standard input or from the files named, each on a fresh channel beside 65,536 blocks, and prints the most
+// blocks that were reachable at once and the heap to fit for it. A run that does not end is told instead.
+ghost use Prim.Native.Nat.{_-_, _≤_};
+ghost use lib.ListN.{length};
+use libc::STDIN_FILENO;
+use libc::STDOUT_FILENO;
+use orders::answer::Answer;
+use playing::channel::Channel;
+
+// What print calls leave in registers: nothing depends on it.
+const LEFT: u64 = 0x5A5A5A5A5A5A5A5A;
+
+// How many orders were accepted and refused, whether the list goes on, whether a run did not end, and the channel.
+struct Going {
+    accepted: u64,
+    refused: u64,
+    on: bool,
+    stopped: bool,
+    channel: Channel,
+}
+
+fn start() -> Going {
+    let channel = playing::channel::fresh();
+    Going {
+        accepted: 0,
+        refused: 0,
+        on: true,
+        stopped: false,
+        channel,
+    }
+}
+
+fn show(text: &[u8], size: usize) {
+    if size <= text.len() {
+        io::write_all(STDOUT_FILENO, &text[..size]);
+    }
+}
+
+// The line of a run that did not end, and whether there is one.
+fn tell_stop(number: u64, order: &[u8], ran: machine::run::Answer) -> bool {
+    let mut line = [0u8; 256];
+    let size = reporting::stops::put_stop(&mut line, 0, number, order, ran);
+    show(&line, size);
+    0 < size
+}
+
+// One order with its bindings. Each is given the counter 0, so that labels never run out.
+fn item(order: &[u8], bindings: &[u8], heap: &mut [u64], records: &mut [u8], g: Going) -> Going {
+    let before = g.channel;
+    let played = playing::channel::play(before, heap, records, 0, order, bindings, [LEFT; 9]);
+    let answer = played.answer;
+    let ran = played.ran;
+    let channel = played.channel;
+    let Answer::Accepted(_, _, _) = answer else {
+        return Going {
+            accepted: g.accepted,
+            refused: word::sum(g.refused, 1),
+            on: true,
+            stopped: false,
+            channel,
+        };
+    };
+    let accepted = word::sum(g.accepted, 1);
+    let stopped = tell_stop(word::sum(accepted, g.refused), order, ran);
+    Going {
+        accepted,
+        refused: g.refused,
+        on: !stopped,
+        stopped,
+        channel,
+    }
+}
+
+fn least(a: usize, b: usize) -> usize
+    ensures { λ r. ⌜ r ≤ a ⌝ }
+    ensures { λ r. ⌜ r ≤ b ⌝ }
+{
+    if a < b { a } else { b }
+}
+
+// At most so many bytes of the file, as far as there is space: how many were read.
+fn read_some(file: i32, space: &mut [u8], bytes: usize) -> usize
+    ensures { λ r. ⌜ r ≤ bytes ⌝ }
+    ensures { λ r. ⌜ r ≤ length (now (space .entry)) ⌝ }
+{
+    let size = least(bytes, space.len());
+    io::read_full(file, &mut space[..size])
+}
+
+// Some of the bytes left are read over: how many are left then, none where the file ends.
+fn pass(file: i32, space: &mut [u8], left: usize) -> usize
+    ensures { λ r. ⌜ r ≤ left - 1 ⌝ }
+{
+    let n = read_some(file, space, left);
+    if n == 0 {
+        return 0;
+    }
+    left - n
+}
+
+// Bindings past those that any order takes.
+fn skip(file: i32, space: &mut [u8], bytes: usize) {
+    let mut left = bytes;
+    while 0 < left {
+        left = pass(file, space, left);
+    }
+}
+
+// The next order of the file, if there is one, and the bindings that follow it.
+fn turn(file: i32, heap: &mut [u64], records: &mut [u8], bindings: &mut [u8], g: Going) -> Going {
+    let mut order = [0u8; 24];
+    let n = io::read_full(file, &mut order);
+    if n == 0 {
+        let channel = g.channel;
+        return Going {
+            accepted: g.accepted,
+            refused: g.refused,
+            on: false,
+            stopped: false,
+            channel,
+        };
+    }
+    let bytes = playing::list::bytes_after(records::order::read_order(&order[..n]));
+    let m = read_some(file, bindings, bytes);
+    let next = item(&order[..n], &bindings[..m], heap, records, g);
+    skip(file, bindings, bytes - m);
+    next
+}
+
+// All orders of a file, up to a run that does not end.
+fn play(file: i32, heap: &mut [u64], records: &mut [u8], bindings: &mut [u8]) -> Going {
+    let mut g = start();
+    let mut left = 0xFFFFFFFFFFFFFFFFu64;
+    while 0 < left {
+        if g.on {} else {
+            return g;
+        }
+        g = turn(file, heap, records, bindings, g);
+        left -= 1;
+    }
+    g
+}
+
+fn show_fit(g: Going, heap: &[u64]) {
+    let channel = g.channel;
+    let state = channel.state;
+    let registers = state.registers;
+    let fit = chains::to_fit(&registers, heap);
+    let mut lines = [0u8; 256];
+    let size = reporting::put_fit(
+        &mut lines,
+        0,
+        g.accepted,
+        g.refused,
+        fit.peak,
+        fit.blocks,
+        fit.bytes,
+    );
+    show(&lines, size);
+}
+
+// A file's list on a channel of its own: the records of the largest order, and one binding more than any order takes.
+fn size_from(file: i32) {
+    let mut heap = [0u64; 524288];
+    let mut records = [0u8; 102624];
+    let mut bindings = [0u8; 32776];
+    let g = play(file, &mut heap, &mut records, &mut bindings);
+    if g.stopped {
+        return;
+    }
+    show_fit(g, &heap);
+}
+
+fn size_of(name: &[u8]) {
+    let file = os::open_read(name);
+    if file < 0 {
+        os::fail(name);
+        return;
+    }
+    io::write_all(STDOUT_FILENO, name);
+    io::write_all(STDOUT_FILENO, b"\n");
+    size_from(file);
+    libc::close(file);
+}
+
+fn size_argument(i: usize) {
+    let mut name = io::buffer();
+    let n = os::arg(i, &mut name);
+    size_of(&name[..n]);
+}
+
+fn main() {
+    let count = os::arg_count();
+    if count <= 1 {
+        size_from(STDIN_FILENO);
+        return;
+    }
+    let mut i = 1;
+    while i < count {
+        size_argument(i);
+        i += 1;
+    }
+}
