@@ -1,7 +1,7 @@
 /*
  * AxCut's x86-64 back end, proved: the functions of libport.a (`rt staticlib port`), for C99 and C++.
  *
- * Numbers. Every function but axcut_start answers 0 (AXCUT_OK) where its input is accepted, else the number of the cause
+ * Numbers. Every function but axcut_start and axcut_blocks answers 0 (AXCUT_OK) where its input is accepted, else the number of the cause
  * (AXCUT_CONTEXT to AXCUT_LIMIT). Causes are checked in rising order, so the lowest number that holds is answered. A refusal
  * leaves every buffer and the label counter as they were; only the words that tell about it are set (`place`, `value`, `count`,
  * `steps`). The exceptions are AXCUT_FAULT and AXCUT_LIMIT of axcut_run, which leave the state that the steps done reached.
@@ -182,6 +182,23 @@ void axcut_start(bool fresh, uint64_t *registers /* 16 */, uint64_t *stack /* 32
  */
 uint64_t axcut_run(const uint8_t *records, size_t length, uint64_t *registers /* 16 */, uint64_t *stack /* 320 */, uint64_t *heap,
                    size_t heap_words, const uint64_t *words /* 9 */, uint64_t limit, uint64_t *steps, uint64_t *place);
+
+/* Counts of axcut_blocks, by their place. */
+enum {
+    AXCUT_BLOCKS_LINEAR = 0,    /* on HEAP's list */
+    AXCUT_BLOCKS_LAZY = 1,      /* lazily freed, on FREE's list */
+    AXCUT_BLOCKS_HELD = 2,
+    AXCUT_BLOCKS_UNTOUCHED = 3, /* never used: the frontier and those after it */
+    AXCUT_BLOCKS_PEAK = 4,      /* the most that were reachable from the variables after any one order so far */
+    AXCUT_BLOCKS_COUNTS = 5,
+    AXCUT_SPARE_BLOCKS = 2      /* with so many more than the peak a heap is enough for the same orders */
+};
+
+/*
+ * Counts the blocks of a heap of `heap_words` words between two orders of a channel whose runs all ended. Other words give
+ * numbers without that meaning.
+ */
+void axcut_blocks(const uint64_t *registers /* 16 */, const uint64_t *heap, size_t heap_words, uint64_t *counts /* 5 */);
 
 /* Operations of axcut_operation, and which of its arguments each takes: x first, y second, z third, l label, i immediate. */
 enum {

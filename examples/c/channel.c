@@ -9,7 +9,7 @@
 #include <stdlib.h>
 #include <string.h>
 
-enum { BLOCKS = 3 }; /* 2, and the one that the store acquires */
+enum { BLOCKS = 3 }; /* 2, and the one that is reachable at once */
 
 /* All that a channel has: the caller owns it, the library is lent it. */
 struct channel {
@@ -168,6 +168,15 @@ static void show_variables(const struct channel *channel)
     }
 }
 
+/* The heap that these orders want. */
+static void show_heap(const struct channel *channel)
+{
+    uint64_t counts[AXCUT_BLOCKS_COUNTS];
+    axcut_blocks(channel->registers, channel->heap, BLOCKS * AXCUT_BLOCK_WORDS, counts);
+    printf("heap: %d blocks, %" PRIu64 " reachable at once, %" PRIu64 " to fit\n", BLOCKS, counts[AXCUT_BLOCKS_PEAK],
+           counts[AXCUT_BLOCKS_PEAK] + AXCUT_SPARE_BLOCKS);
+}
+
 int main(void)
 {
     static struct channel channel; /* zeroes: so the heap and the context start */
@@ -177,5 +186,6 @@ int main(void)
         play(&channel, &orders[i]);
     }
     show_variables(&channel);
+    show_heap(&channel);
     return EXIT_SUCCESS;
 }

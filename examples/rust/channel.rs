@@ -86,5 +86,9 @@ fn main() -> Result<(), Refusal> {
             Variable::Integer(integer) => println!("variable {place}: {integer}"),
         }
     }
+    if let Some(blocks) = channel.blocks() {
+        let (peak, fit) = (blocks.peak, blocks.to_fit());
+        println!("heap: {BLOCKS} blocks, {peak} reachable at once, {fit} to fit");
+    }
     Ok(())
 }

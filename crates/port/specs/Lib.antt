@@ -4,3 +4,4 @@ pub mod Check  -- the checks by number
 pub mod Emission  -- what the operations answer
 pub mod Query  -- the queries by number
 pub mod Order  -- what an order answers
+pub mod Blocks  -- the blocks counted

@@ -8,6 +8,10 @@ ghost use Rattle.instructions.specs.View.{view, wordsOf};
 ghost use Rattle.machine.specs.Run.{ran};
 ghost use Rattle.numbered.specs.Numbers.{numberIn, valueIn};
 ghost use Rattle.numbered.specs.List.{listedNumbers};
+ghost use Prim.Native.Nat.{_/_};
+ghost use Rattle.layout.specs.Config.{HEAP, FREE};
+ghost use Rattle.chains.specs.Blocks.{counted, fitIn};
+ghost use Rattle.port.specs.Blocks.{blockNumbers};
 ghost use Rattle.port.specs.Run.{startState, Gives};
 
 pub mod check; // bytes checked: a context, instruction records, an order
@@ -79,4 +83,20 @@ pub extern "C" fn axcut_run(
     *stack = below;
     let answer = ran.answer;
     numbered::run::told(answer, steps, place)
+}
+
+// The blocks of a channel's heap between two runs, counted, and the most that were reachable at once.
+#[no_mangle]
+pub extern "C" fn axcut_blocks(registers: &[u64; 16], heap: &[u64], counts: &mut [u64; 5])
+    ensures { λ r. ⌜ now (counts .exit) ≡ blockNumbers (counted (length (now (heap .entry)) / 8) (wordsOf (now (heap .entry))) (wordsOf (now (registers .entry)) HEAP) (wordsOf (now (registers .entry)) FREE)) (fitIn 3 (length (now (heap .entry)) / 8) (wordsOf (now (heap .entry))) (wordsOf (now (registers .entry)) FREE)) ⌝ }
+{
+    let blocks = chains::count_blocks(registers, heap);
+    let fit = chains::to_fit(registers, heap);
+    *counts = [
+        blocks.linear,
+        blocks.lazy,
+        blocks.held,
+        blocks.untouched,
+        fit.peak,
+    ];
 }

@@ -13,6 +13,9 @@ const RECORDS_ROOM: usize = 102_624;
 /// Bytes that are enough for the context after it.
 const CONTEXT_ROOM: usize = 1_064;
 
+/// Blocks beyond those reachable at once: the next free one, and the frontier.
+const SPARE_BLOCKS: u64 = 2;
+
 /// An integer that a print order printed.
 #[derive(Debug, Clone, Copy, PartialEq, Eq)]
 pub struct Print {
@@ -44,6 +47,28 @@ pub enum Variable {
     Integer(i64),
 }
 
+/// How many of the heap's blocks are where, and how many were wanted at once.
+#[derive(Debug, Clone, Copy, PartialEq, Eq)]
+pub struct Blocks {
+    /// On HEAP's free list.
+    pub linear: u64,
+    /// Lazily freed, on FREE's list.
+    pub lazy: u64,
+    /// Held by variables, fields or lazily freed blocks.
+    pub held: u64,
+    /// Never used.
+    pub untouched: u64,
+    /// The most that were reachable from the variables after any one order so far.
+    pub peak: u64,
+}
+
+impl Blocks {
+    /// A heap of so many blocks is enough for the same orders.
+    pub fn to_fit(&self) -> u64 {
+        self.peak + SPARE_BLOCKS
+    }
+}
+
 /// The context answered last, and the state and heap that the last run left.
 #[derive(Debug, Clone)]
 pub struct Channel {
@@ -57,8 +82,9 @@ pub struct Channel {
 }
 
 impl Channel {
-    /// A fresh channel beside a heap of 2 to 1,048,576 blocks; 2 plus the blocks that its stores
-    /// acquire are enough.
+    /// A fresh channel beside a heap of 2 to 1,048,576 blocks; 2 more than are reachable at once are
+    /// enough ([`Channel::blocks`] tells after a trial on a large heap), so 2 more than its stores
+    /// acquire are too.
     pub fn new(blocks: usize) -> Result<Channel, Refusal> {
         if !(2..=MOST_BLOCKS).contains(&blocks) {
             return Err(Refusal::new(Cause::Malformed, 0, 0));
@@ -182,6 +208,22 @@ impl Channel {
     pub fn heap(&self) -> &[u64] {
         &self.heap
     }
+
+    /// The heap's blocks counted. After a fault the words are those in the middle of an order, and
+    /// nothing is said of them.
+    pub fn blocks(&self) -> Option<Blocks> {
+        if self.failed.is_some() {
+            return None;
+        }
+        let [linear, lazy, held, untouched, peak] = ffi::blocks(&self.state.registers, &self.heap);
+        Some(Blocks {
+            linear,
+            lazy,
+            held,
+            untouched,
+            peak,
+        })
+    }
 }
 
 #[cfg(test)]
@@ -301,6 +343,38 @@ mod tests {
                 .number,
             2
         );
+    }
+
+    /// Four objects in turn, one reachable at a time: three blocks are enough, as the trial on a
+    /// large heap tells.
+    #[test]
+    fn the_peak_is_what_to_fit() {
+        let day = [
+            Order::Put(1),
+            Order::Put(2),
+            Order::Store(2, 9),
+            Order::Load(vec![Kind::Ext, Kind::Ext]),
+            Order::Drop,
+            Order::Drop,
+        ];
+        let season: Vec<Order> = day.iter().cycle().take(4 * day.len()).cloned().collect();
+        let trial = played(1_000, &season).blocks().unwrap();
+        assert_eq!((trial.peak, trial.to_fit(), trial.untouched), (1, 3, 998));
+        let fitted = played(trial.to_fit() as usize, &season).blocks().unwrap();
+        assert_eq!((fitted.peak, fitted.untouched), (1, 1));
+        let none = Channel::new(2).unwrap().blocks().unwrap();
+        assert_eq!((none.linear, none.held, none.peak), (1, 0, 0));
+    }
+
+    /// One block fewer leaves no frontier, and the next store faults.
+    #[test]
+    fn one_block_fewer_is_too_few() {
+        let mut channel = played(2, &[Order::Put(1), Order::Store(1, 9)]);
+        let blocks = channel.blocks().unwrap();
+        assert_eq!((blocks.peak, blocks.untouched), (1, 0));
+        let fault = channel.order(&Order::Store(1, 9)).unwrap_err();
+        assert_eq!(fault.number, 11);
+        assert_eq!(channel.blocks(), None);
     }
 
     #[test]

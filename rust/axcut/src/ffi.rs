@@ -28,6 +28,12 @@ mod exported {
             steps: *mut u64,
             place: *mut u64,
         ) -> u64;
+        pub fn axcut_blocks(
+            registers: *const u64,
+            heap: *const u64,
+            heap_words: usize,
+            counts: *mut u64,
+        );
         pub fn axcut_operation(
             operation: u64,
             first: u64,
@@ -163,6 +169,23 @@ pub fn run(
         steps,
         place,
     }
+}
+
+/// How many counts axcut_blocks gives.
+pub const COUNTS: usize = 5;
+
+/// The blocks on HEAP's list, lazily freed, held and never used, and the most reachable at once.
+pub fn blocks(registers: &[u64; REGISTERS], heap: &[u64]) -> [u64; COUNTS] {
+    let mut counts = [0; COUNTS];
+    unsafe {
+        exported::axcut_blocks(
+            registers.as_ptr(),
+            heap.as_ptr(),
+            heap.len(),
+            counts.as_mut_ptr(),
+        )
+    };
+    counts
 }
 
 /// What axcut_operation takes beside its output.

@@ -16,7 +16,7 @@ mod machine;
 mod order;
 mod refusal;
 
-pub use channel::{Accepted, Channel, Print, Variable};
+pub use channel::{Accepted, Blocks, Channel, Print, Variable};
 pub use checking::{check, list, Form};
 pub use machine::{State, BLOCK_WORDS, MOST_BLOCKS, STACK_WORDS};
 pub use order::{Arithmetic, Binding, Kind, Order, BINDING_SIZE, ORDER_SIZE};
