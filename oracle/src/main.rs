@@ -122,10 +122,11 @@ fn run(words: &[&str]) -> Result<bool, Failure> {
         }
         ["soak", "list", seed, folder] => {
             let seed = parse::number(seed).map_err(|_| Failure::Usage)?;
-            let (list, line) = soak::stored_list(seed);
+            let list = soak::stored_list(seed);
             let folder = std::path::Path::new(folder);
-            std::fs::write(folder.join("stdin"), list).map_err(Failure::Files)?;
-            std::fs::write(folder.join("stdout"), line).map_err(Failure::Files)?;
+            std::fs::write(folder.join("stdin"), list.input).map_err(Failure::Files)?;
+            std::fs::write(folder.join("stdout"), list.output).map_err(Failure::Files)?;
+            println!("{}", list.reuse);
         }
         ["soak", options @ ..] => {
             let (side, options) = match options {

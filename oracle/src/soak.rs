@@ -51,16 +51,28 @@ struct Tally {
     steps: u64,
     longest: u64,
     most: Most,
+    reuse: Reuse,
+    /// Of lists whose heap has exactly two blocks more than their peak.
+    reuse_at_edge: Reuse,
 }
 
 #[derive(Default)]
 struct Most {
     variables: usize,
     frontier: usize,
+    reachable: usize,
     held: usize,
     shared: usize,
     lazy: usize,
     linear: usize,
+}
+
+/// How many blocks lists acquired, beside the largest of their peaks.
+#[derive(Default)]
+struct Reuse {
+    lists: u64,
+    acquired: usize,
+    largest_peak: usize,
 }
 
 /// True if no order failed. The first that does ends it.
@@ -85,8 +97,10 @@ struct Soak {
     channel: Channel,
     values: Vec<Value>,
     history: History,
-    /// How many blocks the orders may still acquire.
-    left: usize,
+    /// How many blocks the variables reach.
+    reachable: usize,
+    /// How many blocks the stores have acquired.
+    acquired: usize,
 }
 
 impl Tally {
@@ -95,20 +109,18 @@ impl Tally {
         self.lists += 1;
         let mut random = Random::new(seed);
         let mut plan = Plan::random(&mut random, most_blocks);
-        let mut soak = Soak {
-            channel: Channel::fresh(side, plan.blocks * BLOCK_WORDS),
-            values: Vec::new(),
-            history: History::new(plan.blocks),
-            // "two blocks more"
-            left: plan.blocks - 2,
-        };
+        let mut soak = Soak::fresh(side, plan.blocks);
         soak.check().map_err(|failure| (0, failure))?;
         self.longest = self.longest.max(plan.orders as u64);
         for place in 1..=plan.orders {
-            let item = lists::item(&mut random, &mut plan, &soak.values, soak.left);
+            let item = lists::item(&mut random, &mut plan, &soak.values, soak.left());
             self.orders += 1;
             self.item(&mut random, &mut soak, item)
                 .map_err(|failure| (place, failure))?;
+        }
+        self.reuse.take(&soak);
+        if soak.blocks() == soak.history.peak() + 2 {
+            self.reuse_at_edge.take(&soak);
         }
         match side {
             Side::Port => self.alone(&mut random).map_err(|failure| (0, failure)),
@@ -159,7 +171,7 @@ impl Tally {
                 *self.accepted.entry(given.order.name()).or_default() += 1;
                 let played = soak.accepted(&asked, rooms, &given, &item.words);
                 let (ran, shape) = played.map_err(about)?;
-                self.records += (given.records.len() / SIZE) as u64;
+                self.records += given.count();
                 self.steps += ran.steps;
                 self.most.take(&shape, soak.values.len());
                 Ok(())
@@ -176,17 +188,10 @@ impl Tally {
         for (number, count) in &self.refused {
             println!("{count:>9} {number}");
         }
-        let Most {
-            variables,
-            frontier,
-            held,
-            shared,
-            lazy,
-            linear,
-        } = self.most;
-        println!(
-            "most at once: {variables} variables; {held} blocks held, {shared} of them shared, {lazy} on the lazy list, {linear} on the linear list, frontier {frontier}"
-        );
+        self.most.report();
+        self.reuse.report("all lists");
+        self.reuse_at_edge
+            .report("lists on exactly two blocks more than their peak");
         println!("{} records run in {} steps", self.records, self.steps);
         println!(
             "{} orders alone, {} of them accepted",
@@ -207,14 +212,67 @@ impl Most {
     fn take(&mut self, shape: &Shape, variables: usize) {
         self.variables = self.variables.max(variables);
         self.frontier = self.frontier.max(shape.frontier);
+        self.reachable = self.reachable.max(shape.reachable);
         self.held = self.held.max(shape.held);
         self.shared = self.shared.max(shape.shared);
         self.lazy = self.lazy.max(shape.lazy);
         self.linear = self.linear.max(shape.linear);
     }
+
+    fn report(&self) {
+        let Most {
+            variables,
+            frontier,
+            reachable,
+            held,
+            shared,
+            lazy,
+            linear,
+        } = self;
+        println!(
+            "most at once: {variables} variables; {reachable} blocks reachable, {held} held, {shared} of them shared, {lazy} on the lazy list, {linear} on the linear list, frontier {frontier}"
+        );
+    }
+}
+
+impl Reuse {
+    /// Takes in a list that is played to its end.
+    fn take(&mut self, soak: &Soak) {
+        self.lists += 1;
+        self.acquired += soak.acquired;
+        self.largest_peak = self.largest_peak.max(soak.history.peak());
+    }
+
+    fn report(&self, which: &str) {
+        println!(
+            "{which}: {}, {} blocks acquired, the largest peak {}",
+            self.lists, self.acquired, self.largest_peak
+        );
+    }
 }
 
 impl Soak {
+    /// The fresh routine on a zeroed heap of so many blocks.
+    fn fresh(side: Side, blocks: usize) -> Soak {
+        Soak {
+            channel: Channel::fresh(side, blocks * BLOCK_WORDS),
+            values: Vec::new(),
+            history: History::new(blocks),
+            reachable: 0,
+            acquired: 0,
+        }
+    }
+
+    fn blocks(&self) -> usize {
+        self.channel.heap.len() / BLOCK_WORDS
+    }
+
+    /// How many blocks the next store may acquire, so that the heap has two blocks more than are
+    /// then reachable.
+    fn left(&self) -> usize {
+        self.blocks() - 2 - self.reachable
+    }
+
     /// The answer but for the outputs' lengths. An order of which demand 3's premises do not hold
     /// is sent with a counter above the limit, so that it is refused.
     fn owed(&self, mut asked: Asked) -> (Asked, Result<Given, Refusal>) {
@@ -222,7 +280,7 @@ impl Soak {
         let owed = match &given {
             Err(_) => true,
             Ok(given) => {
-                given.order.acquires() <= self.left
+                given.order.acquires() <= self.left()
                     && plain::owed(&self.values, given.order, &kinds(&asked.bindings))
             }
         };
@@ -255,15 +313,22 @@ impl Soak {
         if let Order::Print { newline, a } = given.order {
             self.check_call(&given.records, newline, a, words)?;
         }
-        self.channel.context = given.context.clone();
-        let limit = (given.records.len() / SIZE) as u64;
-        let ran = self.channel.run(&given.records, words, limit);
-        if ran.number != 0 || ran.steps > limit {
+        let ran = self.run(given, words);
+        if ran.number != 0 || ran.steps > given.count() {
             return Err(format!("the run: {ran}"));
         }
-        plain::perform(&mut self.values, given.order);
-        self.left -= given.order.acquires();
         Ok((ran, self.check()?))
+    }
+
+    /// Runs an accepted order's records. If the run ends, context and values are those after it.
+    fn run(&mut self, given: &Given, words: &[u64; 9]) -> Ran {
+        let ran = self.channel.run(&given.records, words, given.count());
+        if ran.number == 0 {
+            self.channel.context = given.context.clone();
+            plain::perform(&mut self.values, given.order);
+            self.acquired += given.order.acquires();
+        }
+        ran
     }
 
     fn ask(&self, asked: &Asked, rooms: Rooms, expected: &Answered) -> Result<(), String> {
@@ -327,7 +392,9 @@ impl Soak {
             heap,
             ..
         } = &self.channel;
-        sound(state, heap, context, &self.values, &mut self.history)
+        let shape = sound(state, heap, context, &self.values, &mut self.history)?;
+        self.reachable = shape.reachable;
+        Ok(shape)
     }
 }
 

@@ -1,5 +1,5 @@
 // The linear list, the lazy list and the held blocks. Among MARKS a block has four words: where it is, how many pointers name it, whether it was ever held
-// or on HEAP's list, and the value that was seen in it.
+// or on HEAP's list, and the value that was seen in it. PEAK is the most blocks that the variables reached after any one order so far.
 use crate::arithmetic;
 use crate::plain;
 use crate::table;
@@ -113,7 +113,7 @@ fn push_root(memory: &mut [u64], i: u64) {
 }
 
 // The pointers in variables.
-pub fn roots(memory: &mut [u64]) {
+fn roots(memory: &mut [u64]) {
     let n = plain::length(memory);
     let mut i = 0;
     while i < n {
@@ -122,35 +122,70 @@ pub fn roots(memory: &mut [u64]) {
     }
 }
 
-// One pointer: the block that it names is held, and its fields are pointers too.
-fn hold(heap: &[u64], memory: &mut [u64], pointer: u64) -> bool {
-    let block = words::block_at(heap, pointer);
-    let pointers = arithmetic::sum(mark(memory, block, 1), 1);
-    set_mark(memory, block, 1, pointers);
-    if mark(memory, block, 0) == HELD {
-        return true;
-    }
-    if claim(memory, block, HELD) {
-        push_fields(heap, memory, block);
-        return true;
-    }
-    false
+// One pointer more names a block.
+fn name(memory: &mut [u64], block: u64) {
+    let pointers = mark(memory, block, 1);
+    set_mark(memory, block, 1, arithmetic::sum(pointers, 1));
 }
 
-// The pointers that are left to follow, which are at most `most`.
-pub fn follow(heap: &[u64], memory: &mut [u64], most: u64) -> bool {
+// A block that no pointer named before: it is held, one block more, and its fields are pointers too. NONE if it is on a list, or no block.
+fn enter(heap: &[u64], memory: &mut [u64], block: u64) -> u64 {
+    if claim(memory, block, HELD) {
+        push_fields(heap, memory, block);
+        return 1;
+    }
+    table::NONE
+}
+
+// One pointer: 1 if the block that it names was not held yet, 0 if it was; NONE if it cannot be.
+fn hold(heap: &[u64], memory: &mut [u64], pointer: u64) -> u64 {
+    let block = words::block_at(heap, pointer);
+    name(memory, block);
+    if mark(memory, block, 0) == HELD {
+        return 0;
+    }
+    enter(heap, memory, block)
+}
+
+// How many blocks more are held by the pointers that are left to follow; NONE if one names a block that cannot be.
+pub fn follow(heap: &[u64], memory: &mut [u64]) -> u64 {
+    let mut found = 0;
     let mut i = 0;
-    while i < most {
+    while i < work::MOST {
         let pointer = work::pop(memory);
         if pointer == 0 {
-            return true;
+            return found;
         }
-        if hold(heap, memory, pointer) {} else {
-            return false;
+        let more = hold(heap, memory, pointer);
+        if more == table::NONE {
+            return table::NONE;
         }
+        found = arithmetic::sum(found, more);
         i += 1;
     }
-    false
+    table::NONE
+}
+
+pub fn peak(memory: &[u64]) -> u64 {
+    table::at(memory, table::PEAK)
+}
+
+fn raise_peak(memory: &mut [u64], reachable: u64) {
+    if peak(memory) < reachable {
+        table::set(memory, table::PEAK, reachable);
+    }
+}
+
+// The variables' pointers followed, before those of the lazy list: the blocks that they reach count for the peak.
+pub fn reach(heap: &[u64], memory: &mut [u64]) -> bool {
+    work::clear(memory);
+    roots(memory);
+    let reachable = follow(heap, memory);
+    if reachable == table::NONE {
+        return false;
+    }
+    raise_peak(memory, reachable);
+    true
 }
 
 // Below the frontier a block is in one of the three, and a held block's count is its pointers less one; from the frontier up it is in none.

@@ -5,34 +5,34 @@ use crate::plain;
 use crate::table;
 use crate::values;
 use crate::words;
-use crate::work;
 
-// The frontier, with the blocks of both lists marked; NONE if a list is broken.
-fn lists(heap: &[u64], memory: &mut [u64], blocks: u64, head: u64, free: u64) -> u64 {
+// The blocks of the linear list marked, and then those that the variables reach.
+fn reached(heap: &[u64], memory: &mut [u64], blocks: u64, head: u64) -> bool {
     heap::forget_all(memory, blocks);
-    if heap::linear(heap, memory, blocks, head) {} else {
-        return table::NONE;
+    if heap::linear(heap, memory, blocks, head) {
+        return heap::reach(heap, memory);
     }
-    work::clear(memory);
-    heap::lazy(heap, memory, blocks, free)
+    false
 }
 
-// Held blocks found by following pointers, and then each block looked at.
-fn held_sound(heap: &[u64], memory: &mut [u64], most: u64, frontier: u64) -> bool {
-    heap::roots(memory);
-    if heap::follow(heap, memory, most) {} else {
+// The lazy list ends at the frontier, which is one block more than the peak; its blocks hold others; and then each block is looked at.
+fn rest_sound(heap: &[u64], memory: &mut [u64], blocks: u64, free: u64) -> bool {
+    let frontier = heap::lazy(heap, memory, blocks, free);
+    if frontier == arithmetic::sum(heap::peak(memory), 1) {} else {
         return false;
     }
-    heap::all_sound(heap, memory, words::blocks(heap), frontier)
+    if heap::follow(heap, memory) == table::NONE {
+        return false;
+    }
+    heap::all_sound(heap, memory, blocks, frontier)
 }
 
-fn heap_sound(heap: &[u64], memory: &mut [u64], most: u64, head: u64, free: u64) -> bool {
+fn heap_sound(heap: &[u64], memory: &mut [u64], head: u64, free: u64) -> bool {
     let blocks = words::blocks(heap);
-    let frontier = lists(heap, memory, blocks, head, free);
-    if frontier < blocks {} else {
-        return false;
+    if reached(heap, memory, blocks, head) {
+        return rest_sound(heap, memory, blocks, free);
     }
-    held_sound(heap, memory, most, frontier)
+    false
 }
 
 // The context has as many variables as there are values, and STACK is where the routine's setup leaves it.
@@ -45,14 +45,13 @@ fn frame_sound(context: &[u8], registers: &[u64; 16], length: u64) -> bool {
 
 // A state whose variables are noted.
 fn words_sound(heap: &[u64], memory: &mut [u64], head: u64, free: u64) -> bool {
-    let most = arithmetic::sum(arithmetic::product(4, words::blocks(heap)), 1000);
-    if heap_sound(heap, memory, most, head, free) {} else {
+    if heap_sound(heap, memory, head, free) {} else {
         return false;
     }
-    values::values_sound(heap, memory, most)
+    values::values_sound(heap, memory)
 }
 
-// A state beside the plain machine's values. The memory keeps which blocks were ever held or on HEAP's list.
+// A state beside the plain machine's values. The memory keeps which blocks were ever held or on HEAP's list, and the peak.
 pub fn sound(
     context: &[u8],
     registers: &[u64; 16],

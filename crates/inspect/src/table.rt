@@ -16,14 +16,16 @@ pub const MARKS: u64 = 66560;
 
 pub const WORK: u64 = 72560;
 
-// Three words by themselves.
+// Four words by themselves.
 pub const MADE: u64 = 84560;
 
 pub const USED: u64 = 84561;
 
 pub const LENGTH: u64 = 84562;
 
-pub const MEMORY: usize = 84563;
+pub const PEAK: u64 = 84563;
+
+pub const MEMORY: usize = 84564;
 
 pub fn at(words: &[u64], i: u64) -> u64 {
     let n = i as usize;

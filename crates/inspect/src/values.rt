@@ -124,10 +124,10 @@ fn look(heap: &[u64], memory: &mut [u64], block: u64, number: u64) -> bool {
     object_sound(heap, memory, block, first, count)
 }
 
-// The objects that are left to look at, which are at most `most`.
-fn objects_sound(heap: &[u64], memory: &mut [u64], most: u64) -> bool {
+// The objects that are left to look at.
+fn objects_sound(heap: &[u64], memory: &mut [u64]) -> bool {
     let mut i = 0;
-    while i < most {
+    while i < work::MOST {
         let address = work::pop(memory);
         if address == 0 {
             return true;
@@ -143,9 +143,9 @@ fn objects_sound(heap: &[u64], memory: &mut [u64], most: u64) -> bool {
 }
 
 // The values of all variables, where nothing is left to look at yet.
-pub fn values_sound(heap: &[u64], memory: &mut [u64], most: u64) -> bool {
+pub fn values_sound(heap: &[u64], memory: &mut [u64]) -> bool {
     if variables_sound(memory) {} else {
         return false;
     }
-    objects_sound(heap, memory, most)
+    objects_sound(heap, memory)
 }

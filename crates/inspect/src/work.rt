@@ -2,6 +2,9 @@
 use crate::arithmetic;
 use crate::table;
 
+// More than a state of 1,500 blocks and 133 variables leaves in all.
+pub const MOST: u64 = 12000;
+
 fn place(i: u64) -> u64 {
     table::place(table::WORK, table::MADE, i)
 }

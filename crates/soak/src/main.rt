@@ -1,4 +1,6 @@
-// Plays the list of orders on standard input, a load followed by its bindings, and checks after each accepted one what demand 3 says of the words.
+// Plays the list of orders on standard input, a load followed by its bindings, and checks after each accepted one what demand 3 says of the words: on a
+// large heap, which gives the list's peak; on two blocks more than the peak, where all is sound; on one more, where the frontier is no block of the heap; and
+// on no more, where a run meets a fault.
 ghost use Prim.Native.Nat.{_≤_};
 use libc::STDIN_FILENO;
 use libc::STDOUT_FILENO;
@@ -7,12 +9,18 @@ use orders::answer::Answer;
 use playing::channel::Channel;
 use playing::channel::Played;
 
-// Where the next order starts, the channel, and what came of the orders.
-struct Going {
-    at: usize,
+// How many orders there were, and what came of them.
+struct Counts {
     orders: u64,
     accepted: u64,
     unsound: u64,
+    faults: u64,
+}
+
+// Where the next order starts, what came of those before it, and the channel.
+struct Going {
+    at: usize,
+    counts: Counts,
     channel: Channel,
 }
 
@@ -20,10 +28,32 @@ fn start() -> Going {
     let channel = playing::channel::fresh();
     Going {
         at: 0,
-        orders: 0,
-        accepted: 0,
-        unsound: 0,
+        counts: Counts {
+            orders: 0,
+            accepted: 0,
+            unsound: 0,
+            faults: 0,
+        },
         channel,
+    }
+}
+
+// The counts of one order.
+fn one(accepted: u64, unsound: u64, faults: u64) -> Counts {
+    Counts {
+        orders: 1,
+        accepted,
+        unsound,
+        faults,
+    }
+}
+
+fn plus(x: Counts, y: Counts) -> Counts {
+    Counts {
+        orders: word::sum(x.orders, y.orders),
+        accepted: word::sum(x.accepted, y.accepted),
+        unsound: word::sum(x.unsound, y.unsound),
+        faults: word::sum(x.faults, y.faults),
     }
 }
 
@@ -98,19 +128,25 @@ fn is_sound(context: &[u8], used: usize, state: State, heap: &[u64], memory: &mu
     false
 }
 
-// Whether the run of an accepted order, of so many records, and the words after it are as demand 3 says, beside the plain machine.
-fn holds(
-    order: &[u8],
-    heap: &[u64],
-    memory: &mut [u64],
-    channel: Channel,
-    ran: machine::run::Answer,
-    count: usize,
-) -> bool {
+// What came of an order: whether its run, of so many records, ended, and whether the words after it are as demand 3 says, beside the plain machine.
+fn outcome(order: &[u8], heap: &[u64], memory: &mut [u64], done: Played) -> Counts {
+    let answer = done.answer;
+    let Answer::Accepted(count, _, _) = answer else {
+        return one(0, 0, 0);
+    };
+    let ran = done.ran;
+    if is_ended(ran, count as u64) {} else {
+        return one(1, 0, 1);
+    }
+    inspect::plain::perform(memory, order);
+    let channel = done.channel;
     let context = channel.context;
     let state = channel.state;
-    inspect::plain::perform(memory, order);
-    is_sound(&context, channel.used, state, heap, memory) && is_ended(ran, count as u64)
+    if is_sound(&context, channel.used, state, heap, memory) {
+        one(1, 0, 0)
+    } else {
+        one(1, 1, 0)
+    }
 }
 
 // One order with its bindings; the next one starts at byte `next`.
@@ -122,37 +158,24 @@ fn item(
     g: Going,
     next: usize,
 ) -> Going {
-    let before = g.channel;
-    let done = played(order, bindings, heap, before, g.orders);
-    let answer = done.answer;
-    let ran = done.ran;
+    let before = g.counts;
+    let done = played(order, bindings, heap, g.channel, before.orders);
+    let counts = plus(before, outcome(order, heap, memory, done));
     let channel = done.channel;
-    let Answer::Accepted(count, _, _) = answer else {
-        return Going {
-            at: next,
-            orders: word::sum(g.orders, 1),
-            accepted: g.accepted,
-            unsound: g.unsound,
-            channel,
-        };
-    };
-    let failed = if holds(order, heap, memory, channel, ran, count) {
-        0
-    } else {
-        1
-    };
     Going {
         at: next,
-        orders: word::sum(g.orders, 1),
-        accepted: word::sum(g.accepted, 1),
-        unsound: word::sum(g.unsound, failed),
+        counts,
         channel,
     }
 }
 
-// The next order of the list, if there is a whole one.
+// The next order of the list, if there is a whole one. After a fault the words are those in the middle of an order, and there is none.
 fn turn(input: &[u8], heap: &mut [u64], memory: &mut [u64], g: Going) -> Going {
     let at = g.at;
+    let before = g.counts;
+    if 0 < before.faults {
+        return g;
+    }
     if input.len() < at {
         return g;
     }
@@ -176,31 +199,60 @@ fn turn(input: &[u8], heap: &mut [u64], memory: &mut [u64], g: Going) -> Going {
 }
 
 // All orders of a list. Each has 24 bytes at least.
-fn play(input: &[u8], heap: &mut [u64], memory: &mut [u64]) -> Going {
+fn play(input: &[u8], heap: &mut [u64], memory: &mut [u64]) -> Counts {
     let mut g = start();
     let mut left = input.len() / 24;
     while 0 < left {
         g = turn(input, heap, memory, g);
         left -= 1;
     }
-    g
+    g.counts
 }
 
-fn report(g: Going) {
-    io::print_decimal(STDOUT_FILENO, g.orders);
-    io::write_all(STDOUT_FILENO, b" orders: ");
-    io::print_decimal(STDOUT_FILENO, g.accepted);
-    io::write_all(STDOUT_FILENO, b" accepted, ");
-    io::print_decimal(STDOUT_FILENO, word::difference(g.orders, g.accepted));
-    io::write_all(STDOUT_FILENO, b" refused, ");
-    io::print_decimal(STDOUT_FILENO, g.unsound);
-    io::write_all(STDOUT_FILENO, b" unsound\n");
+fn print(words: &[u8], number: u64) {
+    io::write_all(STDOUT_FILENO, words);
+    io::print_decimal(STDOUT_FILENO, number);
+}
+
+fn report(counts: Counts, blocks: u64) {
+    print(b"on ", blocks);
+    print(b" blocks: orders ", counts.orders);
+    print(b", accepted ", counts.accepted);
+    print(
+        b", refused ",
+        word::difference(counts.orders, counts.accepted),
+    );
+    print(b", unsound ", counts.unsound);
+    print(b", faults ", counts.faults);
+    io::write_all(STDOUT_FILENO, b"\n");
+}
+
+// The words of so many blocks, 1500 at most.
+fn words_of(blocks: u64) -> usize
+    ensures { λ r. ⌜ r ≤ 12000 ⌝ }
+{
+    if blocks < 1500 {
+        return 8 * (blocks as usize);
+    }
+    12000
+}
+
+// A list on a zeroed heap of so many blocks. The result is its peak.
+fn play_on(input: &[u8], blocks: u64) -> u64 {
+    let mut heap = [0u64; 12000];
+    let mut memory = [0u64; inspect::table::MEMORY];
+    let words = words_of(blocks);
+    report(play(input, &mut heap[..words], &mut memory), blocks);
+    inspect::heap::peak(&memory)
 }
 
 fn main() {
-    let mut input = io::large_buffer();
-    let n = io::read_full(STDIN_FILENO, &mut input);
-    let mut heap = [0u64; 12000];
-    let mut memory = [0u64; inspect::table::MEMORY];
-    report(play(&input[..n], &mut heap, &mut memory));
+    let mut buffer = io::large_buffer();
+    let n = io::read_full(STDIN_FILENO, &mut buffer);
+    let peak = play_on(&buffer[..n], 1500);
+    print(b"peak ", peak);
+    io::write_all(STDOUT_FILENO, b"\n");
+    play_on(&buffer[..n], word::sum(peak, 2));
+    play_on(&buffer[..n], word::sum(peak, 1));
+    play_on(&buffer[..n], peak);
 }

@@ -6,7 +6,7 @@ use super::{BINDING, Order, SIZE, binding, kinds};
 use crate::answer::Answer;
 use crate::context::{Kind, Kinds};
 use crate::reading::{Refusal, check_context};
-use crate::record::{LAST_FRESH, Record};
+use crate::record::{self, LAST_FRESH, Record};
 use crate::request::{Emission, Operand, Operation, Request};
 use crate::rust_side;
 
@@ -25,6 +25,13 @@ pub struct Given {
     pub records: Vec<u8>,
     pub counter: u64,
     pub context: Vec<u8>,
+}
+
+impl Given {
+    /// How many records there are, which is the step limit of their run too.
+    pub fn count(&self) -> u64 {
+        (self.records.len() / record::SIZE) as u64
+    }
 }
 
 fn refused<T>(number: u64, value: Option<u64>) -> Result<T, Refusal> {

@@ -39,16 +39,24 @@ enum Place {
     Held,
 }
 
-/// What the states before tell: which blocks were ever held or on HEAP's list.
+/// What the states before tell: which blocks were ever held or on HEAP's list, and the peak.
+#[derive(Clone)]
 pub struct History {
     ever: Vec<bool>,
+    /// The most blocks that were reachable from the variables after any one order so far.
+    peak: usize,
 }
 
 impl History {
     pub fn new(blocks: usize) -> History {
         History {
             ever: vec![false; blocks],
+            peak: 0,
         }
+    }
+
+    pub fn peak(&self) -> usize {
+        self.peak
     }
 }
 
@@ -61,6 +69,8 @@ pub struct Shape {
     pub held: usize,
     /// Held blocks that more than one pointer names.
     pub shared: usize,
+    /// Blocks that pointers followed from the variables alone name.
+    pub reachable: usize,
 }
 
 type Checked<T> = Result<T, String>;
@@ -76,15 +86,15 @@ pub fn sound(
 ) -> Checked<Shape> {
     check_kinds(context, values)?;
     let words = variables(state, values.len())?;
+    let roots = roots(&words, values);
+    let reachable = reachable(heap, roots.clone())?;
     let mut blocks = Blocks::new(heap);
     blocks.linear(state.registers[HEAP])?;
     let frontier = blocks.lazy(state.registers[FREE])?;
-    let roots = words.iter().zip(values);
-    let roots = roots.filter(|(_, value)| matches!(value, Value::Tagged(..)));
-    blocks.held(roots.map(|([fst, _], _)| *fst))?;
-    let shape = blocks.shape(frontier)?;
+    blocks.held(roots)?;
+    let shape = blocks.shape(frontier, reachable)?;
     blocks.counts()?;
-    history.take(&blocks.places, frontier)?;
+    history.take(&blocks.places, frontier, reachable)?;
     check_values(heap, &words, values)?;
     Ok(shape)
 }
@@ -129,6 +139,31 @@ fn variables(state: &State, count: usize) -> Checked<Vec<[u64; 2]>> {
         return Err(format!("{count} variables"));
     }
     Ok((0..count).map(|i| [word(2 * i), word(2 * i + 1)]).collect())
+}
+
+/// The pointers in variables: the nonzero Fsts of the linked ones.
+fn roots(words: &[[u64; 2]], values: &[Value]) -> Vec<u64> {
+    let linked = words
+        .iter()
+        .zip(values)
+        .filter(|(_, value)| matches!(value, Value::Tagged(..)));
+    let fsts = linked.map(|([fst, _], _)| *fst);
+    fsts.filter(|fst| *fst != 0).collect()
+}
+
+/// How many blocks the pointers in variables reach. Blocks that only the lazy list holds are not
+/// among them.
+fn reachable(heap: &[u64], roots: Vec<u64>) -> Checked<usize> {
+    let mut met = vec![false; heap.len() / BLOCK_WORDS];
+    let mut pointers = roots;
+    while let Some(pointer) = pointers.pop() {
+        let block = block_at(heap, pointer)?;
+        if !met[block] {
+            met[block] = true;
+            pointers.extend(fields(heap, block));
+        }
+    }
+    Ok(met.iter().filter(|met| **met).count())
 }
 
 struct Blocks<'a> {
@@ -193,8 +228,8 @@ impl<'a> Blocks<'a> {
     /// "Held are just the blocks that pointers name, followed from the variables and the lazy
     /// list"; "a pointer is a nonzero Fst of a linked variable, or of a field or link in a held
     /// or lazily freed block".
-    fn held(&mut self, roots: impl Iterator<Item = u64>) -> Checked<()> {
-        let mut pointers: Vec<u64> = roots.filter(|fst| *fst != 0).collect();
+    fn held(&mut self, roots: Vec<u64>) -> Checked<()> {
+        let mut pointers = roots;
         for block in &self.lazy {
             pointers.extend(fields(self.heap, *block));
         }
@@ -211,7 +246,7 @@ impl<'a> Blocks<'a> {
 
     /// "Each block below the frontier" is in exactly one of the three, and none from it up; those
     /// have never been written.
-    fn shape(&self, frontier: usize) -> Checked<Shape> {
+    fn shape(&self, frontier: usize, reachable: usize) -> Checked<Shape> {
         let (below, above) = self.places.split_at(frontier);
         if let Some(block) = below.iter().position(|place| *place == Place::Nowhere) {
             return Err(format!("block {block} of {frontier} is lost"));
@@ -237,6 +272,7 @@ impl<'a> Blocks<'a> {
                 .iter()
                 .filter(|pointers| **pointers > 1)
                 .count(),
+            reachable,
         })
     }
 
@@ -255,8 +291,13 @@ impl<'a> Blocks<'a> {
 }
 
 impl History {
+    fn take(&mut self, places: &[Place], frontier: usize, reachable: usize) -> Checked<()> {
+        self.take_places(places, frontier)?;
+        self.take_reachable(reachable, frontier)
+    }
+
     /// "The frontier: the first block never held or on HEAP's list."
-    fn take(&mut self, places: &[Place], frontier: usize) -> Checked<()> {
+    fn take_places(&mut self, places: &[Place], frontier: usize) -> Checked<()> {
         for (ever, place) in self.ever.iter_mut().zip(places) {
             *ever |= matches!(place, Place::Held | Place::Linear);
         }
@@ -264,6 +305,18 @@ impl History {
         if never != Some(frontier) {
             return Err(format!(
                 "FREE ends at block {frontier}, first never held or on HEAP's list is {never:?}"
+            ));
+        }
+        Ok(())
+    }
+
+    /// The blocks below the frontier are exactly one more than the peak.
+    fn take_reachable(&mut self, reachable: usize, frontier: usize) -> Checked<()> {
+        self.peak = self.peak.max(reachable);
+        if frontier != 1 + self.peak {
+            return Err(format!(
+                "the frontier is {frontier}, the peak {}",
+                self.peak
             ));
         }
         Ok(())
@@ -392,7 +445,7 @@ mod tests {
     use crate::context::Kind;
     use crate::orders::answer::{Asked, given};
     use crate::orders::{Order, binding, plain};
-    use crate::record::SIZE;
+    use crate::port::Ran;
 
     /// A channel after some orders, by the Rust's records and the reading of the machine.
     struct Played {
@@ -401,32 +454,35 @@ mod tests {
         history: History,
     }
 
-    fn play(orders: &[(Order, &[Kind])]) -> Played {
-        let blocks = 40;
-        let mut played = Played {
-            channel: Channel::fresh(Side::Reading, blocks * BLOCK_WORDS),
-            values: Vec::new(),
-            history: History::new(blocks),
-        };
-        played.check().expect("the fresh state is sound");
-        for (order, kinds) in orders {
+    impl Played {
+        /// On a zeroed heap of so many blocks.
+        fn fresh(blocks: usize) -> Played {
+            let mut played = Played {
+                channel: Channel::fresh(Side::Reading, blocks * BLOCK_WORDS),
+                values: Vec::new(),
+                history: History::new(blocks),
+            };
+            played.check().expect("the fresh state is sound");
+            played
+        }
+
+        /// Runs an order, which must be accepted; a load brings these kinds. The values stay if
+        /// its run does not end.
+        fn order(&mut self, order: Order, kinds: &[Kind]) -> Ran {
             let asked = Asked {
                 order: order.to_bytes().to_vec(),
                 bindings: kinds.iter().flat_map(|kind| binding(*kind, 7)).collect(),
                 counter: 0,
             };
-            let given = given(&played.channel.context, &asked).expect("the order is accepted");
-            let limit = (given.records.len() / SIZE) as u64;
-            let ran = played.channel.run(&given.records, &[9; 9], limit);
-            assert_eq!(ran.number, 0, "{order:?}: {ran}");
-            played.channel.context = given.context;
-            plain::perform(&mut played.values, *order);
-            played.check().expect("each state is sound");
+            let given = given(&self.channel.context, &asked).expect("the order is accepted");
+            let ran = self.channel.run(&given.records, &[9; 9], given.count());
+            if ran.number == 0 {
+                self.channel.context = given.context;
+                plain::perform(&mut self.values, order);
+            }
+            ran
         }
-        played
-    }
 
-    impl Played {
         fn check(&mut self) -> Checked<Shape> {
             let Channel {
                 state,
@@ -442,13 +498,22 @@ mod tests {
             let mut changed = Played {
                 channel: self.channel.clone(),
                 values: self.values.clone(),
-                history: History {
-                    ever: self.history.ever.clone(),
-                },
+                history: self.history.clone(),
             };
             change(&mut changed);
             changed.check().is_err()
         }
+    }
+
+    /// Each state must be sound.
+    fn play(orders: &[(Order, &[Kind])]) -> Played {
+        let mut played = Played::fresh(40);
+        for (order, kinds) in orders {
+            let ran = played.order(*order, kinds);
+            assert_eq!(ran.number, 0, "{order:?}: {ran}");
+            played.check().expect("each state is sound");
+        }
+        played
     }
 
     /// Five values in two blocks, shared; one object lazily freed, that holds another; one block
@@ -488,8 +553,57 @@ mod tests {
             lazy: 1,
             held: 4,
             shared: 2,
+            reachable: 3,
         };
         assert_eq!(shape, expected);
+        assert_eq!(played.history.peak(), 6);
+    }
+
+    #[test]
+    fn another_peak_is_reported() {
+        let played = example();
+        for peak in [0, 3, 5, 7] {
+            assert!(
+                played.reports(|played| played.history.peak = peak),
+                "{peak}"
+            );
+        }
+    }
+
+    /// A put and then so many stores of one variable, each of which reaches one block more, on a
+    /// heap of so many blocks: how many blocks are reachable after each store, or what is wrong.
+    fn stores(count: usize, blocks: usize) -> Vec<Checked<usize>> {
+        let mut played = Played::fresh(blocks);
+        assert_eq!(played.order(Order::Put(0), &[]).number, 0);
+        played.check().expect("a put changes no block");
+        let mut store = || {
+            let ran = played.order(Order::Store { n: 1, tag: 0 }, &[]);
+            match ran.number {
+                0 => Ok(played.check()?.reachable),
+                number => Err(format!("refused {number}")),
+            }
+        };
+        (0..count).map(|_| store()).collect()
+    }
+
+    fn no_block(block: u64) -> Checked<usize> {
+        let address = HEAP_START + block * BLOCK_BYTES;
+        Err(format!("{address} is no block's address"))
+    }
+
+    #[test]
+    fn one_block_fewer_leaves_no_frontier() {
+        // a peak of 1: on two blocks the run ends, and FREE is past the heap's end
+        assert_eq!(stores(1, 3), [Ok(1)]);
+        assert_eq!(stores(1, 2), [no_block(2)]);
+    }
+
+    #[test]
+    fn two_blocks_fewer_fault() {
+        // a peak of 2: on two blocks the second store finds no block
+        assert_eq!(stores(2, 4), [Ok(1), Ok(2)]);
+        assert_eq!(stores(2, 3), [Ok(1), no_block(3)]);
+        assert_eq!(stores(2, 2), [no_block(2), Err("refused 11".to_string())]);
     }
 
     #[test]

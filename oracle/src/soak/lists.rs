@@ -42,18 +42,19 @@ pub struct Plan {
 impl Plan {
     pub fn random(random: &mut Random, most_blocks: usize) -> Plan {
         let longest = random.pick(&[10, 30, 100, 400, 1_500, 5_000]);
-        let blocks = match random.below(3) {
+        let orders = 1 + random.below(longest);
+        let waves = random.once_in(3);
+        let blocks = match random.below(4) {
             0 => most_blocks,
             1 => 2 + random.below(most_blocks - 1),
-            // so few that the last one is met
-            _ => 2 + random.below((2 + longest / 4).min(most_blocks - 1)),
+            _ => few_blocks(random, orders, waves).min(most_blocks),
         };
         Plan {
-            orders: 1 + random.below(longest),
+            orders,
             blocks,
             variables: random.pick(&[2, 4, 6, 9, 14, 30, 70, 120, MOST_VARIABLES]),
             weights: std::array::from_fn(|_| random.pick(&[2, 3, 4, 8])),
-            waves: random.once_in(3),
+            waves,
             falling: false,
         }
     }
@@ -71,16 +72,16 @@ impl Plan {
     }
 
     /// The weights of the seven orders on so many variables, the last of which can be loaded or
-    /// not.
-    fn weights(&mut self, length: usize, loadable: bool) -> [usize; 7] {
+    /// not, and with the heap full or not.
+    fn weights(&mut self, length: usize, loadable: bool, full: bool) -> [usize; 7] {
         let crowded = length > self.variables;
         self.falling = self.waves && length > 0 && (self.falling || length >= self.variables);
         let mut weights = self.weights;
-        if crowded || self.falling {
+        if crowded || self.falling || full {
             for making in &mut weights[..3] {
                 *making = 1;
             }
-            weights[3] *= if self.falling { 10 } else { 2 };
+            weights[3] *= if self.falling || full { 10 } else { 2 };
         }
         if self.waves {
             let rare = if self.falling { 4 } else { 3 };
@@ -97,6 +98,12 @@ impl Plan {
     }
 }
 
+/// So few blocks that so many orders are likely to reach all but two of them.
+fn few_blocks(random: &mut Random, orders: usize, waves: bool) -> usize {
+    let orders_to_a_block = if waves { 150 } else { 40 };
+    3 + random.below(1 + orders.min(2_000) / orders_to_a_block)
+}
+
 /// Words that look like integers, addresses and tags.
 fn word(random: &mut Random) -> u64 {
     match random.below(6) {
@@ -108,7 +115,7 @@ fn word(random: &mut Random) -> u64 {
     }
 }
 
-/// An item for a channel whose variables have these values, with so many blocks left to acquire.
+/// An item for a channel whose variables have these values, with so many blocks left to a store.
 pub fn item(random: &mut Random, plan: &mut Plan, values: &[Value], left: usize) -> Item {
     let order = order(random, plan, values, left);
     let mut item = Item {
@@ -204,7 +211,7 @@ fn counter(random: &mut Random) -> u64 {
 
 fn order(random: &mut Random, plan: &mut Plan, values: &[Value], left: usize) -> Order {
     let loadable = matches!(values.last(), Some(Value::Tagged(..)));
-    let weights = plan.weights(values.len(), loadable);
+    let weights = plan.weights(values.len(), loadable, left == 0);
     match weighted(random, &weights) {
         0 => Order::Put(word(random)),
         1 => compute(random, values),
@@ -286,7 +293,9 @@ fn store(random: &mut Random, small: bool, length: usize, left: usize) -> Order 
     };
     let order = Order::Store { n, tag };
     if order.acquires() > left && !random.once_in(10) {
-        return Order::Store { n: 0, tag };
+        // as many as the blocks left hold
+        let n = if left == 0 { 0 } else { 2 * left + 1 };
+        return Order::Store { n, tag };
     }
     order
 }

@@ -1,0 +1,1 @@
+pub mod Zeros  -- parts of arrays of zeros
