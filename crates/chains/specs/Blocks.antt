@@ -1,4 +1,4 @@
--- The blocks of the lent heap, counted by their first words. From document 01, 'A block is 64 bytes' and the lines on the heap in 'Instruction record'.
+-- The blocks of the lent heap, counted by their first words, and the heap to fit for the peak that they show. From document 01, 'A block is 64 bytes' and the lines on the heap in 'Instruction record'.
 -- What does not end within as many steps as there are blocks is cut off there; in a sound heap everything ends before.
 use Prim.Native.Nat.{ℕ, zero, suc, _+_, _*_, _-_}
 use mathlib.Core.Bool.{cond}
@@ -25,18 +25,18 @@ chainEnd header (suc left) b = cond {A = ℕ} (eqb (header b) 0) b (chainEnd hea
 abbrev pub divided : ℕ → ℕ → ℕ → ℕ → Blocks
 divided linear lazy frontier all = record { linear = linear; lazy = lazy; held = frontier - linear - lazy; untouched = all - frontier }
 
+-- the frontier's block, by the words of so many blocks and the word in FREE
+abbrev pub frontierIn : ℕ → ℕ → (ℕ → ℕ) → ℕ → ℕ
+frontierIn fieldCount blocks words lazy-head = numberOf fieldCount (chainEnd (headers fieldCount words) blocks lazy-head)
+
 -- of so many blocks, from a heap's words and the words in HEAP and FREE
 unfoldable pub counted : ℕ → (ℕ → ℕ) → ℕ → ℕ → Blocks
 counted blocks words linear-head lazy-head =
     divided
     (listLength (headers 3 words) blocks linear-head)
     (chainLength (headers 3 words) blocks lazy-head)
-    (numberOf 3 (chainEnd (headers 3 words) blocks lazy-head))
+    (frontierIn 3 blocks words lazy-head)
     blocks
-
--- the frontier's block, by the words of so many blocks and the word in FREE
-abbrev pub frontierIn : ℕ → ℕ → (ℕ → ℕ) → ℕ → ℕ
-frontierIn fieldCount blocks words lazy-head = numberOf fieldCount (chainEnd (headers fieldCount words) blocks lazy-head)
 
 -- what to fit where at most `peak` blocks are reachable at once: two blocks more, of as many bytes as their words have
 abbrev pub fitFor : ℕ → ℕ → Fit

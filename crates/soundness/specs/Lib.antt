@@ -1,4 +1,4 @@
--- Demand 3, and how much heap to fit. `Claims`, `Peak`, `Counts` and what they cite is all that the promises say, and `Example` what it says of a list; lemmas beside them.
+-- Demand 3, and how much heap to fit. `Claims`, `Peak`, `Counts` and what they cite are what the promises say; `Example` and `Fewest` have a record each of what they say of a list. The others are lemmas.
 pub mod Claims  -- demand 3, and all that it says
 pub mod Peak  -- the frontier against the most blocks reachable at once, and the heap to fit
 pub mod Ending  -- a tree that does something ends as a run of its records

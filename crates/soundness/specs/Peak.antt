@@ -33,7 +33,7 @@ module _ (blocks : ℕ) where
   abbrev pub HeapAfterList : List Item → Type 0
   HeapAfterList its = HeapAfter objectSizes (layout 3) (statesBefore blocks its) (stateAfter blocks its)
 
-  -- the most blocks that the variables led to in any state so far, the fresh one's none among them
+  -- the most blocks that the variables led to in any state so far; in the fresh one they lead to none
   abbrev pub PeakOf : List Item → ℕ → Type 0
   PeakOf its peak = Peak peak (stateAfter blocks its ∷ statesBefore blocks its)
 
