@@ -598,6 +598,19 @@ mod tests {
         assert_eq!(stores(1, 2), [no_block(2)]);
     }
 
+    /// Why a store counts what is reachable before it and what it acquires: of three blocks it
+    /// finds two, its run faults, and the new variable leads nowhere yet.
+    #[test]
+    fn a_store_that_faults_reaches_less_than_it_counts() {
+        let mut played = Played::fresh(2);
+        for value in 0..7 {
+            assert_eq!(played.order(Order::Put(value), &[]).number, 0);
+        }
+        let ran = played.order(Order::Store { n: 7, tag: 0 }, &[]);
+        let fst = played.channel.state.registers[4];
+        assert_eq!((ran.number, fst), (11, 0));
+    }
+
     #[test]
     fn two_blocks_fewer_fault() {
         // a peak of 2: on two blocks the second store finds no block
