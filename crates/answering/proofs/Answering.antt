@@ -21,7 +21,7 @@ use Rattle.memory.specs.Answered.{variablesIn}
 use Rattle.orders.specs.declared.answer.Answer.{Answer}
 use Rattle.orders.specs.declared.answer.Answer.the-variants.{Context, Malformed}
 use Rattle.orders.specs.Writes.{wanted, treeOf, contextAfter}
-use Rattle.orders.specs.Answered.{Asked, accepted, orderIs, decided, answerTo, recordsOf, orderContext}
+use Rattle.orders.specs.Answered.{Asked, causeOf, accepted, orderIs, decided, answerTo, recordsOf, orderContext}
 use Rattle.answering.specs.Answers.{AnswersOrder}
 use Rattle.answering.specs.Decided.{fitting, written, judged, Leaves}
 
@@ -36,7 +36,7 @@ order-whole s e =
 
 -- a refusal leaves both outputs
 pub unanswered : {o a : List ℕ} {r : Answer} (c : List ℕ) (q : Asked) → r ≡ answerTo base c q → accepted r ≡ false → AnswersOrder c q r o o a a
-unanswered c q e f = record { answer = e; records = rw (← e, f); after = rw (← e, f) }
+unanswered c q e f = record { answer = e; cause = ap causeOf e; records = rw (← e, f); after = rw (← e, f) }
 
 module _ (c : List ℕ) (q : Asked) where
   pub context-bad : (place : ℕ) → checkedContext c ≡ checked.Malformed place → Context ≡ answerTo base c q
@@ -98,6 +98,7 @@ module _ (c : List ℕ) (q : Asked) where
             answered {o₁ = o₁} {c₁ = c₁} d =
                 record {
                   answer = d .answer ∙ as-judged;
+                  cause = ap causeOf (d .answer ∙ as-judged);
                   records = d .records ∙ ap (λ (x : Answer). output x o₁ (written c k (q .bindings) o (q .counter))) as-judged ∙ ap (output (answerTo base c q) o₁) same-records;
                   after = d .context ∙ ap (λ (x : Answer). output x c₁ (contextAfter c k (q .bindings) o)) as-judged ∙ ap (output (answerTo base c q) c₁) same-context;
                 }

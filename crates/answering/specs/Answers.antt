@@ -5,7 +5,7 @@ use mathlib.Core.List.{List}
 use lib.ListN.{length}
 use Rattle.layout.specs.Config.{base}
 use Rattle.orders.specs.declared.answer.Answer.{Answer}
-use Rattle.orders.specs.Answered.{Asked, answerTo, recordsOutput, contextOutput}
+use Rattle.orders.specs.Answered.{Asked, causeOf, answerTo, recordsOutput, contextOutput}
 
 -- what goes in: the order's bytes, the bindings that follow it, the counter, and the two outputs
 abbrev pub asking : List ℕ → List ℕ → ℕ → List ℕ → List ℕ → Asked
@@ -15,5 +15,6 @@ asking order bindings counter records after =
 -- the answer r and what the outputs o and a become are what document 01 says of the context and of what goes in
 pub record AnswersOrder (context : List ℕ) (q : Asked) (r : Answer) (o o′ a a′ : List ℕ) : Type 0 where
   pub answer : r ≡ answerTo base context q
+  pub cause : causeOf r ≡ causeOf (answerTo base context q)
   pub records : o′ ≡ recordsOutput base context q o
   pub after : a′ ≡ contextOutput base context q a

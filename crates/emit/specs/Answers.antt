@@ -11,9 +11,9 @@ use Rattle.records.specs.ReadBack.{joined, codeBytes}
 use Rattle.emit.specs.declared.answer.Answer.{Answer}
 use Rattle.emit.specs.declared.answer.Answer.the-variants.{Written, Context, Body, Operand, Missing, Arguments, Count, Position, Labels, Room}
 
--- document 01's number and values for each answer, nothing where the records are written
+-- document 01's number and values for each answer: 0, with the records and the counter after them, where they are written
 abbrev pub causeOf : Answer → List ℕ
-causeOf (Written n counter) = []
+causeOf (Written n counter) = 0 ∷ n ∷ counter ∷ []
 causeOf Context = 1 ∷ []
 causeOf (Body place) = 2 ∷ place ∷ []
 causeOf Operand = 3 ∷ []
@@ -45,7 +45,8 @@ accepted (Room bytes) = false
 abbrev pub output : Answer → List ℕ → List Code → List ℕ
 output r o cs = cond (accepted r) (sets o 0 (joined codeBytes cs)) o
 
--- what a public operation ensures: its answer r is the one expected, and the output holds the records cs if it is written
+-- what a public operation ensures: its answer r is the one expected, with document 01's number and values, and the output holds the records cs if it is written
 pub record Answers (o o′ : List ℕ) (r expected : Answer) (cs : List Code) : Type 0 where
   pub answer : r ≡ expected
+  pub cause : causeOf r ≡ causeOf expected
   pub bytes : o′ ≡ output expected o cs

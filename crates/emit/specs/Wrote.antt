@@ -21,7 +21,7 @@ use Rattle.emit.specs.declared.cursor.Cursor.{Cursor}
 use Rattle.emit.specs.declared.answer.Answer.{Answer}
 use Rattle.emit.specs.declared.answer.Answer.the-variants.{Written, Labels, Room}
 use Rattle.emit.specs.Emitted.{written, fieldsList, Emits}
-use Rattle.emit.specs.Answers.{granted, accepted, Answers}
+use Rattle.emit.specs.Answers.{causeOf, granted, accepted, output, Answers}
 
 pub bytes-long : (f : Fields) → length (fieldsBytes f) ≡ 24
 unfolding fieldsBytes le
@@ -64,9 +64,12 @@ module _ (counter room bytes n : ℕ) where
       by false true p q r = let z : _≡_ {A = ℕ} 0 1 = cc in absurd (omega arith)
       by false false p q r = (ltb-false 2147483647 (counter + n) p, ltb-false room bytes q)
 
+pub answers : {o o′ : List ℕ} {r expected : Answer} {cs : List Code} → r ≡ expected → o′ ≡ output expected o cs → Answers o o′ r expected cs
+answers e f = record { answer = e; cause = ap causeOf e; bytes = f }
+
 -- a refusal leaves the output
 pub refused : {o : List ℕ} {r expected : Answer} {cs : List Code} {b : Bool} → r ≡ expected → b ≡ accepted r → b ≡ false → Answers o o r expected cs
-refused e a f = record { answer = e; bytes = rw (← e, ← a, f) }
+refused e a f = answers e (rw (← e, ← a, f))
 
 -- the answer's bounds on the counter and the room, from the size that a first pass told
 pub room-for : {o₀ o₁ : List ℕ} {p need : Cursor} {r : Answer} {b : Bool} (t : Tree) (counter room : ℕ) → Emits o₀ p o₁ need t → p .at ≡ 0 → p .counter ≡ 0
@@ -93,7 +96,4 @@ module _ {o₀ o₁ : List ℕ} {p need : Cursor} (t : Tree) (counter : ℕ) (d 
     wrote g w i j =
         let h = room-for t counter (length o) d a c e f g in
         let l = length-flat t counter 0 in
-        record {
-          answer = e ∙ same (length o);
-          bytes = w .bytes ∙ rw (i, j, ← (e ∙ same (length o)), ← f, g) (written-whole (flat t counter) o 0 (omega arith));
-        }
+        answers (e ∙ same (length o)) (w .bytes ∙ rw (i, j, ← (e ∙ same (length o)), ← f, g) (written-whole (flat t counter) o 0 (omega arith)))

@@ -30,9 +30,9 @@ operandOk g w = leb 4 w && ltb w (g .spills + 16) && (ltb w 16 || ltb 16 w)
 unfoldable pub positionAnswer : Config → ℕ → Temporary
 positionAnswer g p = cond (ltb p (positions g)) (Operand (location p)) OutOfTemporaries
 
--- document 01's number for each answer, nothing where there is an operand
+-- document 01's number for each answer: 0, with the operand, where there is one
 abbrev pub temporaryCause : Temporary → List ℕ
-temporaryCause (Operand w) = []
+temporaryCause (Operand w) = 0 ∷ w ∷ []
 temporaryCause Malformed = 1 ∷ []
 temporaryCause Missing = 4 ∷ []
 temporaryCause OutOfTemporaries = 8 ∷ []

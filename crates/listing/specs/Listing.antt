@@ -55,9 +55,9 @@ listedText names s = textOf names s (checkedList s)
 abbrev pub listed : List (List ℕ) → List ℕ → ℕ → Listed
 listed names s room = answerOf names s room (checkedList s)
 
--- document 01's number and values for each answer, nothing where the list is accepted and its listing written
+-- document 01's number and values for each answer: 0, with the bytes of the listing, where it is written
 abbrev pub causeOf : Listed → List ℕ
-causeOf (Text size) = []
+causeOf (Text size) = 0 ∷ size ∷ []
 causeOf (Malformed place) = 2 ∷ place ∷ []
 causeOf (Short needed) = 10 ∷ needed ∷ []
 

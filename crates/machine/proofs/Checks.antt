@@ -12,13 +12,13 @@ use Rattle.records.specs.declared.check.Checked.the-variants as checks
 use Rattle.records.specs.Checked.{firstBad, places, checked}
 use Rattle.records.specs.Instructions.{codeStarts, checkedCodes}
 use Rattle.records.proofs.Conditions.{and-right}
-use Rattle.records.proofs.CodesRead.{starts-ok, starts-whole}
+use Rattle.records.proofs.CodesRead.{starts-whole}
 use Rattle.machine.specs.declared.run.Answer.{Answer}
 use Rattle.machine.specs.declared.run.Answer.the-variants.{Malformed}
 use Rattle.instructions.specs.View.{View, view}
 use Rattle.instructions.specs.Memory.{heapOk}
 use Rattle.machine.specs.Run.{Done, causeOf, Leaves, codesOf, started, ran}
-use Rattle.machine.specs.Loop.{Listed, Ends}
+use Rattle.machine.specs.Loop.{Listed, EndsBy}
 use Rattle.machine.proofs.Running.{unlike}
 
 -- each record from place k on passes the test
@@ -51,7 +51,7 @@ module _ (most : ℕ) (s : List ℕ) where
   whole (suc n) f = let w = simp length-drop at (starts-whole (drop (24 * n) s) (f n (omega arith))) in omega arith
 
   pub accepted : {n : ℕ} → checkedCodes most s ≡ checks.Good n → Listed s n
-  accepted {n} e = record { whole = whole n (starts e); ok = λ k h. starts-ok (drop (24 * k) s) (starts e k h) }
+  accepted {n} e = record { whole = whole n (starts e); starts = starts e }
 
 -- the whole run: refused for the heap, for a record, or as its records go
 leaves : {a : Answer} {v : View} {d : Done} → a ≡ d .answer → v ≡ d .last .state → Leaves a v d
@@ -67,7 +67,7 @@ module _ (words : ℕ → ℕ) (s : List ℕ) (limit : ℕ) (R S H : List ℕ) {
     unfolding ran
     ran-malformed q = rw (← h, t, sym e ∙ q) (leaves refl refl)
 
-    pub ran-ends : {n : ℕ} {a : Answer} (R′ S′ H′ : List ℕ) → k ≡ checks.Good n → Ends R′ S′ H′ a (started words (codesOf n s) limit (view R S H))
-        → Leaves a (view R′ S′ H′) (ran words s limit (view R S H))
+    pub ran-ends : {n : ℕ} {a : Answer} {v : View} → k ≡ checks.Good n → EndsBy v a (started words (codesOf n s) limit (view R S H))
+        → Leaves a v (ran words s limit (view R S H))
     unfolding ran
-    ran-ends R′ S′ H′ q f = rw (← h, t, sym e ∙ q) (leaves (f .answer) (f .last))
+    ran-ends q f = rw (← h, t, sym e ∙ q) (leaves (f .answer) (f .last))

@@ -17,7 +17,7 @@ use Rattle.records.specs.Codes.{readers, codeOf}
 use Rattle.records.specs.Instructions.{fieldsIn, fieldsOk}
 use Rattle.records.specs.ReadBack.{codeIn}
 use Rattle.records.proofs.Numbers.{number-drop}
-use Rattle.records.proofs.CodesRead.{ok-code}
+use Rattle.records.proofs.CodesRead.{ok-code, starts-ok}
 use Rattle.machine.specs.declared.run.Found.the-variants.{At, Absent}
 use Rattle.machine.specs.Run.{isLab, placesOf, theOne, find, codesOf}
 use Rattle.machine.specs.Loop.{Listed, labWith, placesFrom, First}
@@ -59,7 +59,7 @@ module _ (label : ℕ) (s : List ℕ) (n : ℕ) where
       let m : n - k ≡ suc (n - suc k) = omega arith in
       let j : 24 * k + 24 ≡ 24 * suc k = omega arith in
       let d : drop 24 (drop (24 * k) s) ≡ drop (24 * suc k) s = drop-drop 24 (24 * k) s ∙ ap (λ i. drop i s) j in
-      rw (m, add-one k, ← d) (one-more (n - suc k) k (drop (24 * k) s) (lab-told label _ (z .ok k h) ∙ sym e))
+      rw (m, add-one k, ← d) (one-more (n - suc k) k (drop (24 * k) s) (lab-told label _ (starts-ok _ (z .starts k h)) ∙ sym e))
 
   pub places-end : (k : ℕ) → n ≤ k → placesFrom label s n k ≡ []
   unfolding placesOf

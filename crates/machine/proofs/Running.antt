@@ -14,7 +14,9 @@ use Rattle.records.specs.declared.code.Fields.{Fields}
 use Rattle.records.specs.Codes.{codeOf}
 use Rattle.records.specs.Instructions.{fieldsIn, fieldsOk}
 use Rattle.records.specs.ReadBack.{codeIn}
+use Rattle.records.proofs.CodesRead.{starts-ok}
 use Rattle.instructions.specs.declared.instruction.Compared.{Compared}
+use Rattle.instructions.specs.declared.instruction.Compared.the-variants.{Absent}
 use Rattle.instructions.specs.declared.instruction.Pair.{Pair}
 use Rattle.instructions.specs.declared.instruction.Went.{Went}
 use Rattle.instructions.specs.declared.instruction.Went.the-variants.{Next, Called, Jump, End, Fault}
@@ -29,11 +31,11 @@ use Rattle.instructions.specs.View.{View, view}
 use Rattle.instructions.specs.Step.{Call, Config, config, outcomeOf, step}
 use Rattle.machine.specs.Run.{Done, done, onFound, find, follow, runs, codesOf, started}
 use Rattle.instructions.specs.Forms.{comparedOf, Sized, Goes}
-use Rattle.machine.specs.Loop.{Listed, turnTo, turnOf, Ends}
+use Rattle.machine.specs.Loop.{Listed, turnTo, turnOf, Ends, Turns, EndsBy}
 use Rattle.instructions.proofs.Flow.{jump-keeps}
 
 pub listed-ok : {s : List ℕ} {n k : ℕ} {f : Fields} → Listed s n → k < n → f ≡ fieldsIn (drop (24 * k) s) → fieldsOk f ≡ true
-listed-ok {k} z h e = rw e (z .ok k h)
+listed-ok {k} z h e = rw e (starts-ok _ (z .starts k h))
 
 -- record k of n in the bytes s
 code-at : (n k : ℕ) (s : List ℕ) → k < n → getElem? (codesOf n s) k ≡ some (codeIn (drop (24 * k) s))
@@ -87,64 +89,75 @@ module _ (p : List Code) (n i : ℕ) (c : Config) (go : ℕ → Config → Done)
   follow-fault End e k = unlike (cc)
   follow-fault Fault e k = (config t q calls, refl, refl)
 
--- registers, stack and heap where n records of s are at a place after so many steps, and the whole run is d
-pub record Going (words : ℕ → ℕ) (s : List ℕ) (n limit : ℕ) (d : Done) (R S H : List ℕ) (p : Pair) (place steps : ℕ) : Type 0 where
-  pub sized : Sized R S
+-- what is seen as v, with the last compare q, where n records of s are at a place after so many steps, and the whole run is d
+pub record Going (words : ℕ → ℕ) (s : List ℕ) (n limit : ℕ) (d : Done) (v : View) (q : Compared) (place steps : ℕ) : Type 0 where
   pub within : steps ≤ limit
   pub calls : List Call
-  pub left : d ≡ runs words (codesOf n s) (limit - steps) steps place (config (view R S H) (comparedOf p) calls)
+  pub left : d ≡ runs words (codesOf n s) (limit - steps) steps place (config v q calls)
 
-ends : {R S H : List ℕ} {a : Answer} {d : Done} (c : Config) → Sized R S → d ≡ done a c → view R S H ≡ c .state → Ends R S H a d
-ends c z e v = record { sized = z; answer = sym (ap (λ x. x .answer) e); last = v ∙ sym (ap (λ x. x .last .state) e) }
+ends : {v : View} {a : Answer} {d : Done} (c : Config) → d ≡ done a c → v ≡ c .state → EndsBy v a d
+ends c e k = record { answer = sym (ap (λ x. x .answer) e); last = k ∙ sym (ap (λ x. x .last .state) e) }
+
+-- the same on lent arrays
+pub lent : {R S H : List ℕ} {a : Answer} {d : Done} → Sized R S → EndsBy (view R S H) a d → Ends R S H a d
+lent z e = record { sized = z; answer = e .answer; last = e .last }
+
+pub seen : {R S H : List ℕ} {a : Answer} {d : Done} → Ends R S H a d → EndsBy (view R S H) a d
+seen e = record { answer = e .answer; last = e .last }
+
+module _ (words : ℕ → ℕ) (s : List ℕ) (n : ℕ) where
+  -- what a record does on lent arrays is one step
+  pub turned : {place : ℕ} {f : Fields} {R S H R′ S′ H′ : List ℕ} {p : Pair} {m : Moved} {t : Turn} → f ≡ fieldsIn (drop (24 * place) s)
+      → Goes R S H R′ S′ H′ p m (step words (codeOf f)) → t ≡ turnOf (codesOf n s) place (m .went)
+      → Turns words n s place (view R S H) (comparedOf p) (view R′ S′ H′) (comparedOf (m .pair)) t
+  turned {R} {S} {H} {p} {m} e o u =
+      record { went = m .went; goes = λ calls. o .goes calls ∙ ap (λ y. step words (codeOf y) (config (view R S H) (comparedOf p) calls)) e; turn = u }
 
 module _ (words : ℕ → ℕ) (s : List ℕ) (n limit : ℕ) where
-  pub going-first : (R S H : List ℕ) {p : Pair} → Sized R S → p .made ≡ 0 → Going words s n limit (started words (codesOf n s) limit (view R S H)) R S H p 0 0
-  going-first R S H z e = record { sized = z; within = omega arith; calls = []; left = rw (sub-zero, e) }
+  pub going-first : (v : View) → Going words s n limit (started words (codesOf n s) limit v) v Absent 0 0
+  going-first v = record { within = omega arith; calls = []; left = rw sub-zero }
 
-  module _ {d : Done} {R S H : List ℕ} {p : Pair} {place steps : ℕ} (g : Going words s n limit d R S H p place steps) where
-    pub going-limit : place < n → limit ≤ steps → Ends R S H (answer.Limit steps) d
+  module _ {d : Done} {v : View} {q : Compared} {place steps : ℕ} (g : Going words s n limit d v q place steps) where
+    pub going-limit : place < n → limit ≤ steps → EndsBy v (answer.Limit steps) d
     unfolding runs
-    going-limit h l = let e : limit - steps ≡ 0 = omega arith in ends (config (view R S H) (comparedOf p) (g .calls)) (g .sized) (g .left ∙ rw (e, code-at n place s h)) refl
+    going-limit h l = let e : limit - steps ≡ 0 = omega arith in ends (config v q (g .calls)) (g .left ∙ rw (e, code-at n place s h)) refl
 
     past : (k : ℕ) (c : Config) → n ≤ place → runs words (codesOf n s) k steps place c ≡ done (answer.Ended steps) c
     unfolding runs
     past zero c h = rw (code-past n place s h)
     past (suc k) c h = rw (code-past n place s h)
 
-    pub going-past : n ≤ place → Ends R S H (answer.Ended steps) d
-    going-past h = ends _ (g .sized) (g .left ∙ past (limit - steps) _ h) refl
+    pub going-past : n ≤ place → EndsBy v (answer.Ended steps) d
+    going-past h = ends _ (g .left ∙ past (limit - steps) _ h) refl
 
-    module _ {f : Fields} {R′ S′ H′ : List ℕ} {m : Moved} {t : Turn} (h : place < n) (l : steps < limit) (e : f ≡ fieldsIn (drop (24 * place) s))
-        (o : Goes R S H R′ S′ H′ p m (step words (codeOf f)))
-        (u : t ≡ turnOf (codesOf n s) place (m .went)) where
+    module _ {v′ : View} {q′ : Compared} {t : Turn} (h : place < n) (l : steps < limit) (o : Turns words n s place v q v′ q′ t) where
       abbrev after : ℕ → Config → Done
       after j c = runs words (codesOf n s) (limit - suc steps) (suc steps) j c
 
       before : Config
-      before = config (view R S H) (comparedOf p) (g .calls)
+      before = config v q (g .calls)
 
-      stepped : step words (codeIn (drop (24 * place) s)) before ≡ outcomeOf (m .went) (view R′ S′ H′) (comparedOf (m .pair)) (g .calls)
+      stepped : step words (codeIn (drop (24 * place) s)) before ≡ outcomeOf (o .went) v′ q′ (g .calls)
       unfolding before
-      stepped =
-          sym (o .goes (g .calls) ∙ ap (λ y. step words (codeOf y) (config (view R S H) (comparedOf p) (g .calls))) e)
+      stepped = sym (o .goes (g .calls))
 
-      one : d ≡ follow (codesOf n s) steps place before after (outcomeOf (m .went) (view R′ S′ H′) (comparedOf (m .pair)) (g .calls))
+      one : d ≡ follow (codesOf n s) steps place before after (outcomeOf (o .went) v′ q′ (g .calls))
       unfolding runs before
       one = let k : limit - steps ≡ suc (limit - suc steps) = omega arith in g .left ∙ rw (k, code-at n place s h, stepped)
 
-      pub going-on : {j : ℕ} → t ≡ turn.To j → Going words s n limit d R′ S′ H′ (m .pair) j (steps + 1)
-      going-on v =
-          let x = follow-to (codesOf n s) steps place before after (view R′ S′ H′) (comparedOf (m .pair)) (g .calls) (m .went) (sym u ∙ v) in
-          record { sized = o .sized; within = omega arith; calls = x .0; left = rw add-one (one ∙ x .1) }
+      pub going-on : {j : ℕ} → t ≡ turn.To j → Going words s n limit d v′ q′ j (steps + 1)
+      going-on k =
+          let x = follow-to (codesOf n s) steps place before after v′ q′ (g .calls) (o .went) (sym (o .turn) ∙ k) in
+          record { within = omega arith; calls = x .0; left = rw add-one (one ∙ x .1) }
 
-      pub going-ended : t ≡ turn.End → Ends R′ S′ H′ (answer.Ended (steps + 1)) d
-      going-ended v = rw add-one (ends _ (o .sized) (one ∙ follow-end (codesOf n s) steps place before after (view R′ S′ H′) (comparedOf (m .pair)) (g .calls) (m .went) (sym u ∙ v)) refl)
+      pub going-ended : t ≡ turn.End → EndsBy v′ (answer.Ended (steps + 1)) d
+      going-ended k = rw add-one (ends _ (one ∙ follow-end (codesOf n s) steps place before after v′ q′ (g .calls) (o .went) (sym (o .turn) ∙ k)) refl)
 
-      still : (label : ℕ) → m .went ≡ Jump label → view R′ S′ H′ ≡ before .state
+      still : (label : ℕ) → o .went ≡ Jump label → v′ ≡ before .state
       unfolding before
-      still label w = jump-keeps before words (codeIn (drop (24 * place) s)) (stepped ∙ ap (λ y. outcomeOf y (view R′ S′ H′) (comparedOf (m .pair)) (g .calls)) w)
+      still label w = jump-keeps before words (codeIn (drop (24 * place) s)) (stepped ∙ ap (λ y. outcomeOf y v′ q′ (g .calls)) w)
 
-      pub going-faulted : t ≡ turn.Fault → Ends R′ S′ H′ (answer.Fault steps (place + 1)) d
-      going-faulted v =
-          let x = follow-fault (codesOf n s) steps place before after (view R′ S′ H′) (comparedOf (m .pair)) (g .calls) (m .went) (sym u ∙ v) still in
-          rw add-one (ends (x .0) (o .sized) (one ∙ x .1) (x .2))
+      pub going-faulted : t ≡ turn.Fault → EndsBy v′ (answer.Fault steps (place + 1)) d
+      going-faulted k =
+          let x = follow-fault (codesOf n s) steps place before after v′ q′ (g .calls) (o .went) (sym (o .turn) ∙ k) still in
+          rw add-one (ends (x .0) (one ∙ x .1) (x .2))

@@ -1,10 +1,10 @@
 -- One instruction tried alone: refused, or performed as the step.
-use Prim.Native.Nat.{ℕ, _<_}
+use Prim.Native.Nat.{ℕ, _*_, _<_}
 use mathlib.Core.Path.{_≡_, sym, ap, _∙_}
 use mathlib.Core.Bool.{Bool, true, false, _&&_}
-use mathlib.Core.List.{List}
+use mathlib.Core.List.{List, []}
 use lib.Dec.{leb, eqb}
-use lib.ListN.{length}
+use lib.ListN.{length, drop}
 use native.Mathlib.Omega.{arith}
 use borrow.Author.Tests.{ltb-true, eqb-true}
 use Rattle.records.specs.declared.code.Code.{Code}
@@ -18,10 +18,21 @@ use Rattle.instructions.specs.declared.instruction.Moved.{Moved}
 use Rattle.machine.specs.declared.step.Tried.the-variants.{Took, Malformed}
 use Rattle.instructions.specs.View.{View, view}
 use Rattle.instructions.specs.Memory.{heapOk}
-use Rattle.instructions.specs.Step.{Call, config, step}
+use Rattle.instructions.specs.Step.{Call, config, Outcome, outcomeOf, step}
 use Rattle.machine.specs.Trial.{took, trial, trialOf}
 use Rattle.instructions.specs.Forms.{comparedOf, Goes}
-use Rattle.records.proofs.CodesBack.{code-fields}
+use Rattle.records.specs.declared.code.CodeRead.{CodeRead}
+use Rattle.records.specs.declared.code.CodeRead.the-variants as read
+use Rattle.records.specs.Instructions.{fieldsIn, codeAt}
+use Rattle.records.specs.ReadBack.{codeIn}
+use Rattle.records.proofs.CodesRead.{starts-ok}
+use Rattle.records.proofs.CodesBack.{code-fields, fields-code}
+use Rattle.instructions.specs.declared.instruction.Went.{Went}
+use Rattle.machine.specs.declared.run.Turn.{Turn}
+use Rattle.machine.specs.declared.step.Tried.{Tried}
+use Rattle.machine.specs.Run.{codesOf}
+use Rattle.machine.specs.Loop.{Listed, turnOf, Turns}
+use Rattle.machine.proofs.Running.{unlike}
 
 register-named : (uses : Bool) (r : ℕ) → registerOk uses r ≡ true → r < 16
 register-named true r e = ltb-true r 16 e
@@ -55,3 +66,33 @@ module _ (words : ℕ → ℕ) (x : Code) (R S H : List ℕ) {R′ S′ H′ : L
   unfolding trial
   performs h t e o r k k′ g =
       rw (← h, t, ← e, ← o, r, k′, ← k) (ap took (g .goes calls ∙ ap (λ y. step words y (config (view R S H) (comparedOf p) calls)) (ap codeOf e ∙ code-fields x)))
+
+took-same : {x y : Outcome} → took x ≡ took y → x ≡ y
+took-same e = cc
+
+-- record `place` of a checked list, beside a heap that may be lent: it is read, its step is not refused, and the state is that of the step
+module _ (words : ℕ → ℕ) (n : ℕ) (s : List ℕ) (place : ℕ) (v : View) (q : Compared) (z : Listed s n) (h : place < n) (k : heapOk (v .size) ≡ true) {r : CodeRead} (e : r ≡ codeAt s place) where
+  is-read : r ≡ read.Record (codeIn (drop (24 * place) s))
+  unfolding codeAt
+  is-read = e ∙ rw (z .starts place h)
+
+  pub not-unread : {A : Type 0} → r ≡ read.Malformed → A
+  not-unread m = unlike (let x = is-read in cc)
+
+  module _ {x : Code} (y : r ≡ read.Record x) where
+    same : x ≡ codeIn (drop (24 * place) s)
+    same = let b = is-read in cc
+
+    tries : (calls : List Call) → trial words x (config v q calls) ≡ took (step words (codeIn (drop (24 * place) s)) (config v q calls))
+    unfolding trial
+    tries calls =
+        let f = fieldsIn (drop (24 * place) s) in
+        let o = starts-ok (drop (24 * place) s) (z .starts place h) in
+        rw (k, same, fields-code f o, o)
+
+    module _ {t : Tried} (v′ : View) (q′ : Compared) (b : (calls : List Call) → trialOf t v′ q′ calls ≡ trial words x (config v q calls)) where
+      pub not-refused : {A : Type 0} {i : ℕ} → t ≡ Malformed i → A
+      not-refused {i} m = unlike (let y : trialOf (Malformed i) v′ q′ [] ≡ took (step words (codeIn (drop (24 * place) s)) (config v q [])) = rw m at (b [] ∙ tries []) in cc)
+
+      pub turns : {w : Went} {r : Turn} → t ≡ Took w → r ≡ turnOf (codesOf n s) place w → Turns words n s place v q v′ q′ r
+      turns {w} m u = record { went = w; goes = λ calls. took-same (rw m at (b calls ∙ tries calls)); turn = u }

@@ -8,7 +8,7 @@ use lib.Dec.{eqb}
 use lib.ListN.{length, drop}
 use Rattle.records.specs.declared.code.Code.{Code}
 use Rattle.records.specs.declared.code.Fields.{Fields}
-use Rattle.records.specs.Instructions.{fieldsIn, fieldsOk}
+use Rattle.records.specs.Instructions.{codeStarts}
 use Rattle.instructions.specs.declared.instruction.Went.{Went}
 use Rattle.instructions.specs.declared.instruction.Went.the-variants.{Next, Called, Jump, End, Fault}
 use Rattle.machine.specs.declared.run.Answer.{Answer}
@@ -16,14 +16,17 @@ use Rattle.machine.specs.declared.run.Found.{Found}
 use Rattle.machine.specs.declared.run.Found.the-variants as found
 use Rattle.machine.specs.declared.run.Turn.{Turn}
 use Rattle.machine.specs.declared.run.Turn.the-variants as turn
-use Rattle.instructions.specs.View.{view}
+use Rattle.instructions.specs.declared.instruction.Compared.{Compared}
+use Rattle.instructions.specs.View.{View, view}
+use Rattle.instructions.specs.Step.{Call, config, outcomeOf, step}
+use Rattle.records.specs.ReadBack.{codeIn}
 use Rattle.machine.specs.Run.{Done, placesOf, find, codesOf}
 use Rattle.instructions.specs.Forms.{Sized}
 
 -- n whole, well-formed records in the bytes s
 pub record Listed (s : List ℕ) (n : ℕ) : Type 0 where
   pub whole : 24 * n ≤ length s
-  pub ok : (k : ℕ) → k < n → fieldsOk (fieldsIn (drop (24 * k) s)) ≡ true
+  pub starts : (k : ℕ) → k < n → codeStarts (drop (24 * k) s) ≡ true
 
 -- the record with the fields f is LAB's, with a label
 abbrev pub labWith : ℕ → Fields → Bool
@@ -56,3 +59,14 @@ pub record Ends (R S H : List ℕ) (a : Answer) (d : Done) : Type 0 where
   pub sized : Sized R S
   pub answer : a ≡ d .answer
   pub last : view R S H ≡ d .last .state
+
+-- one step, at record `place` of n in s: from what is seen as v, with the last compare q, to v′ and q′, and what follows
+pub record Turns (words : ℕ → ℕ) (n : ℕ) (s : List ℕ) (place : ℕ) (v : View) (q : Compared) (v′ : View) (q′ : Compared) (t : Turn) : Type 0 where
+  pub went : Went
+  pub goes : (calls : List Call) → outcomeOf went v′ q′ calls ≡ step words (codeIn (drop (24 * place) s)) (config v q calls)
+  pub turn : t ≡ turnOf (codesOf n s) place went
+
+-- a state and a heap seen as v are as a run leaves them, with its answer
+pub record EndsBy (v : View) (a : Answer) (d : Done) : Type 0 where
+  pub answer : a ≡ d .answer
+  pub last : v ≡ d .last .state

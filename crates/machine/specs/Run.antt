@@ -88,9 +88,9 @@ ran words s limit v =
     (onChecked (checkedCodes 65536 s) (λ n. started words (codesOf n s) limit v) (λ place. done (Malformed place) (config v Absent [])))
     (done (Malformed 0) (config v Absent []))
 
--- document 01's number and values for each answer, nothing where the run ended
+-- document 01's number and values for each answer: 0, with the steps, where the run ended
 abbrev pub causeOf : Answer → List ℕ
-causeOf (Ended steps) = []
+causeOf (Ended steps) = 0 ∷ steps ∷ []
 causeOf (Malformed place) = 2 ∷ place ∷ []
 causeOf (Fault steps place) = 11 ∷ steps ∷ place ∷ []
 causeOf (Limit limit) = 12 ∷ limit ∷ []

@@ -1,5 +1,6 @@
 // A list of records, run to its end, a fault or a step limit.
 ghost use mathlib.Core.Path.{_≡_};
+ghost use mathlib.Core.Bool.{true};
 ghost use Prim.Native.Nat.{_+_, _≤_, _<_};
 ghost use lib.ListN.{length, drop};
 ghost use Rattle.records.specs.Instructions.{fieldsIn};
@@ -7,14 +8,18 @@ ghost use Rattle.instructions.specs.View.{view, wordsOf};
 ghost use Rattle.machine.specs.Run as is;
 ghost use Rattle.instructions.specs.Forms.{Sized};
 ghost use Rattle.machine.specs.State.{see};
-ghost use Rattle.machine.specs.Loop.{Listed, labWith, First, turnOf, Ends};
+ghost use Rattle.instructions.specs.Memory.{heapOk};
+ghost use Rattle.machine.specs.Loop.{Listed, labWith, First, turnOf, Ends, Turns, EndsBy};
 use crate::state::State;
 use crate::step;
+use crate::step::Tried;
+use instructions::instruction::Compared;
 use instructions::instruction::NONE;
 use instructions::instruction::Went;
 use instructions::memory;
 use records::bytes;
 use records::check::Checked;
+use records::code::CodeRead;
 
 // The steps of a run that ended; document 01's 2 with the place; 11 with the steps before the fault and the record's place; 12 with the limit.
 pub enum Answer {
@@ -102,7 +107,97 @@ fn follow(s: &[u8], n: usize, place: usize, went: Went) -> Turn
     }
 }
 
-// The n records of s, from the first. The table is copied once, and the state is lent.
+// What a record leaves, and what follows it.
+pub struct Turned {
+    pub state: State,
+    pub compared: Compared,
+    pub turn: Turn,
+}
+
+// Record `place` of the n records of s, one step. The two refusals are never met: the records and the heap were checked.
+fn take_step(
+    s: &[u8],
+    n: usize,
+    place: usize,
+    state: State,
+    heap: &mut [u64],
+    compared: Compared,
+    words: [u64; 9],
+) -> Turned
+    requires { ⌜ Listed (now s) n × (place < n) × (heapOk (length (now heap)) ≡ true) ⌝ }
+    ensures { λ r. ⌜ Turns (wordsOf words) n (now (s .entry)) place (see state (now (heap .entry))) compared (see (r .state) (now (heap .exit))) (r .compared) (r .turn) ⌝ }
+{
+    match records::code::read_code(s, place) {
+        CodeRead::Malformed => Turned {
+            state,
+            compared,
+            turn: Turn::Fault,
+        },
+        CodeRead::Record(code) => {
+            let t = step::step(code, state, heap, compared, words);
+            let left = t.state;
+            let pair = t.compared;
+            let tried = t.tried;
+            match tried {
+                Tried::Malformed(_) => Turned {
+                    state: left,
+                    compared: pair,
+                    turn: Turn::Fault,
+                },
+                Tried::Took(went) => Turned {
+                    state: left,
+                    compared: pair,
+                    turn: follow(s, n, place, went),
+                },
+            }
+        }
+    }
+}
+
+// The n records of s, from the first. Each step takes the state and returns it.
+fn turns(s: &[u8], n: usize, state: State, heap: &mut [u64], words: [u64; 9], limit: u64) -> Ran
+    requires { ⌜ Listed (now s) n × (heapOk (length (now heap)) ≡ true) ⌝ }
+    ensures { λ r. ⌜ EndsBy (see (r .state) (now (heap .exit))) (r .answer) (is.started (wordsOf words) (is.codesOf n (now (s .entry))) limit (see state (now (heap .entry)))) ⌝ }
+{
+    let mut at = state;
+    let mut compared = Compared::Absent;
+    let mut place = 0;
+    let mut done = 0;
+    while place < n {
+        if limit <= done {
+            return Ran {
+                state: at,
+                answer: Answer::Limit(done),
+            };
+        }
+        let t = take_step(s, n, place, at, heap, compared, words);
+        let left = t.state;
+        let pair = t.compared;
+        let turn = t.turn;
+        match turn {
+            Turn::To(j) => {
+                at = left;
+                compared = pair;
+                place = j;
+                done += 1;
+            }
+            Turn::End => return Ran {
+                state: left,
+                answer: Answer::Ended(done + 1),
+            },
+            Turn::Fault => return Ran {
+                state: left,
+                answer: Answer::Fault(done, place + 1),
+            },
+        }
+    }
+    Ran {
+        state: at,
+        answer: Answer::Ended(done),
+    }
+}
+
+// The same with the state lent, and the table of the codes' kinds copied once.
 fn steps(
     s: &[u8],
     n: usize,
@@ -139,8 +234,27 @@ fn steps(
     Answer::Ended(done)
 }
 
-// Document 01's run: `words` are what print calls leave, and the answer stands beside the state.
+// Document 01's run: each step takes the state and returns it, `words` are what print calls leave, and the answer stands beside the last state.
 pub fn run(records: &[u8], state: State, heap: &mut [u64], words: [u64; 9], limit: u64) -> Ran
+    ensures { λ r. ⌜ is.Leaves (r .answer) (see (r .state) (now (heap .exit))) (is.ran (wordsOf words) (now (records .entry)) limit (see state (now (heap .entry)))) ⌝ }
+{
+    if memory::heap_ok(heap.len()) {} else {
+        return Ran {
+            state,
+            answer: Answer::Malformed(0),
+        };
+    }
+    match records::code::check_codes(records, 65536) {
+        Checked::Malformed(place) => Ran {
+            state,
+            answer: Answer::Malformed(place),
+        },
+        Checked::Good(n) => turns(records, n, state, heap, words, limit),
+    }
+}
+
+// The same run, with the state's arrays lent to each step, so that no step copies the state: the library for C goes by it.
+pub fn run_lent(records: &[u8], state: State, heap: &mut [u64], words: [u64; 9], limit: u64) -> Ran
     ensures { λ r. ⌜ is.Leaves (r .answer) (see (r .state) (now (heap .exit))) (is.ran (wordsOf words) (now (records .entry)) limit (see state (now (heap .entry)))) ⌝ }
 {
     if memory::heap_ok(heap.len()) {} else {

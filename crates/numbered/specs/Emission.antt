@@ -8,7 +8,8 @@ use Rattle.records.specs.declared.code.Code.{Code}
 use Rattle.records.specs.declared.order.Operation.the-variants.{Add, Sub, Mul, Div, Rem}
 use Rattle.code.specs.declared.emitters.Condition.the-variants.{Equal, NotEqual, Less, LessOrEqual, Greater, GreaterOrEqual}
 use Rattle.emit.specs.declared.answer.Answer.{Answer}
-use Rattle.emit.specs.declared.answer.Answer.the-variants.{Written, Context, Body, Operand, Missing, Arguments, Count, Position, Labels, Room}
+use Rattle.emit.specs.declared.answer.Answer.the-variants.{Operand}
+use Rattle.emit.specs.Answers.{causeOf}
 use Rattle.trees.specs.Tree.{flat}
 use Rattle.layout.specs.Config.{base}
 use Rattle.operations.specs.declared.operation.Operation.{Operation}
@@ -16,32 +17,15 @@ use Rattle.operations.specs.declared.operation.Operation.the-variants.{Label, J
 use Rattle.memory.specs.Blocks.{eraseBlock, shareBlock}
 use Rattle.memory.specs.Answered.{eraseAnswer, shareAnswer, storeTree, storeAnswer}
 use Rattle.memory.specs.LoadAnswered.{loadTree, loadAnswer}
+use Rattle.numbered.specs.Numbers.{numbersIn}
 
 -- an answer's number and value; accepted, its value is the number of records written
 abbrev pub answerNumbers : Answer → List ℕ
-answerNumbers (Written n after) = 0 ∷ n ∷ []
-answerNumbers Context = 1 ∷ 0 ∷ []
-answerNumbers (Body place) = 2 ∷ place ∷ []
-answerNumbers Operand = 3 ∷ 0 ∷ []
-answerNumbers Missing = 4 ∷ 0 ∷ []
-answerNumbers Arguments = 6 ∷ 0 ∷ []
-answerNumbers Count = 7 ∷ 0 ∷ []
-answerNumbers Position = 8 ∷ 0 ∷ []
-answerNumbers Labels = 9 ∷ 0 ∷ []
-answerNumbers (Room bytes) = 10 ∷ bytes ∷ []
+answerNumbers r = numbersIn (causeOf r)
 
--- the counter after an answer: a refusal keeps it
+-- the counter after an answer, the third of its numbers: a refusal has none, and keeps it
 abbrev pub counterAfter : ℕ → Answer → ℕ
-counterAfter counter (Written n after) = after
-counterAfter counter Context = counter
-counterAfter counter (Body place) = counter
-counterAfter counter Operand = counter
-counterAfter counter Missing = counter
-counterAfter counter Arguments = counter
-counterAfter counter Count = counter
-counterAfter counter Position = counter
-counterAfter counter Labels = counter
-counterAfter counter (Room bytes) = counter
+counterAfter counter r = getD (causeOf r) 2 counter
 
 -- the operations of code.rs in sequence: operands x, y, z, a label and an immediate
 abbrev pub operations : ℕ → ℕ → ℕ → ℕ → ℕ → List Operation

@@ -1,6 +1,6 @@
 -- An answer as two numbers: document 01's number, 0 where the input is accepted, and the value that goes with it.
 use Prim.Native.Nat.{ℕ}
-use mathlib.Core.List.{List}
+use mathlib.Core.List.{List, [], _∷_}
 use lib.ListN.{getD}
 
 abbrev pub numberIn : List ℕ → ℕ
@@ -8,3 +8,7 @@ numberIn cause = getD cause 0 0
 
 abbrev pub valueIn : List ℕ → ℕ
 valueIn cause = getD cause 1 0
+
+-- a cause's number and value, each 0 where there is none
+abbrev pub numbersIn : List ℕ → List ℕ
+numbersIn cause = numberIn cause ∷ valueIn cause ∷ []

@@ -1,29 +1,15 @@
 -- An order's answer, told as numbers.
 use Prim.Native.Nat.{ℕ}
 use mathlib.Core.List.{List, [], _∷_}
+use lib.ListN.{getD}
 use Rattle.orders.specs.declared.answer.Answer.{Answer}
-use Rattle.orders.specs.declared.answer.Answer.the-variants.{Accepted, Context, Malformed, Missing, Kind, Count, Position, Labels, Room}
+use Rattle.orders.specs.Answered.{causeOf}
+use Rattle.numbered.specs.Numbers.{numberIn, valueIn}
 
 -- an answer's number, its value and the bindings of the context after it; accepted, the value is the number of records written
 abbrev pub orderNumbers : Answer → List ℕ
-orderNumbers (Accepted records after bindings) = 0 ∷ records ∷ bindings ∷ []
-orderNumbers Context = 1 ∷ 0 ∷ 0 ∷ []
-orderNumbers (Malformed place) = 2 ∷ place ∷ 0 ∷ []
-orderNumbers Missing = 4 ∷ 0 ∷ 0 ∷ []
-orderNumbers Kind = 5 ∷ 0 ∷ 0 ∷ []
-orderNumbers Count = 7 ∷ 0 ∷ 0 ∷ []
-orderNumbers Position = 8 ∷ 0 ∷ 0 ∷ []
-orderNumbers Labels = 9 ∷ 0 ∷ 0 ∷ []
-orderNumbers (Room bytes) = 10 ∷ bytes ∷ 0 ∷ []
+orderNumbers r = numberIn (causeOf r) ∷ valueIn (causeOf r) ∷ getD (causeOf r) 2 0 ∷ []
 
--- the counter after an answer: a refusal keeps it
+-- the counter after an answer, the fourth of its numbers: a refusal has none, and keeps it
 abbrev pub orderCounter : ℕ → Answer → ℕ
-orderCounter counter (Accepted records after bindings) = after
-orderCounter counter Context = counter
-orderCounter counter (Malformed place) = counter
-orderCounter counter Missing = counter
-orderCounter counter Kind = counter
-orderCounter counter Count = counter
-orderCounter counter Position = counter
-orderCounter counter Labels = counter
-orderCounter counter (Room bytes) = counter
+orderCounter counter r = getD (causeOf r) 3 counter

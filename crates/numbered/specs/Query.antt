@@ -4,17 +4,15 @@ use mathlib.Core.Bool.{Bool, true, false, cond}
 use mathlib.Core.List.{List, [], _∷_}
 use lib.Dec.{ltb}
 use Rattle.layout.specs.declared.utils.Temporary.{Temporary}
-use Rattle.layout.specs.declared.utils.Temporary.the-variants.{Operand, Malformed, Missing, OutOfTemporaries}
 use Rattle.layout.specs.declared.utils.TemporaryNumber.{TemporaryNumber}
 use Rattle.layout.specs.declared.utils.TemporaryNumber.the-variants.{Fst, Snd}
 use Rattle.layout.specs.Config.{base, stackOffset, fstOffset, sndOffset}
+use Rattle.layout.specs.Positions.{temporaryCause}
+use Rattle.numbered.specs.Numbers.{numbersIn}
 
 -- a temporary's number, and its operand
 abbrev pub temporaryNumbers : Temporary → List ℕ
-temporaryNumbers (Operand w) = 0 ∷ w ∷ []
-temporaryNumbers Malformed = 1 ∷ 0 ∷ []
-temporaryNumbers Missing = 4 ∷ 0 ∷ []
-temporaryNumbers OutOfTemporaries = 8 ∷ 0 ∷ []
+temporaryNumbers t = numbersIn (temporaryCause t)
 
 abbrev pub halfOf : Bool → TemporaryNumber
 halfOf true = Snd

@@ -1,12 +1,15 @@
 -- A run's answer, told as numbers.
 use Prim.Native.Nat.{ℕ}
+use mathlib.Core.Bool.{cond}
 use mathlib.Core.List.{List, [], _∷_}
+use lib.Dec.{eqb}
+use lib.ListN.{getD}
 use Rattle.machine.specs.declared.run.Answer.{Answer}
-use Rattle.machine.specs.declared.run.Answer.the-variants as run
+use Rattle.machine.specs.Run.{causeOf}
+use Rattle.numbered.specs.Numbers.{numberIn, valueIn}
 
--- a run's answer: the number, the steps done, and the place of a bad or faulting record, 0 where there is none
+-- a run's answer: the number, the steps done, and the place of a bad or faulting record, 0 where there is none; the one value of 2 is a place
 abbrev pub runNumbers : Answer → List ℕ
-runNumbers (run.Ended steps) = 0 ∷ steps ∷ 0 ∷ []
-runNumbers (run.Malformed place) = 2 ∷ 0 ∷ place ∷ []
-runNumbers (run.Fault steps place) = 11 ∷ steps ∷ place ∷ []
-runNumbers (run.Limit limit) = 12 ∷ limit ∷ 0 ∷ []
+runNumbers r =
+    cond (eqb (numberIn (causeOf r)) 2) (numberIn (causeOf r) ∷ 0 ∷ valueIn (causeOf r) ∷ [])
+    (numberIn (causeOf r) ∷ valueIn (causeOf r) ∷ getD (causeOf r) 2 0 ∷ [])

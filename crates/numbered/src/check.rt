@@ -5,7 +5,7 @@ ghost use Rattle.records.specs.Checked.{causeOf};
 ghost use Rattle.records.specs.Contexts.{checkedContext, contextCause};
 ghost use Rattle.records.specs.Instructions.{checkedCodes};
 ghost use Rattle.records.specs.Orders.{orderRead, orderCause};
-ghost use Rattle.numbered.specs.Check.{numbersIn};
+ghost use Rattle.numbered.specs.Numbers.{numbersIn};
 use records::check::Checked;
 use records::order::OrderRead;
 

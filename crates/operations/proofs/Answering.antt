@@ -11,7 +11,7 @@ use Rattle.emit.specs.declared.answer.Answer.{Answer}
 use Rattle.emit.specs.Emitted.{fieldsList, Emitted}
 use Rattle.emit.specs.Answers.{granted, accepted, Answers}
 use Rattle.emit.specs.Laws.{length-fields}
-use Rattle.emit.specs.Wrote.{written-whole, granted-if, refused}
+use Rattle.emit.specs.Wrote.{answers, written-whole, granted-if, refused}
 
 module _ {o₀ o₁ : List ℕ} {p need : Cursor} (cs : List Code) (d : Emitted o₀ p o₁ need (fieldsList cs) 0) (a : p .at ≡ 0) (c : p .counter ≡ 0) (o : List ℕ)
     {r : Answer} (e : r ≡ granted 0 (length o) (need .at) (need .counter)) {b : Bool} (f : b ≡ accepted r) where
@@ -28,4 +28,4 @@ module _ {o₀ o₁ : List ℕ} {p need : Cursor} (cs : List Code) (d : Emitted 
       → Answers o o′ r (granted 0 (length o) (24 * length cs) 0) cs
   wrote g w i =
       let h = granted-if 0 (length o) (24 * length cs) 0 (ap accepted (sym expected) ∙ sym f ∙ g) in
-      record { answer = expected; bytes = w .bytes ∙ rw (i, ← expected, ← f, g) (written-whole cs o 0 (omega arith)) }
+      answers expected (w .bytes ∙ rw (i, ← expected, ← f, g) (written-whole cs o 0 (omega arith)))

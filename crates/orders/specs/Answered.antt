@@ -19,9 +19,9 @@ use Rattle.orders.specs.declared.answer.Answer.{Answer}
 use Rattle.orders.specs.declared.answer.Answer.the-variants.{Accepted, Context, Malformed, Missing, Kind, Count, Position, Labels, Room}
 use Rattle.orders.specs.Writes.{wanted, countOk, treeOf, contextAfter, present, kindsOk, asked}
 
--- document 01's number and values for each answer, nothing where the order is accepted
+-- document 01's number and values for each answer: 0, with the records, the bindings and the counter after them, where the order is accepted
 abbrev pub causeOf : Answer → List ℕ
-causeOf (Accepted records counter bindings) = []
+causeOf (Accepted records counter bindings) = 0 ∷ records ∷ bindings ∷ counter ∷ []
 causeOf Context = 1 ∷ []
 causeOf (Malformed place) = 2 ∷ place ∷ []
 causeOf Missing = 4 ∷ []

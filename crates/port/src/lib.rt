@@ -75,7 +75,7 @@ pub extern "C" fn axcut_run(
         registers: taken,
         stack: held,
     };
-    let ran = machine::run::run(records, state, heap, *words, limit);
+    let ran = machine::run::run_lent(records, state, heap, *words, limit);
     let left = ran.state;
     let after = left.registers;
     let below = left.stack;

@@ -93,7 +93,7 @@ kept-fields u f e =
     let k₂ = kept-last _ (u .b) (f .b) _ (k₃ .0) in
     rw (kept-whole (u .a) (f .a) _ (k₂ .0), k₂ .1, k₃ .1, k₄ .1, k₅ .1)
 
-fields-code : (f : Fields) → fieldsOk f ≡ true → fieldsOf (codeOf f) ≡ f
+pub fields-code : (f : Fields) → fieldsOk f ≡ true → fieldsOf (codeOf f) ≡ f
 unfolding codeOf readers used fieldsOk
 fields-code f e =
     let r = ok-code f e in

@@ -18,10 +18,10 @@ stopWords n (value ∷ []) =
     (counted "run refused " n ++ counted " at place " value ++ ascii ", malformed record, or at place 0 the heap's size")
 stopWords n (steps ∷ place ∷ more) = counted "machine fault " n ++ counted " after " steps ++ counted " steps at record " place
 
--- nothing where there is no number: the run ended
+-- nothing where the number is 0: the run ended
 unfoldable pub stopped : List ℕ → List ℕ → List ℕ
 stopped head [] = []
-stopped head (n ∷ values) = head ++ stopWords n values ++ ascii ", the channel stops here\n"
+stopped head (n ∷ values) = cond (eqb n 0) [] (head ++ stopWords n values ++ ascii ", the channel stops here\n")
 
 unfoldable pub stopLine : ℕ → List ℕ → Answer → List ℕ
 stopLine number order ran = stopped (start number order) (causeOf ran)

@@ -13,7 +13,7 @@ use Rattle.records.proofs.Joined.{joined-length}
 use Rattle.records.proofs.Storing.{sets-then}
 use Rattle.emit.specs.declared.answer.Answer.{Answer}
 use Rattle.emit.specs.declared.cursor.Cursor.{Cursor}
-use Rattle.emit.specs.Answers.{granted, accepted}
+use Rattle.emit.specs.Answers.{causeOf, granted, accepted}
 use Rattle.emit.specs.Emitted.{fieldsList, Emitted}
 use Rattle.emit.specs.Laws.{length-fields}
 use Rattle.emit.specs.Wrote.{written-whole, granted-if}
@@ -65,10 +65,10 @@ assembled {o} {o₁} {o₂} {o₃} {p} {q} {e} n body h d s b c t =
 
 module _ {o : List ℕ} {r expected : Answer} {b : Bool} (n : ℕ) (body : List ℕ) (e : r ≡ expected) (f : b ≡ accepted r) where
   pub not-assembled : b ≡ false → Assembles o o r expected n body
-  not-assembled g = record { answer = e; bytes = rw (← e, ← f, g) }
+  not-assembled g = record { answer = e; cause = ap causeOf e; bytes = rw (← e, ← f, g) }
 
   pub all-assembled : {o′ : List ℕ} → b ≡ true → o′ ≡ sets o 0 (routineBytes base n body) → Assembles o o′ r expected n body
-  all-assembled g w = record { answer = e; bytes = rw (← e, ← f, g) w }
+  all-assembled g w = record { answer = e; cause = ap causeOf e; bytes = rw (← e, ← f, g) w }
 
 module _ (o : List ℕ) (n : ℕ) (body : List ℕ) {r : Answer} (e : r ≡ granted 0 (length o) (24 * (25 + n) + length body) 0) where
   pub expected-answer : n ≤ 5 → r ≡ accepting base (length o) n body

@@ -15,7 +15,7 @@ use Rattle.records.specs.Instructions.{checkedCodes}
 use Rattle.records.specs.ReadBack.{joined, codeBytes}
 use Rattle.emit.specs.declared.answer.Answer.{Answer}
 use Rattle.emit.specs.declared.answer.Answer.the-variants.{Body, Arguments}
-use Rattle.emit.specs.Answers.{granted, accepted}
+use Rattle.emit.specs.Answers.{causeOf, granted, accepted}
 use Rattle.layout.specs.Config.{Config, base, STACK, HEAP, FREE, blockBytes}
 
 -- the names asm_main, cleanup, PRINT_I64 and PRINTLN_I64
@@ -100,4 +100,5 @@ module _ (g : Config) where
 -- if it is written, else it is as it was
 pub record Assembles (o o′ : List ℕ) (r expected : Answer) (n : ℕ) (body : List ℕ) : Type 0 where
   pub answer : r ≡ expected
+  pub cause : causeOf r ≡ causeOf expected
   pub bytes : o′ ≡ cond (accepted expected) (sets o 0 (routineBytes base n body)) o

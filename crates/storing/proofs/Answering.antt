@@ -13,6 +13,7 @@ use Rattle.trees.specs.Tree.{Tree, flat}
 use Rattle.emit.specs.declared.answer.Answer.{Answer}
 use Rattle.emit.specs.declared.answer.Answer.the-variants.{Missing, Position}
 use Rattle.emit.specs.Answers.{output, Answers}
+use Rattle.emit.specs.Wrote.{answers}
 use Rattle.layout.specs.Config.{base}
 use Rattle.memory.specs.Objects.{extIn, storeObject}
 use Rattle.memory.specs.Answered.{onContext, variablesIn, treeAnswer, storeTree, storeHighest, storeAnswer}
@@ -30,7 +31,7 @@ last-fits k = by (decLt k 134)
 
 pub answers-as : {o o′ : List ℕ} {r e e′ : Answer} {t t′ : Tree} (c : ℕ) → e ≡ e′ → t ≡ t′ → Answers o o′ r e (flat t c) → Answers o o′ r e′ (flat t′ c)
 answers-as {o} {o′} {r} {e} {e′} {t} {t′} c p q a =
-    record { answer = a .answer ∙ p; bytes = a .bytes ∙ ap (λ (x : Answer). outputOf x t) p ∙ ap (λ (u : Tree). outputOf e′ u) q }
+    answers (a .answer ∙ p) (a .bytes ∙ ap (λ (x : Answer). outputOf x t) p ∙ ap (λ (u : Tree). outputOf e′ u) q)
   where
     outputOf : Answer → Tree → List ℕ
     outputOf x u = output x o (flat u c)

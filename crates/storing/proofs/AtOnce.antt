@@ -14,7 +14,7 @@ use Rattle.emit.specs.declared.cursor.Cursor.{Cursor}
 use Rattle.emit.specs.declared.answer.Answer.the-variants.{Written}
 use Rattle.emit.specs.Emitted.{Emits}
 use Rattle.emit.specs.Answers.{granted, Answers}
-use Rattle.emit.specs.Wrote.{written-whole, granted-all}
+use Rattle.emit.specs.Wrote.{answers, written-whole, granted-all}
 
 pub at-once : {o o′ : List ℕ} {p q : Cursor} (t : Tree) (counter : ℕ) → Emits o p o′ q t → p .at ≡ 0 → p .counter ≡ counter
     → counter + labels t ≤ 2147483647 → 24 * size t ≤ length o
@@ -24,7 +24,7 @@ at-once {o} {q = q} t counter w i j l r =
     let c : q .counter ≡ counter + labels t = omega (arith, w .drawn) in
     let e : Written (q .at / 24) (q .counter) ≡ granted counter (length o) (24 * size t) (labels t) = rw (a, c) (granted-all counter (length o) (24 * size t) (labels t) l r) in
     let f = length-flat t counter 0 in
-    record { answer = e; bytes = w .bytes ∙ rw (i, j, ← e) (written-whole (flat t counter) o 0 (omega arith)) }
+    answers e (w .bytes ∙ rw (i, j, ← e) (written-whole (flat t counter) o 0 (omega arith)))
 
 -- what ample labels and room say
 pub ample-if : (counter room : ℕ) → (ltb counter 2147480000 && ltb 103199 room) ≡ true → (counter < 2147480000) × (103199 < room)

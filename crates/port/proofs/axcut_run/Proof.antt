@@ -10,4 +10,4 @@ axcut-run-spec =
     (λ c κs. search needs)
     (λ c κs. search needs)
     (λ c. search needs)
-    (λ c. gives (c .before .before .before .before .before .before .before .before .run .ensures) (c .told .ensures)))
+    (λ c. gives (c .before .before .before .before .before .before .before .before .run-lent .ensures) (c .told .ensures)))

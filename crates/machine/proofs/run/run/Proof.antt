@@ -1,6 +1,6 @@
 use borrow.Author.Needs.{needs}
-use mathlib.Core.Path.{sym, _∙_}
-use lib.ListN.{length-map}
+use mathlib.Core.Path.{sym, ap, _∙_}
+use Rattle.instructions.specs.Memory.{heapOk}
 use Rattle.instructions.specs.View.{wordsOf}
 use Rattle.machine.proofs.Checks.{accepted, ran-heap, ran-malformed, ran-ends}
 use Rattle.machine.proofs.run.run.Statement.{statement}
@@ -11,11 +11,11 @@ run-spec =
     tie.close
     (tie.spec
     (λ c κs. search needs)
-    (λ c. let s = c .before .before .before .before in ran-heap (wordsOf (s .args .t4)) (s .args .records .now) (s .args .limit) (s .args .state .registers) (s .args .state .stack) (s .args .heap .now) (c .before .heap-ok .ensures) (c .if1 .left))
+    (λ c. let s = c .before .before .before .before in ran-heap (wordsOf (s .args .words)) (s .args .records .now) (s .args .limit) (s .args .state .registers) (s .args .state .stack) (s .args .heap .now) (c .before .heap-ok .ensures) (c .if1 .left))
     (λ c κs. search needs)
     (λ c. search needs)
     (λ c. search needs)
-    (λ c κs. let s = c .before .before .before .before .before .before .before .before .before .before .before .before .before .before in (accepted 65536 _ (sym (c .before .before .before .before .before .before .before .before .before .check-codes .ensures) ∙ c .before .before .before .before .before .before .before .n .given .1), record { registers = sym (length-map (s .args .state .registers) (λ v. v)) ∙ s .good .1 .0 .1 .1 .0 .1 .0 .1; stack = sym (length-map (s .args .state .stack) (λ v. v)) ∙ s .good .1 .0 .1 .1 .1 .0 .1 .0 .1 }))
-    (λ c. let s = c .before .before .before .before .before .before .before .before in ran-malformed (wordsOf (s .args .t4)) (s .args .records .now) (s .args .limit) (s .args .state .registers) (s .args .state .stack) (s .args .heap .now) (c .before .before .before .before .before .heap-ok .ensures) (c .before .before .before .before .if1 .taken) (c .before .before .before .check-codes .ensures) (c .before .place .given .1))
+    (λ c κs. (accepted 65536 _ (sym (c .before .before .before .before .check-codes .ensures) ∙ c .before .before .n .given .1), sym (c .before .before .before .before .before .before .heap-ok .ensures) ∙ c .before .before .before .before .before .if1 .taken))
+    (λ c. let s = c .before .before .before .before .before .before .before .before in ran-malformed (wordsOf (s .args .words)) (s .args .records .now) (s .args .limit) (s .args .state .registers) (s .args .state .stack) (s .args .heap .now) (c .before .before .before .before .before .heap-ok .ensures) (c .before .before .before .before .if1 .taken) (c .before .before .before .check-codes .ensures) (c .before .place .given .1))
     (λ c. search needs)
-    (λ c. let s = c .before .before .before .before .before .before .before .before .before .before .before .before .before .before .before .before .before in ran-ends (wordsOf (s .args .t4)) (s .args .records .now) (s .args .limit) (s .args .state .registers) (s .args .state .stack) (s .args .heap .now) (c .before .before .before .before .before .before .before .before .before .before .before .before .before .before .heap-ok .ensures) (c .before .before .before .before .before .before .before .before .before .before .before .before .before .if1 .taken) (c .before .before .before .before .before .before .before .before .before .before .before .before .check-codes .ensures) _ _ _ (c .before .before .before .before .before .before .before .before .before .before .n .given .1) (c .before .before .steps .ensures)))
+    (λ c. let s = c .before .before .before .before .before .before .before .before .before .before .before .before in ran-ends (wordsOf (s .args .words)) (s .args .records .now) (s .args .limit) (s .args .state .registers) (s .args .state .stack) (s .args .heap .now) (c .before .before .before .before .before .before .before .before .before .heap-ok .ensures) (c .before .before .before .before .before .before .before .before .if1 .taken) (c .before .before .before .before .before .before .before .check-codes .ensures) (c .before .before .before .before .before .n .given .1) (c .before .before .turns .ensures)))

@@ -10,7 +10,7 @@ pub assemble-checked-spec : {M : Type 1} → statement M
 assemble-checked-spec =
     tie.close
     (tie.spec
-    (λ c. rw (lt-ltb 5 _ (c .if1 .taken)) (record { answer = refl; bytes = refl }))
+    (λ c. rw (lt-ltb 5 _ (c .if1 .taken)) (record { answer = refl; cause = refl; bytes = refl }))
     (λ c. search needs)
     (λ c. search needs)
     (λ c. omega arith)

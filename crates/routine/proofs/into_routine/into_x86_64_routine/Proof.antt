@@ -17,4 +17,4 @@ into-x86-64-routine-spec =
     (λ c. search needs)
     (λ c. search needs)
     (λ c. rw (sym (c .before .before .before .before .before .before .check-codes .ensures) ∙ c .before .before .before .before .enum-told .given .1) (c .before .before .assemble-checked .ensures))
-    (λ c. rw (sym (c .before .before .before .check-codes .ensures) ∙ c .before .place .given .1) (record { answer = refl; bytes = refl })))
+    (λ c. rw (sym (c .before .before .before .check-codes .ensures) ∙ c .before .place .given .1) (record { answer = refl; cause = refl; bytes = refl })))
