@@ -29,7 +29,8 @@ enum {
     AXCUT_CONTEXT = 1,    /* context not whole records, bad mark, kind or zero byte, over 4,096 */
     AXCUT_MALFORMED = 2,  /* malformed instruction or order, field not zero, too many; a heap not of 2 to 1,048,576 whole blocks
                              [record place from 1; 0 for the heap] */
-    AXCUT_OPERAND = 3,    /* register not 4..15, spill not 1..255, label that no record may hold; no such operation, query or kind */
+    AXCUT_OPERAND = 3,    /* register not 4..15, spill not 1..255, field not 0..2, label that no record may hold; no such
+                             operation, query or kind */
     AXCUT_MISSING = 4,    /* id or place not in the context; more to store than there are variables */
     AXCUT_KIND = 5,       /* a variable of the wrong kind for the order */
     AXCUT_ARGUMENTS = 6,  /* more than 5 arguments */
@@ -269,7 +270,7 @@ enum {
     AXCUT_QUERY_FRESH_TEMPORARY = 2,    /* second, context: the operand of the next variable's half */
     AXCUT_QUERY_VARIABLE_TEMPORARY = 3, /* second, id, context: the operand of that variable's half */
     AXCUT_QUERY_STACK_OFFSET = 4,       /* at, a spill's word: its offset from STACK */
-    AXCUT_QUERY_FIELD_OFFSET = 5        /* second, at, a field: its offset in a block, at 64 bits */
+    AXCUT_QUERY_FIELD_OFFSET = 5        /* second, at, a field 0..2: its offset in a block */
 };
 
 /* Where a variable or field stands. What a query does not take is not read. `value` is 0 on a refusal. */

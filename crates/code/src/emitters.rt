@@ -40,7 +40,7 @@ pub fn emit_load_immediate(out: &mut [u8], p: Cursor, w: u64, value: u64) -> Cur
     if w < 16 {
         emit::cursor::emit(out, p, Row(MOVI, w as u8, 0, 0, 0, value))
     } else {
-        let offset = layout::config::stack_offset(w);
+        let offset = layout::offset::spill_offset(w);
         emit::cursor::emit(out, p, Row(MOVIM, STACK, 0, 0, offset, value))
     }
 }
@@ -52,7 +52,7 @@ pub fn emit_load_label(out: &mut [u8], p: Cursor, w: u64, label: u32) -> Cursor
     if w < 16 {
         emit::cursor::emit(out, p, Row(LEAL, w as u8, 0, label, 0, 0))
     } else {
-        let offset = layout::config::stack_offset(w);
+        let offset = layout::offset::spill_offset(w);
         emit::cursor::emit2(
             out,
             p,
@@ -166,14 +166,14 @@ pub fn emit_compare(out: &mut [u8], p: Cursor, x: u64, y: u64) -> Cursor
         if y < 16 {
             return emit::cursor::emit(out, p, Row(CMP, x as u8, y as u8, 0, 0, 0));
         }
-        let offset = layout::config::stack_offset(y);
+        let offset = layout::offset::spill_offset(y);
         return emit::cursor::emit(out, p, Row(CMPRM, x as u8, STACK, 0, offset, 0));
     }
-    let first = layout::config::stack_offset(x);
+    let first = layout::offset::spill_offset(x);
     if y < 16 {
         return emit::cursor::emit(out, p, Row(CMPMR, STACK, y as u8, 0, first, 0));
     }
-    let second = layout::config::stack_offset(y);
+    let second = layout::offset::spill_offset(y);
     emit::cursor::emit2(
         out,
         p,
@@ -189,7 +189,7 @@ pub fn emit_compare_immediate(out: &mut [u8], p: Cursor, w: u64, value: u64) -> 
     if w < 16 {
         emit::cursor::emit(out, p, Row(CMPI, w as u8, 0, 0, 0, value))
     } else {
-        let offset = layout::config::stack_offset(w);
+        let offset = layout::offset::spill_offset(w);
         emit::cursor::emit(out, p, Row(CMPIM, STACK, 0, 0, offset, value))
     }
 }
@@ -201,7 +201,7 @@ pub fn emit_jump(out: &mut [u8], p: Cursor, w: u64) -> Cursor
     if w < 16 {
         emit::cursor::emit(out, p, Row(JMP, w as u8, 0, 0, 0, 0))
     } else {
-        let offset = layout::config::stack_offset(w);
+        let offset = layout::offset::spill_offset(w);
         emit::cursor::emit2(
             out,
             p,
@@ -224,7 +224,7 @@ pub fn emit_add_and_jump(out: &mut [u8], p: Cursor, w: u64, value: u64) -> Curso
             Row(JMP, r, 0, 0, 0, 0),
         )
     } else {
-        let offset = layout::config::stack_offset(w);
+        let offset = layout::offset::spill_offset(w);
         emit::cursor::emit3(
             out,
             p,

@@ -27,7 +27,7 @@ pub fn move_from_register(out: &mut [u8], p: Cursor, w: u64, r: u8) -> Cursor
     if w < 16 {
         emit::cursor::emit(out, p, Row(MOV, w as u8, r, 0, 0, 0))
     } else {
-        let offset = layout::config::stack_offset(w);
+        let offset = layout::offset::spill_offset(w);
         emit::cursor::emit(out, p, Row(MOVS, r, STACK, 0, offset, 0))
     }
 }
@@ -39,7 +39,7 @@ pub fn move_to_register(out: &mut [u8], p: Cursor, r: u8, w: u64) -> Cursor
     if w < 16 {
         emit::cursor::emit(out, p, Row(MOV, r, w as u8, 0, 0, 0))
     } else {
-        let offset = layout::config::stack_offset(w);
+        let offset = layout::offset::spill_offset(w);
         emit::cursor::emit(out, p, Row(MOVL, r, STACK, 0, offset, 0))
     }
 }
@@ -65,7 +65,7 @@ pub fn op_to_register(out: &mut [u8], p: Cursor, n: u8, r: u8, w: u64) -> Cursor
     if w < 16 {
         emit::cursor::emit(out, p, Row(code, r, w as u8, 0, 0, 0))
     } else {
-        let offset = layout::config::stack_offset(w);
+        let offset = layout::offset::spill_offset(w);
         emit::cursor::emit(out, p, Row(code + 1, r, STACK, 0, offset, 0))
     }
 }
@@ -75,11 +75,11 @@ pub fn op_to_spill(out: &mut [u8], p: Cursor, n: u8, w: u64, x: u64) -> Cursor
     ensures { λ q. ⌜ Emits (now (out .entry)) p (now (out .exit)) q (toSpill base n w x) ⌝ }
 {
     let code = code_number(n);
-    let offset = layout::config::stack_offset(w);
+    let offset = layout::offset::spill_offset(w);
     if x < 16 {
         emit::cursor::emit(out, p, Row(code + 2, STACK, x as u8, 0, offset, 0))
     } else {
-        let source = layout::config::stack_offset(x);
+        let source = layout::offset::spill_offset(x);
         let q = emit::cursor::emit(out, p, Row(MOVL, TEMP, STACK, 0, source, 0));
         emit::cursor::emit(out, q, Row(code + 2, STACK, TEMP, 0, offset, 0))
     }
@@ -124,7 +124,7 @@ fn divide(out: &mut [u8], p: Cursor, w: u64) -> Cursor
             Row(IDIV, w as u8, 0, 0, 0, 0),
         );
     }
-    let offset = layout::config::stack_offset(w);
+    let offset = layout::offset::spill_offset(w);
     emit::cursor::emit2(
         out,
         p,

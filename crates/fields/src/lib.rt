@@ -52,7 +52,7 @@ fn load_fst(
     if ext {
         return p;
     }
-    let offset = layout::config::fst_offset(t);
+    let offset = layout::offset::fst_offset(t);
     let w = layout::utils::location_at(table, 2 * v);
     let q = block::load_field(out, p, w, r, offset);
     share_loaded(out, q, shared, w)
@@ -73,7 +73,7 @@ fn load_value(
     requires { ⌜ (Table (now table)) × (first ≤ v) × (8 * (v - first) + 8 ≤ length (now kinds)) × (v < 133) × (t < 3) × (p .at + 192 < 2 ^ 64) × (p .counter + 1 < 2 ^ 32) ⌝ }
     ensures { λ q. ⌜ Emits (now (out .entry)) p (now (out .exit)) q (loadValue base (extIn (now (kinds .entry)) first) shared v t r) ⌝ }
 {
-    let offset = layout::config::snd_offset(t);
+    let offset = layout::offset::snd_offset(t);
     let w = layout::utils::location_at(table, 2 * v + 1);
     let q = block::load_field(out, p, w, r, offset);
     let ext = layout::utils::is_ext(kinds, v - first);
@@ -148,7 +148,7 @@ fn set_aside(out: &mut [u8], p: Cursor, aside: bool) -> Cursor
     if aside {
         return p;
     }
-    let offset = layout::config::stack_offset(SPILL_TEMP);
+    let offset = layout::offset::spill_offset(SPILL_TEMP);
     emit::cursor::emit(out, p, Row(MOVS, RETURN1, STACK, 0, offset, 0))
 }
 
@@ -160,7 +160,7 @@ fn restore_aside(out: &mut [u8], p: Cursor, other: bool) -> Cursor
     if other {
         return p;
     }
-    let offset = layout::config::stack_offset(SPILL_TEMP);
+    let offset = layout::offset::spill_offset(SPILL_TEMP);
     emit::cursor::emit(out, p, Row(MOVL, RETURN1, STACK, 0, offset, 0))
 }
 
@@ -210,7 +210,7 @@ fn load_spilled(
     ensures { λ q. ⌜ Emits (now (out .entry)) p (now (out .exit)) q (loadSpilled base (extIn (now (kinds .entry)) first) shared other aside v k) ⌝ }
 {
     let q = set_aside(out, p, aside);
-    let offset = layout::config::stack_offset(w);
+    let offset = layout::offset::spill_offset(w);
     let s = emit::cursor::emit(out, q, Row(MOVL, RETURN1, STACK, 0, offset, 0));
     let t = load_body(out, s, table, kinds, first, shared, other, v, k, RETURN1);
     restore_aside(out, t, other)

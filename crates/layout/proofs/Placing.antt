@@ -12,13 +12,14 @@ use Rattle.records.proofs.Conditions.{and-left, and-right}
 use Rattle.records.proofs.Table.{at}
 use Rattle.records.specs.declared.check.Checked.the-variants.{Good, Malformed}
 use Rattle.records.specs.Contexts.{bindingIn, checkedContext}
+use Rattle.layout.specs.declared.config.Offset.the-variants as offset
 use Rattle.layout.specs.declared.utils.TemporaryNumber.{TemporaryNumber}
 use Rattle.layout.specs.declared.utils.Temporary.{Temporary}
 use Rattle.layout.specs.declared.utils.Temporary.the-variants.{Operand, Missing, OutOfTemporaries}
 use Rattle.layout.specs.declared.utils.Temporary.the-variants as temporary
-use Rattle.layout.specs.Config.{base}
+use Rattle.layout.specs.Config.{base, stackOffset}
 use Rattle.layout.specs.Positions.{location, Table, operandOk, positionAnswer}
-use Rattle.layout.specs.Queries.{numberOf, idPlace, freshTemporary, variableTemporary}
+use Rattle.layout.specs.Queries.{numberOf, idPlace, freshTemporary, variableTemporary, spillOffset, wordOffset, fieldOffset}
 
 abbrev table : List ℕ
 table = 4 ∷ 5 ∷ 6 ∷ 7 ∷ 8 ∷ 9 ∷ 10 ∷ 11 ∷ 12 ∷ 13 ∷ 14 ∷ 15 ∷ 17 ∷ 18 ∷ 19 ∷ 20 ∷ 21 ∷ 22 ∷ 23 ∷ 24 ∷ 25 ∷ 26 ∷ 27 ∷ 28 ∷ 29 ∷ 30 ∷ 31 ∷ 32 ∷ 33 ∷ 34 ∷ 35 ∷ 36 ∷ 37 ∷ 38 ∷ 39 ∷ 40 ∷ 41 ∷ 42 ∷ 43 ∷ 44 ∷ 45 ∷ 46 ∷ 47 ∷ 48 ∷ 49 ∷ 50 ∷ 51 ∷ 52 ∷ 53 ∷ 54 ∷ 55 ∷ 56 ∷ 57 ∷ 58 ∷ 59 ∷ 60 ∷ 61 ∷ 62 ∷ 63 ∷ 64 ∷ 65 ∷ 66 ∷ 67 ∷ 68 ∷ 69 ∷ 70 ∷ 71 ∷ 72 ∷ 73 ∷ 74 ∷ 75 ∷ 76 ∷ 77 ∷ 78 ∷ 79 ∷ 80 ∷ 81 ∷ 82 ∷ 83 ∷ 84 ∷ 85 ∷ 86 ∷ 87 ∷ 88 ∷ 89 ∷ 90 ∷ 91 ∷ 92 ∷ 93 ∷ 94 ∷ 95 ∷ 96 ∷ 97 ∷ 98 ∷ 99 ∷ 100 ∷ 101 ∷ 102 ∷ 103 ∷ 104 ∷ 105 ∷ 106 ∷ 107 ∷ 108 ∷ 109 ∷ 110 ∷ 111 ∷ 112 ∷ 113 ∷ 114 ∷ 115 ∷ 116 ∷ 117 ∷ 118 ∷ 119 ∷ 120 ∷ 121 ∷ 122 ∷ 123 ∷ 124 ∷ 125 ∷ 126 ∷ 127 ∷ 128 ∷ 129 ∷ 130 ∷ 131 ∷ 132 ∷ 133 ∷ 134 ∷ 135 ∷ 136 ∷ 137 ∷ 138 ∷ 139 ∷ 140 ∷ 141 ∷ 142 ∷ 143 ∷ 144 ∷ 145 ∷ 146 ∷ 147 ∷ 148 ∷ 149 ∷ 150 ∷ 151 ∷ 152 ∷ 153 ∷ 154 ∷ 155 ∷ 156 ∷ 157 ∷ 158 ∷ 159 ∷ 160 ∷ 161 ∷ 162 ∷ 163 ∷ 164 ∷ 165 ∷ 166 ∷ 167 ∷ 168 ∷ 169 ∷ 170 ∷ 171 ∷ 172 ∷ 173 ∷ 174 ∷ 175 ∷ 176 ∷ 177 ∷ 178 ∷ 179 ∷ 180 ∷ 181 ∷ 182 ∷ 183 ∷ 184 ∷ 185 ∷ 186 ∷ 187 ∷ 188 ∷ 189 ∷ 190 ∷ 191 ∷ 192 ∷ 193 ∷ 194 ∷ 195 ∷ 196 ∷ 197 ∷ 198 ∷ 199 ∷ 200 ∷ 201 ∷ 202 ∷ 203 ∷ 204 ∷ 205 ∷ 206 ∷ 207 ∷ 208 ∷ 209 ∷ 210 ∷ 211 ∷ 212 ∷ 213 ∷ 214 ∷ 215 ∷ 216 ∷ 217 ∷ 218 ∷ 219 ∷ 220 ∷ 221 ∷ 222 ∷ 223 ∷ 224 ∷ 225 ∷ 226 ∷ 227 ∷ 228 ∷ 229 ∷ 230 ∷ 231 ∷ 232 ∷ 233 ∷ 234 ∷ 235 ∷ 236 ∷ 237 ∷ 238 ∷ 239 ∷ 240 ∷ 241 ∷ 242 ∷ 243 ∷ 244 ∷ 245 ∷ 246 ∷ 247 ∷ 248 ∷ 249 ∷ 250 ∷ 251 ∷ 252 ∷ 253 ∷ 254 ∷ 255 ∷ 256 ∷ 257 ∷ 258 ∷ 259 ∷ 260 ∷ 261 ∷ 262 ∷ 263 ∷ 264 ∷ 265 ∷ 266 ∷ 267 ∷ 268 ∷ 269 ∷ 270 ∷ 271 ∷ []
@@ -99,3 +100,25 @@ module _ (s : List ℕ) (half : TemporaryNumber) where
   pub variable-malformed : (id place : ℕ) → checkedContext s ≡ Malformed place → temporary.Malformed ≡ variableTemporary base half s id
   unfolding variableTemporary
   variable-malformed id place e = rw e
+
+module _ (w : ℕ) where
+  pub no-low-spill : w ≤ 16 → offset.Operand ≡ spillOffset base w
+  unfolding spillOffset
+  no-low-spill h = rw (le-ltb 16 w h)
+
+  pub no-high-spill : 272 ≤ w → offset.Operand ≡ spillOffset base w
+  unfolding spillOffset
+  no-high-spill h = rw (lt-ltb 16 w (omega arith), le-ltb w 272 h)
+
+  pub spill-at : {n : ℕ} → 16 < w → w < 272 → n ≡ stackOffset base w → offset.At n ≡ spillOffset base w
+  unfolding spillOffset
+  spill-at l h e = rw (lt-ltb 16 w l, lt-ltb w 272 h, e)
+
+module _ (number : TemporaryNumber) (i : ℕ) where
+  pub no-field : 3 ≤ i → offset.Operand ≡ fieldOffset base number i
+  unfolding fieldOffset
+  no-field h = rw (le-ltb i 3 h)
+
+  pub field-at : {n : ℕ} → i < 3 → n ≡ wordOffset number i → offset.At n ≡ fieldOffset base number i
+  unfolding fieldOffset
+  field-at h e = rw (lt-ltb i 3 h, e)

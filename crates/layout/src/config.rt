@@ -1,7 +1,9 @@
 // Registers, spills and offsets, from config.rs.
-ghost use mathlib.Core.Path.{_≡_};
-ghost use Prim.Native.Nat.{_≤_, _<_};
-ghost use Rattle.layout.specs.Config.{base, stackOffset, fstOffset, sndOffset};
+ghost use Rattle.records.specs.Answers.{AnswersBy};
+ghost use Rattle.layout.specs.Config.{base};
+ghost use Rattle.layout.specs.Queries.{spillOffset, fieldOffset, offsetCause};
+use crate::offset;
+use crate::utils::TemporaryNumber;
 
 pub const STACK: u8 = 0;
 
@@ -18,25 +20,34 @@ pub const RETURN2: u8 = 5;
 // The spill that holds register 4 while a load borrows it.
 pub const SPILL_TEMP: u64 = 16;
 
-// The offset from STACK of the spill that an operand names.
-pub fn stack_offset(w: u64) -> u64
-    requires { ⌜ (16 ≤ w) × (w < 272) ⌝ }
-    ensures { λ r. ⌜ r ≡ stackOffset base w ⌝ }
-{
-    2048 - 8 * (w - 16 + 1)
+// Where a word stands, or document 01's 3: no caller's spill, or no field of a block.
+pub enum Offset {
+    At(u64),
+    Operand,
 }
 
-// The offsets of field i's two words in a block.
-pub fn fst_offset(i: u64) -> u64
-    requires { ⌜ i < 65536 ⌝ }
-    ensures { λ r. ⌜ r ≡ fstOffset i ⌝ }
+// The offset from STACK of the spill, of 1 to 255, that an operand names.
+pub fn stack_offset(w: u64) -> Offset
+    ensures { λ r. ⌜ AnswersBy offsetCause r (spillOffset base w) ⌝ }
 {
-    16 + 16 * i
+    if w <= 16 {
+        return Offset::Operand;
+    }
+    if 272 <= w {
+        return Offset::Operand;
+    }
+    Offset::At(offset::spill_offset(w))
 }
 
-pub fn snd_offset(i: u64) -> u64
-    requires { ⌜ i < 65536 ⌝ }
-    ensures { λ r. ⌜ r ≡ sndOffset i ⌝ }
+// The offset in a block of a field's first or second word.
+pub fn field_offset(number: TemporaryNumber, field: u64) -> Offset
+    ensures { λ r. ⌜ AnswersBy offsetCause r (fieldOffset base number field) ⌝ }
 {
-    24 + 16 * i
+    if 3 <= field {
+        return Offset::Operand;
+    }
+    match number {
+        TemporaryNumber::Fst => Offset::At(offset::fst_offset(field)),
+        TemporaryNumber::Snd => Offset::At(offset::snd_offset(field)),
+    }
 }

@@ -4,10 +4,11 @@ ghost use mathlib.Core.Bool.{cond};
 ghost use Prim.Native.Nat.{_+_, _*_, _-_, _<_, _≤_};
 ghost use lib.Dec.{ltb};
 ghost use lib.ListN.{length, drop};
+ghost use Rattle.records.specs.Answers.{AnswersBy};
 ghost use Rattle.records.specs.Contexts.{bindingIn, extAt};
 ghost use Rattle.layout.specs.declared.utils.Temporary.the-variants.{Missing};
 ghost use Rattle.layout.specs.Config.{base};
-ghost use Rattle.layout.specs.Positions.{location, Table, operandOk, positionAnswer};
+ghost use Rattle.layout.specs.Positions.{location, Table, operandOk, positionAnswer, temporaryCause};
 ghost use Rattle.layout.specs.Queries.{numberOf, idPlace, freshTemporary, variableTemporary};
 use records::check::Checked;
 
@@ -320,7 +321,7 @@ pub fn location_at(table: &[u64; 267], p: u64) -> u64
 }
 
 pub fn position(p: u64) -> Temporary
-    ensures { λ r. ⌜ r ≡ positionAnswer base p ⌝ }
+    ensures { λ r. ⌜ AnswersBy temporaryCause r (positionAnswer base p) ⌝ }
 {
     if 267 <= p {
         return Temporary::OutOfTemporaries;
@@ -386,7 +387,7 @@ fn id_place(context: &[u8], id: u32, n: usize) -> usize
 
 // The temporary past the context's last variable.
 pub fn fresh_temporary(number: TemporaryNumber, context: &[u8]) -> Temporary
-    ensures { λ r. ⌜ r ≡ freshTemporary base number (now (context .entry)) ⌝ }
+    ensures { λ r. ⌜ AnswersBy temporaryCause r (freshTemporary base number (now (context .entry))) ⌝ }
 {
     let half = number_of(number);
     match records::binding::check_context(context) {
@@ -397,7 +398,7 @@ pub fn fresh_temporary(number: TemporaryNumber, context: &[u8]) -> Temporary
 
 // The temporary of the first variable that has the id.
 pub fn variable_temporary(number: TemporaryNumber, context: &[u8], id: u32) -> Temporary
-    ensures { λ r. ⌜ r ≡ variableTemporary base number (now (context .entry)) id ⌝ }
+    ensures { λ r. ⌜ AnswersBy temporaryCause r (variableTemporary base number (now (context .entry)) id) ⌝ }
 {
     let half = number_of(number);
     match records::binding::check_context(context) {

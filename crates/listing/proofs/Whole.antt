@@ -7,10 +7,12 @@ use lib.ListN.{length}
 use borrow.Author.Tests.{le-leb, lt-leb}
 use Rattle.records.specs.declared.check.Checked.{Checked}
 use Rattle.records.specs.declared.check.Checked.the-variants.{Good, Malformed as Bad}
+use Rattle.records.specs.Answers.{AnswersBy}
 use Rattle.records.specs.Bytes.{stored}
+use Rattle.records.proofs.Answers.{answers-by}
 use Rattle.records.proofs.Storing.{stored-whole, stored-nothing}
 use Rattle.listing.specs.declared.Listed.the-variants.{Text, Malformed, Short}
-use Rattle.listing.specs.Listing.{listing, textOf, answerOf, refusal, printedOf}
+use Rattle.listing.specs.Listing.{listing, textOf, answerOf, causeOf, refusal, printedOf}
 use Rattle.text.specs.Putting.{Puts}
 
 pub size : {m j : ℕ} {o o′ bs : List ℕ} → Puts m o 0 o′ j bs → j ≡ length bs
@@ -26,23 +28,23 @@ module _ {bs : List ℕ} (o : List ℕ) {m j : ℕ} {q q′ : List ℕ} (measure
 
 module _ (names : List (List ℕ)) (s o : List ℕ) {checked : Checked} where
   pub refused : {place : ℕ} → checked ≡ Bad place
-      → (Malformed place ≡ answerOf names s (length o) checked) × (o ≡ stored o 0 (textOf names s checked))
+      → AnswersBy causeOf (Malformed place) (answerOf names s (length o) checked) × (o ≡ stored o 0 (textOf names s checked))
   unfolding answerOf textOf
-  refused e = rw e (refl, stored-whole o 0 [] (omega arith))
+  refused e = rw e (answers-by refl, stored-whole o 0 [] (omega arith))
 
   module _ {n m j : ℕ} {q q′ : List ℕ} (e : checked ≡ Good n) (measured : Puts m q 0 q′ j (listing names s n)) where
-    pub too-short : length o < j → (Short j ≡ answerOf names s (length o) checked) × (o ≡ stored o 0 (textOf names s checked))
+    pub too-short : length o < j → AnswersBy causeOf (Short j) (answerOf names s (length o) checked) × (o ≡ stored o 0 (textOf names s checked))
     unfolding answerOf textOf
     too-short h =
         let z = size measured in
-        rw (e, lt-leb (length (listing names s n)) (length o) (omega arith), ← z) (refl, kept o measured h)
+        rw (e, lt-leb (length (listing names s n)) (length o) (omega arith), ← z) (answers-by refl, kept o measured h)
 
     pub listed : {m′ k : ℕ} {o′ : List ℕ} → j ≤ length o → Puts m′ o 0 o′ k (listing names s n)
-        → (Text j ≡ answerOf names s (length o) checked) × (o′ ≡ stored o 0 (textOf names s checked))
+        → AnswersBy causeOf (Text j) (answerOf names s (length o) checked) × (o′ ≡ stored o 0 (textOf names s checked))
     unfolding answerOf textOf
     listed h p =
         let z = size measured in
-        rw (e, le-leb (length (listing names s n)) (length o) (omega arith), ← z) (refl, whole o measured h p)
+        rw (e, le-leb (length (listing names s n)) (length o) (omega arith), ← z) (answers-by refl, whole o measured h p)
 
 -- what is printed
 module _ (names : List (List ℕ)) (s : List ℕ) {checked : Checked} {m i j : ℕ} {o o′ : List ℕ} where

@@ -7,9 +7,10 @@ use records::code;
 ghost use mathlib.Core.Path.{_≡_};
 ghost use Prim.Native.Nat.{_≤_};
 ghost use lib.ListN.{length};
+ghost use Rattle.records.specs.Answers.{AnswersBy};
 ghost use Rattle.records.specs.Bytes.{stored};
 ghost use Rattle.listing.specs.Names.{codeNames};
-ghost use Rattle.listing.specs.Listing.{listed, listedText, printed, longest};
+ghost use Rattle.listing.specs.Listing.{listed, listedText, causeOf, printed, longest};
 
 // No more bytes than this are printed.
 pub const LONGEST: usize = 382229;
@@ -22,7 +23,7 @@ pub enum Listed {
 
 // The listing of at most 2,730 records, at the start of `text`.
 pub fn list_records(records: &[u8], text: &mut [u8]) -> Listed
-    ensures answer { λ r. ⌜ r ≡ listed codeNames (now (records .entry)) (length (now (text .entry))) ⌝ }
+    ensures answer { λ r. ⌜ AnswersBy causeOf r (listed codeNames (now (records .entry)) (length (now (text .entry)))) ⌝ }
     ensures written { λ r. ⌜ now (text .exit) ≡ stored (now (text .entry)) 0 (listedText codeNames (now (records .entry))) ⌝ }
 {
     let checked = code::check_codes(records, 2730);

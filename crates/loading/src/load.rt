@@ -119,7 +119,7 @@ fn into_register(out: &mut [u8], p: Cursor, w: u64) -> Cursor
     if w < 16 {
         return p;
     }
-    let offset = layout::config::stack_offset(w);
+    let offset = layout::offset::spill_offset(w);
     emit::cursor::emit(out, p, Row(MOVL, TEMP, STACK, 0, offset, 0))
 }
 

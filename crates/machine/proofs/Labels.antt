@@ -8,19 +8,16 @@ use native.Mathlib.Numerals.{add-one}
 use native.Mathlib.Omega.{arith}
 use lib.Dec.{eqb}
 use lib.ListN.{getD, drop}
-use lib.Seq.{getD-drop, drop-drop}
-use borrow.Author.Tests.{eq-eqb, ne-eqb}
+use lib.Seq.{drop-drop}
 use Rattle.records.specs.declared.code.Code.the-variants.{EXTERN}
 use Rattle.records.specs.declared.code.Fields.{Fields}
-use Rattle.records.specs.Bytes.{number}
 use Rattle.records.specs.Codes.{readers, codeOf}
-use Rattle.records.specs.Instructions.{fieldsIn, fieldsOk}
+use Rattle.records.specs.Instructions.{fieldsIn, fieldsOk, labWith}
 use Rattle.records.specs.ReadBack.{codeIn}
-use Rattle.records.proofs.Numbers.{number-drop}
 use Rattle.records.proofs.CodesRead.{ok-code, starts-ok}
 use Rattle.machine.specs.declared.run.Found.the-variants.{At, Absent}
 use Rattle.machine.specs.Run.{isLab, placesOf, theOne, find, codesOf}
-use Rattle.machine.specs.Loop.{Listed, labWith, placesFrom, First}
+use Rattle.machine.specs.Loop.{Listed, placesFrom, First}
 use Rattle.machine.proofs.Tables.{Each, each}
 
 abbrev Told : ℕ → Type 0
@@ -37,15 +34,6 @@ lab-told label f e =
     let k = ok-code f e in
     let n : suc (f .code - 1) ≡ f .code = omega arith in
     each Told 44 told-all (f .code - 1) (omega arith) label f ∙ rw n
-
-module _ (s : List ℕ) (i : ℕ) (label : ℕ) where
-  pub no-lab : (getD s (i + 1) 0 ≡ 40 → ⊥) → false ≡ labWith label (fieldsIn (drop i s))
-  unfolding fieldsIn
-  no-lab n = rw (getD-drop, ne-eqb (getD s (i + 1) 0) 40 n)
-
-  pub lab-label : {l : ℕ} → getD s (i + 1) 0 ≡ 40 → l ≡ number 4 s (i + 4) → eqb l label ≡ labWith label (fieldsIn (drop i s))
-  unfolding fieldsIn
-  lab-label e h = rw (getD-drop, eq-eqb (getD s (i + 1) 0) 40 e, number-drop, ← h)
 
 module _ (label : ℕ) (s : List ℕ) (n : ℕ) where
   one-more : (m k : ℕ) (t : List ℕ) {b : Bool} → isLab label (codeIn t) ≡ b

@@ -2,12 +2,10 @@
 -- public function cites `ran` alone.
 use Prim.Native.Nat.{ℕ, suc, _+_, _-_, _*_, _≤_, _<_}
 use mathlib.Core.Path.{_≡_}
-use mathlib.Core.Bool.{Bool, true, _&&_}
+use mathlib.Core.Bool.{true}
 use mathlib.Core.List.{List, [], _∷_}
-use lib.Dec.{eqb}
 use lib.ListN.{length, drop}
 use Rattle.records.specs.declared.code.Code.{Code}
-use Rattle.records.specs.declared.code.Fields.{Fields}
 use Rattle.records.specs.Instructions.{codeStarts}
 use Rattle.instructions.specs.declared.instruction.Went.{Went}
 use Rattle.instructions.specs.declared.instruction.Went.the-variants.{Next, Called, Jump, End, Fault}
@@ -27,10 +25,6 @@ use Rattle.instructions.specs.Forms.{Sized}
 pub record Listed (s : List ℕ) (n : ℕ) : Type 0 where
   pub whole : 24 * n ≤ length s
   pub starts : (k : ℕ) → k < n → codeStarts (drop (24 * k) s) ≡ true
-
--- the record with the fields f is LAB's, with a label
-abbrev pub labWith : ℕ → Fields → Bool
-labWith label f = eqb (f .code) 40 && eqb (f .label) label
 
 -- of n records in s, the places from k on of the LAB records with a label
 abbrev pub placesFrom : ℕ → List ℕ → ℕ → ℕ → List ℕ

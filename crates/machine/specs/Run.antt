@@ -1,16 +1,15 @@
 -- A list of records, run from the first to its end, a fault or the step limit. From document 01, 'Machine' and rows 2, 11 and 12 of 'Causes and numbers'.
 use Prim.Native.Nat.{ℕ, zero, suc}
 use mathlib.Core.Path.{_≡_}
-use mathlib.Core.Bool.{Bool, _&&_, cond}
+use mathlib.Core.Bool.{Bool, cond}
 use mathlib.Core.List.{List, [], _∷_}
 use mathlib.Core.Option.{Option, none, some}
-use lib.Dec.{eqb}
 use lib.ListN.{getElem?}
 use Rattle.records.specs.declared.check.Checked.{Checked}
 use Rattle.records.specs.declared.check.Checked.the-variants as checked
 use Rattle.records.specs.declared.code.Code.{Code}
 use Rattle.records.specs.Codes.{fieldsOf}
-use Rattle.records.specs.Instructions.{checkedCodes}
+use Rattle.records.specs.Instructions.{labWith, checkedCodes}
 use Rattle.records.specs.ReadBack.{items, codeIn}
 use Rattle.instructions.specs.declared.instruction.Compared.the-variants.{Absent}
 use Rattle.machine.specs.declared.run.Answer.{Answer}
@@ -21,9 +20,9 @@ use Rattle.instructions.specs.View.{View}
 use Rattle.instructions.specs.Memory.{heapOk}
 use Rattle.instructions.specs.Step.{Config, config, Outcome, next, jump, end, fault, step}
 
--- whether an instruction's record is that of LAB, code 40, with a label
+-- whether an instruction is LAB with a label
 abbrev pub isLab : ℕ → Code → Bool
-isLab label x = eqb (fieldsOf x .code) 40 && eqb (fieldsOf x .label) label
+isLab label x = labWith label (fieldsOf x)
 
 -- the places, from i on, of the LAB records with a label
 unfoldable pub placesOf : ℕ → List Code → ℕ → List ℕ

@@ -1,15 +1,14 @@
 // A list of records, run to its end, a fault or a step limit.
 ghost use mathlib.Core.Path.{_≡_};
 ghost use mathlib.Core.Bool.{true};
-ghost use Prim.Native.Nat.{_+_, _≤_, _<_};
-ghost use lib.ListN.{length, drop};
-ghost use Rattle.records.specs.Instructions.{fieldsIn};
+ghost use Prim.Native.Nat.{_≤_, _<_};
+ghost use lib.ListN.{length};
 ghost use Rattle.instructions.specs.View.{view, wordsOf};
 ghost use Rattle.machine.specs.Run as is;
 ghost use Rattle.instructions.specs.Forms.{Sized};
 ghost use Rattle.machine.specs.State.{see};
 ghost use Rattle.instructions.specs.Memory.{heapOk};
-ghost use Rattle.machine.specs.Loop.{Listed, labWith, First, turnOf, Ends, Turns, EndsBy};
+ghost use Rattle.machine.specs.Loop.{Listed, First, turnOf, Ends, Turns, EndsBy};
 use crate::state::State;
 use crate::step;
 use crate::step::Tried;
@@ -17,8 +16,8 @@ use instructions::instruction::Compared;
 use instructions::instruction::NONE;
 use instructions::instruction::Went;
 use instructions::memory;
-use records::bytes;
 use records::check::Checked;
+use records::code;
 use records::code::CodeRead;
 
 // The steps of a run that ended; document 01's 2 with the place; 11 with the steps before the fault and the record's place; 12 with the limit.
@@ -47,17 +46,6 @@ pub enum Turn {
     Fault,
 }
 
-// Whether the record at byte `at` is LAB with the label.
-fn lab_at(s: &[u8], at: usize, label: u32) -> bool
-    requires { ⌜ at + 24 ≤ length (now s) ⌝ }
-    ensures { λ r. ⌜ r ≡ labWith label (fieldsIn (drop at (now (s .entry)))) ⌝ }
-{
-    if s[at + 1] == 40 {} else {
-        return false;
-    }
-    bytes::number4(s, at + 4) == label
-}
-
 // The first LAB with the label from record k on, or n.
 fn first(s: &[u8], n: usize, k: usize, label: u32) -> usize
     requires { ⌜ Listed (now s) n × (k ≤ n) ⌝ }
@@ -68,7 +56,7 @@ fn first(s: &[u8], n: usize, k: usize, label: u32) -> usize
         if n <= i {
             break i;
         }
-        if lab_at(s, 24 * i, label) {
+        if code::is_label(s, 24 * i, label) {
             break i;
         }
         i += 1;
@@ -127,7 +115,7 @@ fn take_step(
     requires { ⌜ Listed (now s) n × (place < n) × (heapOk (length (now heap)) ≡ true) ⌝ }
     ensures { λ r. ⌜ Turns (wordsOf words) n (now (s .entry)) place (see state (now (heap .entry))) compared (see (r .state) (now (heap .exit))) (r .compared) (r .turn) ⌝ }
 {
-    match records::code::read_code(s, place) {
+    match code::read_code(s, place) {
         CodeRead::Malformed => Turned {
             state,
             compared,
@@ -218,7 +206,7 @@ fn steps(
         if limit <= done {
             return Answer::Limit(done);
         }
-        let f = records::code::fields_at(s, 24 * place);
+        let f = code::fields_at(s, 24 * place);
         let m = step::act(&kinds, f, registers, stack, heap, words, pair);
         let went = m.went;
         match follow(s, n, place, went) {
@@ -244,7 +232,7 @@ pub fn run(records: &[u8], state: State, heap: &mut [u64], words: [u64; 9], limi
             answer: Answer::Malformed(0),
         };
     }
-    match records::code::check_codes(records, 65536) {
+    match code::check_codes(records, 65536) {
         Checked::Malformed(place) => Ran {
             state,
             answer: Answer::Malformed(place),
@@ -263,7 +251,7 @@ pub fn run_lent(records: &[u8], state: State, heap: &mut [u64], words: [u64; 9],
             answer: Answer::Malformed(0),
         };
     }
-    match records::code::check_codes(records, 65536) {
+    match code::check_codes(records, 65536) {
         Checked::Malformed(place) => Ran {
             state,
             answer: Answer::Malformed(place),

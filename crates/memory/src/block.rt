@@ -69,7 +69,7 @@ pub fn erase(out: &mut [u8], p: Cursor, w: u64) -> Cursor
     if w < 16 {
         erase_register(out, p, w as u8)
     } else {
-        let offset = layout::config::stack_offset(w);
+        let offset = layout::offset::spill_offset(w);
         let q = emit::cursor::emit(out, p, Row(MOVL, TEMP, STACK, 0, offset, 0));
         erase_register(out, q, TEMP)
     }
@@ -96,7 +96,7 @@ fn share_spill(out: &mut [u8], p: Cursor, w: u64, n: u64) -> Cursor
     ensures { λ q. ⌜ Emits (now (out .entry)) p (now (out .exit)) q (shareSpill base w n) ⌝ }
 {
     let l = (p.counter + 1) as u32;
-    let offset = layout::config::stack_offset(w);
+    let offset = layout::offset::spill_offset(w);
     let q = emit::cursor::emit4(
         out,
         p,
@@ -124,7 +124,7 @@ fn erase_child(out: &mut [u8], p: Cursor, i: u64) -> Cursor
     requires { ⌜ (p .at + 288 < 2 ^ 64) × (p .counter + 3 < 2 ^ 32) × (i < 65536) ⌝ }
     ensures { λ q. ⌜ Emits (now (out .entry)) p (now (out .exit)) q (eraseChild i) ⌝ }
 {
-    let offset = layout::config::fst_offset(i);
+    let offset = layout::offset::fst_offset(i);
     let q = emit::cursor::emit(out, p, Row(MOVL, TEMP, HEAP, 0, offset, 0));
     erase_register(out, q, TEMP)
 }
@@ -146,7 +146,7 @@ fn take_block(out: &mut [u8], p: Cursor, w: u64) -> Cursor
     if w < 16 {
         emit::cursor::emit(out, p, Row(MOV, w as u8, HEAP, 0, 0, 0))
     } else {
-        let offset = layout::config::stack_offset(w);
+        let offset = layout::offset::spill_offset(w);
         emit::cursor::emit2(
             out,
             p,
@@ -245,7 +245,7 @@ pub fn store_field(out: &mut [u8], p: Cursor, w: u64, r: u8, offset: u64) -> Cur
     if w < 16 {
         emit::cursor::emit(out, p, Row(MOVS, w as u8, r, 0, offset, 0))
     } else {
-        let from = layout::config::stack_offset(w);
+        let from = layout::offset::spill_offset(w);
         emit::cursor::emit2(
             out,
             p,
@@ -263,7 +263,7 @@ pub fn load_field(out: &mut [u8], p: Cursor, w: u64, r: u8, offset: u64) -> Curs
     if w < 16 {
         emit::cursor::emit(out, p, Row(MOVL, w as u8, r, 0, offset, 0))
     } else {
-        let to = layout::config::stack_offset(w);
+        let to = layout::offset::spill_offset(w);
         emit::cursor::emit2(
             out,
             p,

@@ -9,7 +9,3 @@ use Rattle.numbered.specs.Numbers.{numberIn, valueIn}
 -- an answer's number, its value and the bindings of the context after it; accepted, the value is the number of records written
 abbrev pub orderNumbers : Answer → List ℕ
 orderNumbers r = numberIn (causeOf r) ∷ valueIn (causeOf r) ∷ getD (causeOf r) 2 0 ∷ []
-
--- the counter after an answer, the fourth of its numbers: a refusal has none, and keeps it
-abbrev pub orderCounter : ℕ → Answer → ℕ
-orderCounter counter r = getD (causeOf r) 3 counter

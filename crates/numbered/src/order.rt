@@ -1,7 +1,8 @@
 // The answers of the seven orders as numbers.
 ghost use mathlib.Core.Path.{_≡_};
 ghost use mathlib.Core.List.{[], _∷_};
-ghost use Rattle.numbered.specs.Order.{orderNumbers, orderCounter};
+ghost use Rattle.orders.specs.Answered.{counterAfter};
+ghost use Rattle.numbered.specs.Order.{orderNumbers};
 use orders::answer::Answer;
 
 // An answer as its number, with the records written, a place or the bytes needed, and the bindings of the context after it.
@@ -35,7 +36,7 @@ pub fn told(answer: Answer, value: &mut u64, bindings: &mut u64) -> u64
 
 // The counter after an answer: a refusal keeps it.
 pub fn counter_after(answer: Answer, counter: u64) -> u64
-    ensures { λ r. ⌜ r ≡ orderCounter counter answer ⌝ }
+    ensures { λ r. ⌜ r ≡ counterAfter counter answer ⌝ }
 {
     match answer {
         Answer::Accepted(_, after, _) => after,

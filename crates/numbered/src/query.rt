@@ -1,7 +1,8 @@
 // What the queries of utils.rs and config.rs are asked and answer, as numbers.
 ghost use mathlib.Core.Path.{_≡_};
 ghost use mathlib.Core.List.{[], _∷_};
-ghost use Rattle.numbered.specs.Query.{temporaryNumbers, halfOf, stackOffsetNumbers, fieldOffset};
+ghost use Rattle.numbered.specs.Query.{temporaryNumbers, offsetNumbers, halfOf};
+use layout::config::Offset;
 use layout::utils::Temporary;
 use layout::utils::TemporaryNumber;
 
@@ -39,30 +40,18 @@ pub fn half_of(second: bool) -> TemporaryNumber
     }
 }
 
-// Where the spill stands from STACK; refused with 3 where the word is no spill.
-pub fn offset_of_spill(w: u64, value: &mut u64) -> u64
-    ensures { λ r. ⌜ r ∷ now (value .exit) ∷ [] ≡ stackOffsetNumbers w ⌝ }
+// An answer as its number, and its offset.
+pub fn measured(offset: Offset, value: &mut u64) -> u64
+    ensures { λ r. ⌜ r ∷ now (value .exit) ∷ [] ≡ offsetNumbers offset ⌝ }
 {
-    if w < 17 {
-        *value = 0;
-        return 3;
-    }
-    if 272 <= w {
-        *value = 0;
-        return 3;
-    }
-    *value = layout::config::stack_offset(w);
-    0
-}
-
-// Where field i's word stands in a block, at 64 bits.
-pub fn offset_of_field(second: bool, i: u64) -> u64
-    ensures { λ r. ⌜ r ≡ fieldOffset second i ⌝ }
-{
-    let start = i % 1152921504606846976 * 16;
-    if second {
-        std::num::wrapping_add_u64(start, 24)
-    } else {
-        std::num::wrapping_add_u64(start, 16)
+    match offset {
+        Offset::At(bytes) => {
+            *value = bytes;
+            0
+        }
+        Offset::Operand => {
+            *value = 0;
+            3
+        }
     }
 }

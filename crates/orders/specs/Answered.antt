@@ -3,7 +3,7 @@ use Prim.Native.Nat.{ℕ, _+_, _*_, _/_}
 use mathlib.Core.Bool.{Bool, true, false, cond}
 use mathlib.Core.List.{List, [], _∷_}
 use lib.Dec.{ltb, leb, eqb}
-use lib.ListN.{length}
+use lib.ListN.{length, getD}
 use lib.Seq.{sets}
 use Rattle.records.specs.declared.check.Checked.{Checked}
 use Rattle.records.specs.declared.check.Checked.the-variants as checked
@@ -30,6 +30,10 @@ causeOf Count = 7 ∷ []
 causeOf Position = 8 ∷ []
 causeOf Labels = 9 ∷ []
 causeOf (Room bytes) = 10 ∷ bytes ∷ []
+
+-- the counter after an answer, the last of the accepted order's numbers: a refusal has none, and keeps it
+abbrev pub counterAfter : ℕ → Answer → ℕ
+counterAfter counter r = getD (causeOf r) 3 counter
 
 abbrev pub accepted : Answer → Bool
 accepted (Accepted records counter bindings) = true

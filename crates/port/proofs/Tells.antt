@@ -7,10 +7,10 @@ use Rattle.emit.specs.declared.answer.Answer.{Answer}
 use Rattle.emit.specs.Answers.{Answers}
 use Rattle.routine.specs.Routine.{Assembles}
 use Rattle.orders.specs.declared.answer.Answer as order
-use Rattle.orders.specs.Answered.{Asked}
+use Rattle.orders.specs.Answered.{Asked, counterAfter}
 use Rattle.answering.specs.Answers.{AnswersOrder}
 use Rattle.numbered.specs.Emission.{answerNumbers}
-use Rattle.numbered.specs.Order.{orderNumbers, orderCounter}
+use Rattle.numbered.specs.Order.{orderNumbers}
 use Rattle.port.specs.Emission.{Tells, TellsRoutine}
 use Rattle.port.specs.Order.{TellsOrder}
 
@@ -20,5 +20,5 @@ tells a e = record { numbers = e ∙ ap answerNumbers (a .answer); bytes = a .by
 pub tells-routine : {o o′ : List ℕ} {r expected : Answer} {n : ℕ} {body : List ℕ} {number value : ℕ} → Assembles o o′ r expected n body → number ∷ value ∷ [] ≡ answerNumbers r → TellsRoutine o o′ number value expected n body
 tells-routine a e = record { numbers = e ∙ ap answerNumbers (a .answer); bytes = a .bytes }
 
-pub tells-order : {context o o′ a a′ : List ℕ} {q : Asked} {r : order.Answer} {number value bindings after : ℕ} → AnswersOrder context q r o o′ a a′ → number ∷ value ∷ bindings ∷ [] ≡ orderNumbers r → after ≡ orderCounter (q .counter) r → TellsOrder context q number value bindings after o o′ a a′
-tells-order {q = q} s e d = record { numbers = e ∙ ap orderNumbers (s .answer); counter = d ∙ ap (orderCounter (q .counter)) (s .answer); records = s .records; context-after = s .after }
+pub tells-order : {context o o′ a a′ : List ℕ} {q : Asked} {r : order.Answer} {number value bindings after : ℕ} → AnswersOrder context q r o o′ a a′ → number ∷ value ∷ bindings ∷ [] ≡ orderNumbers r → after ≡ counterAfter (q .counter) r → TellsOrder context q number value bindings after o o′ a a′
+tells-order {q = q} s e d = record { numbers = e ∙ ap orderNumbers (s .answer); counter = d ∙ ap (counterAfter (q .counter)) (s .answer); records = s .records; context-after = s .after }

@@ -1,17 +1,18 @@
 -- What the exported queries answer: the number and the value that goes with it.
 use Prim.Native.Nat.{ℕ}
 use mathlib.Core.Bool.{Bool, cond}
-use mathlib.Core.List.{List, [], _∷_}
+use mathlib.Core.List.{List}
 use lib.Dec.{eqb}
 use Rattle.layout.specs.Config.{base}
 use Rattle.layout.specs.Positions.{positionAnswer}
-use Rattle.layout.specs.Queries.{freshTemporary, variableTemporary}
-use Rattle.numbered.specs.Query.{temporaryNumbers, halfOf, stackOffsetNumbers, fieldOffset}
+use Rattle.layout.specs.Queries.{freshTemporary, variableTemporary, spillOffset, fieldOffset}
+use Rattle.numbered.specs.Numbers.{unknown}
+use Rattle.numbered.specs.Query.{temporaryNumbers, offsetNumbers, halfOf}
 
--- the queries: 1 position, 2 fresh_temporary, 3 variable_temporary, 4 stack_offset, 5 field_offset; any other number is refused with 3
+-- the queries: 1 position, 2 fresh_temporary, 3 variable_temporary, 4 stack_offset, 5 field_offset; any other number is refused
 unfoldable pub queryNumbers : ℕ → Bool → ℕ → ℕ → List ℕ → List ℕ
 queryNumbers query second at id context =
     cond (eqb query 1) (temporaryNumbers (positionAnswer base at))
     (cond (eqb query 2) (temporaryNumbers (freshTemporary base (halfOf second) context))
     (cond (eqb query 3) (temporaryNumbers (variableTemporary base (halfOf second) context id))
-    (cond (eqb query 4) (stackOffsetNumbers at) (cond (eqb query 5) (0 ∷ fieldOffset second at ∷ []) (3 ∷ 0 ∷ [])))))
+    (cond (eqb query 4) (offsetNumbers (spillOffset base at)) (cond (eqb query 5) (offsetNumbers (fieldOffset base (halfOf second) at)) unknown))))

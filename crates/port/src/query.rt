@@ -4,7 +4,7 @@ ghost use mathlib.Core.List.{[], _∷_};
 ghost use Rattle.port.specs.Query.{queryNumbers};
 
 // 1 the operand of a position, 2 the fresh temporary past a context, 3 the temporary of a variable by its id, 4 a spill's offset from STACK,
-// 5 a field's offset in a block. `at` is the position, the spill's word or the field.
+// 5 a field's offset in a block. `at` is the position, the spill's word or the field, 0 to 2.
 #[no_mangle]
 pub extern "C" fn axcut_query(
     query: u64,
@@ -21,11 +21,8 @@ pub extern "C" fn axcut_query(
         1 => numbered::query::located(layout::utils::position(at), value),
         2 => numbered::query::located(layout::utils::fresh_temporary(half, context), value),
         3 => numbered::query::located(layout::utils::variable_temporary(half, context, id), value),
-        4 => numbered::query::offset_of_spill(at, value),
-        5 => {
-            *value = numbered::query::offset_of_field(second, at);
-            0
-        }
+        4 => numbered::query::measured(layout::config::stack_offset(at), value),
+        5 => numbered::query::measured(layout::config::field_offset(half, at), value),
         _ => {
             *value = 0;
             3

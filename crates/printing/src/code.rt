@@ -35,7 +35,7 @@ fn source_to_temp(out: &mut [u8], p: Cursor, w: u64) -> Cursor
     if w < 16 {
         return p;
     }
-    let offset = layout::config::stack_offset(w);
+    let offset = layout::offset::spill_offset(w);
     emit::cursor::emit(out, p, Row(MOVL, TEMP, STACK, 0, offset, 0))
 }
 

@@ -1,5 +1,5 @@
 -- A binding read at a byte, and whether it is well formed.
-use Prim.Native.Nat.{ℕ, _+_, _*_, _/_, _≤_, _<_}
+use Prim.Native.Nat.{ℕ, _+_, _*_, _≤_, _<_}
 use mathlib.Core.Path.{_≡_, sym, _∙_}
 use mathlib.Core.Bool.{Bool, true, false, _&&_}
 use mathlib.Core.List.{List, [], _∷_}
@@ -10,11 +10,10 @@ use lib.Seq.{getD-drop, sets}
 use borrow.Author.Tests.{eq-eqb, ne-eqb, le-leb, lt-leb, leb-true}
 use Rattle.records.specs.declared.binding.Kind.{Kind}
 use Rattle.records.specs.declared.binding.Binding.{Binding}
-use Rattle.records.specs.declared.binding.BindingRead.the-variants.{Found, Absent}
 use Rattle.records.specs.Bytes.{le, number, stored}
 use Rattle.records.specs.declared.check.Checked.the-variants.{Good}
 use Rattle.records.specs.Checked.{places, checked}
-use Rattle.records.specs.Contexts.{kindByte, kindOf, bindingBytes, bindingIn, bindingStarts, checkedContext, bindingAt}
+use Rattle.records.specs.Contexts.{kindByte, kindOf, bindingBytes, bindingIn, bindingStarts, checkedContext}
 use Rattle.records.proofs.Checking.{good-within}
 use Rattle.records.proofs.Conditions.{and-left}
 use Rattle.records.proofs.Numbers.{number-drop}
@@ -30,19 +29,6 @@ module _ (s : List ℕ) where
       let b₂ = eqb (getD s 1 0) 0x01 in
       let b₃ = leb (getD s 2 0) 1 in
       leb-true 8 (length s) (and-left b₀ b₁ (and-left (b₀ && b₁) b₂ (and-left (b₀ && b₁ && b₂) b₃ (and-left (b₀ && b₁ && b₂ && b₃) (eqb (getD s 3 0) 0) e))))
-
-  pub part-binding : {x : Binding} {b : Bool} (k : ℕ) → b ≡ bindingStarts (drop (8 * k) s) → b ≡ true → x ≡ bindingIn (drop (8 * k) s) → Found x ≡ bindingAt s k
-  unfolding bindingAt
-  part-binding k e t q = rw (← e, t, q)
-
-  pub part-bad : {b : Bool} (k : ℕ) → b ≡ bindingStarts (drop (8 * k) s) → b ≡ false → Absent ≡ bindingAt s k
-  unfolding bindingAt
-  part-bad k e t = rw (← e, t)
-
-  -- past the last whole binding
-  pub part-none : (k : ℕ) → length s / 8 ≤ k → Absent ≡ bindingAt s k
-  unfolding bindingAt bindingStarts
-  part-none k h = rw (lt-leb 8 (length (drop (8 * k) s)) (simp length-drop (omega arith)))
 
 module _ (s : List ℕ) (i : ℕ) where
   pub starts-room : {b : Bool} → b ≡ bindingStarts (drop i s) → b ≡ true → i + 8 ≤ length s

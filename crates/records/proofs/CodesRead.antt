@@ -13,7 +13,7 @@ use Rattle.records.specs.declared.code.Fields.{Fields}
 use Rattle.records.specs.declared.code.CodeRead.the-variants.{Record, Malformed}
 use Rattle.records.specs.Bytes.{number}
 use Rattle.records.specs.Codes.{fields, codeOf}
-use Rattle.records.specs.Instructions.{fieldsIn, operandsOk, fieldsOk, used, codeStarts, codeAt}
+use Rattle.records.specs.Instructions.{fieldsIn, operandsOk, fieldsOk, used, labWith, codeStarts, codeAt}
 use Rattle.records.proofs.Conditions.{and-left, and-right}
 use Rattle.records.proofs.Numbers.{number-drop}
 use Rattle.records.proofs.Starting.{too-short, long-enough, first-byte}
@@ -69,3 +69,13 @@ module _ (s : List ℕ) (i : ℕ) where
     pub starts-marked : {f : Fields} {b : Bool} → getD s i 0 ≡ 0xA9 → f ≡ fieldsIn (drop i s) → b ≡ fieldsOk f → b ≡ codeStarts (drop i s)
     unfolding codeStarts
     starts-marked m q e = rw (long-enough s i 24 h, first-byte s i, eq-eqb (getD s i 0) 0xA9 m, ← q) e
+
+-- LAB told by two of a record's fields
+module _ (s : List ℕ) (i : ℕ) (label : ℕ) where
+  pub label-unmarked : (getD s (i + 1) 0 ≡ 40 → ⊥) → false ≡ labWith label (fieldsIn (drop i s))
+  unfolding fieldsIn
+  label-unmarked n = rw (getD-drop, ne-eqb (getD s (i + 1) 0) 40 n)
+
+  pub label-marked : {l : ℕ} → getD s (i + 1) 0 ≡ 40 → l ≡ number 4 s (i + 4) → eqb l label ≡ labWith label (fieldsIn (drop i s))
+  unfolding fieldsIn
+  label-marked e h = rw (getD-drop, eq-eqb (getD s (i + 1) 0) 40 e, number-drop, ← h)

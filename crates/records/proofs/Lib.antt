@@ -1,3 +1,4 @@
+pub mod Answers  -- an answer that is the one expected
 pub mod Table  -- a table's rule, from one computed test over its entries
 pub mod Conditions  -- conditions joined by `&&`
 pub mod Matched  -- a number that is none of those that a `match` names

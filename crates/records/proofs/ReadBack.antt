@@ -11,7 +11,7 @@ use Rattle.records.specs.declared.code.Code.the-variants.{RET}
 use Rattle.records.specs.declared.order.Order.{Order}
 use Rattle.records.specs.declared.order.OrderRead.the-variants.{Whole, Malformed}
 use Rattle.records.specs.Instructions.{codeAt}
-use Rattle.records.specs.Contexts.{bindingAt}
+use Rattle.records.specs.Contexts.{bindingIn}
 use Rattle.records.specs.Orders.{orderFieldsOf, orderBytes, orderStarts, orderRead}
 use Rattle.records.specs.ReadBack.{Bytes, WellFormedOrder, RecordsReadBack}
 use Rattle.records.proofs.Joined.{starts-at, item-at, joined-length, accepted, written}
@@ -40,13 +40,14 @@ order-written s o bytes e =
     rw (← (w .2)) (rw (drop-of-length-le s h, append-nil) at (order-laws .back s (w .0) bytes))
 
 pub records-read-back : RecordsReadBack
-unfolding codeAt bindingAt
+unfolding codeAt
 records-read-back =
     record {
       codes-read = λ cs each rest k h. rw (starts-at code-laws cs rest k RET each h, item-at code-laws cs rest k RET each h);
       codes-accepted = λ cs each most h. accepted code-laws (min most 65536) cs each h (rw (joined-length code-laws cs) (omega arith));
       codes-written = λ most n s bytes e. written code-laws (min most 65536) n s bytes (omega arith) e;
-      bindings-read = λ bs each rest k d h. rw (starts-at binding-laws bs rest k d each h, item-at binding-laws bs rest k d each h);
+      bindings-start = λ bs each rest k h. starts-at binding-laws bs rest k (bindingIn []) each h;
+      bindings-read = λ bs each rest k d h. item-at binding-laws bs rest k d each h;
       context-accepted = λ bs each h. accepted binding-laws 4096 bs each h (rw (joined-length binding-laws bs) (omega arith));
       context-written = λ n s bytes e. written binding-laws 4096 n s bytes (omega arith) e;
       order-read = order-read;

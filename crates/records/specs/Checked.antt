@@ -22,7 +22,7 @@ places size s = (length s + (size - 1)) / size
 unfoldable pub checked : (List ℕ → Bool) → ℕ → ℕ → List ℕ → Checked
 checked ok size limit s = firstBad ok size limit s 0 (places size s)
 
--- document 01's number and values for each answer, nothing where the list is accepted
+-- document 01's number and values for each answer: 0 where the list is accepted
 abbrev pub causeOf : Checked → List ℕ
-causeOf (Good n) = []
+causeOf (Good n) = 0 ∷ []
 causeOf (Malformed place) = 2 ∷ place ∷ []

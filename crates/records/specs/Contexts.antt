@@ -3,14 +3,12 @@ use Prim.Native.Nat.{ℕ, _+_, _*_}
 use mathlib.Core.Bool.{Bool, _&&_, cond}
 use mathlib.Core.List.{List, [], _∷_}
 use lib.Dec.{leb, eqb}
-use lib.ListN.{length, getD, drop}
+use lib.ListN.{length, getD}
 use Rattle.records.specs.declared.check.Checked.{Checked}
 use Rattle.records.specs.declared.check.Checked.the-variants.{Good, Malformed}
 use Rattle.records.specs.declared.binding.Kind.{Kind}
 use Rattle.records.specs.declared.binding.Kind.the-variants.{Linked, Ext}
 use Rattle.records.specs.declared.binding.Binding.{Binding}
-use Rattle.records.specs.declared.binding.BindingRead.{BindingRead}
-use Rattle.records.specs.declared.binding.BindingRead.the-variants.{Found, Absent}
 use Rattle.records.specs.Bytes.{le, number}
 use Rattle.records.specs.Checked.{checked}
 
@@ -46,11 +44,7 @@ bindingStarts s =
 abbrev pub checkedContext : List ℕ → Checked
 checkedContext s = checked bindingStarts 8 4096 s
 
--- document 01's number for each answer, nothing where the context is accepted; number 1 returns no place
+-- document 01's number for each answer: 0 where the context is accepted; number 1 returns no place
 abbrev pub contextCause : Checked → List ℕ
-contextCause (Good n) = []
+contextCause (Good n) = 0 ∷ []
 contextCause (Malformed place) = 1 ∷ []
-
--- binding k, counted from 0
-unfoldable pub bindingAt : List ℕ → ℕ → BindingRead
-bindingAt s k = cond (bindingStarts (drop (8 * k) s)) (Found (bindingIn (drop (8 * k) s))) Absent

@@ -1,7 +1,7 @@
 -- Instruction records: their 24 bytes, which are well formed, and what is read from them. From document 01, 'Instruction record'.
-use Prim.Native.Nat.{ℕ, _*_, _/_, _%_, min}
+use Prim.Native.Nat.{ℕ, suc, _*_, _/_, _%_, min}
 use mathlib.Core.Bool.{Bool, true, not, _&&_, _||_, cond}
-use mathlib.Core.List.{List, _∷_, _++_}
+use mathlib.Core.List.{List, [], _∷_, _++_}
 use lib.Dec.{leb, ltb, eqb}
 use lib.ListN.{length, getD, drop}
 use Rattle.records.specs.declared.check.Checked.{Checked}
@@ -55,6 +55,10 @@ operandsOk u f =
 unfoldable pub fieldsOk : Fields → Bool
 fieldsOk f = leb 1 (f .code) && leb (f .code) 44 && operandsOk (used (f .code)) f
 
+-- whether a record with the fields f is LAB's, with a label
+abbrev pub labWith : ℕ → Fields → Bool
+labWith label f = eqb (f .code) 40 && eqb (f .label) label
+
 -- whether a list starts with a whole, well-formed record
 unfoldable pub codeStarts : List ℕ → Bool
 codeStarts s = leb 24 (length s) && eqb (getD s 0 0) 0xA9 && fieldsOk (fieldsIn s)
@@ -66,3 +70,8 @@ checkedCodes most s = checked codeStarts 24 (min most 65536) s
 -- record k, counted from 0
 unfoldable pub codeAt : List ℕ → ℕ → CodeRead
 codeAt s k = cond (codeStarts (drop (24 * k) s)) (Record (codeOf (fieldsIn (drop (24 * k) s)))) Malformed
+
+-- document 01's number and place for the answer on record k, 0 where it is read
+abbrev pub codeCause : ℕ → CodeRead → List ℕ
+codeCause k (Record c) = 0 ∷ []
+codeCause k Malformed = 2 ∷ suc k ∷ []

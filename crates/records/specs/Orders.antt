@@ -104,7 +104,7 @@ unfoldable pub orderRead : List ℕ → OrderRead
 orderRead s =
     cond (orderStarts s) (cond (eqb (length s) 24) (Whole (orderOf (orderIn s))) (Malformed 2)) (Malformed 1)
 
--- document 01's number and values for each answer, nothing where the order is accepted
+-- document 01's number and values for each answer: 0 where the order is whole
 abbrev pub orderCause : OrderRead → List ℕ
-orderCause (Whole order) = []
+orderCause (Whole order) = 0 ∷ []
 orderCause (Malformed place) = 2 ∷ place ∷ []

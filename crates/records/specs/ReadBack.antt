@@ -1,6 +1,6 @@
 -- Records that are written are read back the same, at every place; and what is read, written again, gives the same bytes.
 -- One claim over the three kinds of records, in terms of what the contracts of reading, checking and writing cite.
-use Prim.Native.Nat.{ℕ, zero, suc, _^_, _≤_, _<_, min}
+use Prim.Native.Nat.{ℕ, zero, suc, _*_, _^_, _≤_, _<_, min}
 use mathlib.Core.Path.{_≡_}
 use mathlib.Core.Bool.{true}
 use mathlib.Core.List.{List, [], _∷_, _++_}
@@ -10,12 +10,11 @@ use Rattle.records.specs.declared.code.Code.{Code}
 use Rattle.records.specs.declared.code.Code.the-variants.{RET}
 use Rattle.records.specs.declared.code.CodeRead.the-variants.{Record}
 use Rattle.records.specs.declared.binding.Binding.{Binding}
-use Rattle.records.specs.declared.binding.BindingRead.the-variants.{Found}
 use Rattle.records.specs.declared.order.Order.{Order}
 use Rattle.records.specs.declared.order.OrderRead.the-variants.{Whole}
 use Rattle.records.specs.Codes.{fieldsOf, codeOf}
 use Rattle.records.specs.Instructions.{fieldsBytes, fieldsIn, fieldsOk, checkedCodes, codeAt}
-use Rattle.records.specs.Contexts.{bindingBytes, bindingIn, checkedContext, bindingAt}
+use Rattle.records.specs.Contexts.{bindingBytes, bindingIn, bindingStarts, checkedContext}
 use Rattle.records.specs.Orders.{orderFieldsOf, orderBytes, orderOk, orderRead}
 
 -- P holds of each element
@@ -73,9 +72,12 @@ pub record RecordsReadBack : Type 0 where
   pub codes-written :
       (most n : ℕ) (s : List ℕ) → Bytes s → checkedCodes most s ≡ Good n
       → joined codeBytes (items 24 codeIn n s) ≡ s
+  pub bindings-start :
+      (bs : List Binding) → Each WellFormedBinding bs → (rest : List ℕ) (k : ℕ) → k < length bs
+      → bindingStarts (drop (8 * k) (joined bindingBytes bs ++ rest)) ≡ true
   pub bindings-read :
       (bs : List Binding) → Each WellFormedBinding bs → (rest : List ℕ) (k : ℕ) (d : Binding) → k < length bs
-      → bindingAt (joined bindingBytes bs ++ rest) k ≡ Found (getD bs k d)
+      → bindingIn (drop (8 * k) (joined bindingBytes bs ++ rest)) ≡ getD bs k d
   pub context-accepted :
       (bs : List Binding) → Each WellFormedBinding bs → length bs ≤ 4096
       → checkedContext (joined bindingBytes bs) ≡ Good (length bs)

@@ -2,8 +2,9 @@
 ghost use mathlib.Core.Path.{_≡_};
 ghost use Prim.Native.Nat.{_+_, _≤_};
 ghost use lib.ListN.{length, drop};
+ghost use Rattle.records.specs.Answers.{AnswersBy};
 ghost use Rattle.records.specs.Bytes.{stored};
-ghost use Rattle.records.specs.Contexts.{kindByte, kindOf, bindingBytes, bindingIn, bindingStarts, checkedContext, bindingAt};
+ghost use Rattle.records.specs.Contexts.{kindByte, kindOf, bindingBytes, bindingIn, bindingStarts, checkedContext, contextCause};
 use crate::bytes;
 use crate::check::Checked;
 
@@ -16,11 +17,6 @@ pub enum Kind {
 pub struct Binding {
     pub kind: Kind,
     pub id: u32,
-}
-
-pub enum BindingRead {
-    Found(Binding),
-    Absent,
 }
 
 fn kind_byte(kind: Kind) -> u8
@@ -70,7 +66,7 @@ fn binding_starts(s: &[u8], at: usize) -> bool
 
 // A context: at most 4,096 bindings.
 pub fn check_context(s: &[u8]) -> Checked
-    ensures { λ r. ⌜ r ≡ checkedContext (now (s .entry)) ⌝ }
+    ensures { λ r. ⌜ AnswersBy contextCause r (checkedContext (now (s .entry))) ⌝ }
 {
     let mut at = 0;
     let mut k = 0;
@@ -85,21 +81,6 @@ pub fn check_context(s: &[u8]) -> Checked
         k += 1;
     }
     Checked::Good(k)
-}
-
-// Binding k, from 0.
-pub fn read_binding(s: &[u8], k: usize) -> BindingRead
-    ensures { λ r. ⌜ r ≡ bindingAt (now (s .entry)) k ⌝ }
-{
-    if s.len() / 8 <= k {
-        return BindingRead::Absent;
-    }
-    let at = 8 * k;
-    if binding_starts(s, at) {
-        BindingRead::Found(binding_at(s, at))
-    } else {
-        BindingRead::Absent
-    }
 }
 
 // The record of b at byte `at`, whole, or nothing where it does not fit.

@@ -2,9 +2,11 @@
 ghost use mathlib.Core.Path.{_≡_};
 ghost use Prim.Native.Nat.{_+_, _≤_};
 ghost use lib.ListN.{length, drop};
+ghost use Rattle.records.specs.Answers.{AnswersBy};
 ghost use Rattle.records.specs.Bytes.{stored};
+ghost use Rattle.records.specs.Checked.{causeOf};
 ghost use Rattle.records.specs.Codes.{fieldsOf, codeOf};
-ghost use Rattle.records.specs.Instructions.{bitsOf, fieldsBytes, fieldsIn, registerOk, labelHeld, labelOk, wordOk, operandsOk, fieldsOk, codeStarts, checkedCodes, codeAt};
+ghost use Rattle.records.specs.Instructions.{bitsOf, fieldsBytes, fieldsIn, registerOk, labelHeld, labelOk, wordOk, operandsOk, fieldsOk, labWith, codeStarts, checkedCodes, codeAt, codeCause};
 use crate::bytes;
 use crate::check::Checked;
 
@@ -319,6 +321,17 @@ pub fn fields_at(s: &[u8], at: usize) -> Fields
     }
 }
 
+// Whether the record at byte `at` is LAB with the label; its other fields are not read.
+pub fn is_label(s: &[u8], at: usize, label: u32) -> bool
+    requires { ⌜ at + 24 ≤ length (now s) ⌝ }
+    ensures { λ r. ⌜ r ≡ labWith label (fieldsIn (drop at (now (s .entry)))) ⌝ }
+{
+    if s[at + 1] == 40 {} else {
+        return false;
+    }
+    bytes::number4(s, at + 4) == label
+}
+
 // Whether a whole, well-formed record starts at byte `at`.
 fn code_starts(s: &[u8], at: usize) -> bool
     requires { ⌜ at ≤ length (now s) ⌝ }
@@ -335,7 +348,7 @@ fn code_starts(s: &[u8], at: usize) -> bool
 
 // A list of at most 65,536 records, or of `most` where that is fewer.
 pub fn check_codes(s: &[u8], most: usize) -> Checked
-    ensures { λ r. ⌜ r ≡ checkedCodes most (now (s .entry)) ⌝ }
+    ensures { λ r. ⌜ AnswersBy causeOf r (checkedCodes most (now (s .entry))) ⌝ }
 {
     let limit = bytes::least(most, 65536);
     let mut at = 0;
@@ -355,7 +368,7 @@ pub fn check_codes(s: &[u8], most: usize) -> Checked
 
 // Record k, from 0.
 pub fn read_code(s: &[u8], k: usize) -> CodeRead
-    ensures { λ r. ⌜ r ≡ codeAt (now (s .entry)) k ⌝ }
+    ensures { λ r. ⌜ AnswersBy (codeCause k) r (codeAt (now (s .entry)) k) ⌝ }
 {
     if s.len() / 24 <= k {
         return CodeRead::Malformed;
@@ -380,11 +393,4 @@ pub fn write_fields(out: &mut [u8], at: usize, f: Fields)
             bytes::store8(out, at + 16, f.value);
         }
     }
-}
-
-// The record of c at byte `at`, whole, or nothing where it does not fit.
-pub fn write_code(out: &mut [u8], at: usize, c: Code)
-    ensures { λ r. ⌜ now (out .exit) ≡ stored (now (out .entry)) at (fieldsBytes (fieldsOf c)) ⌝ }
-{
-    write_fields(out, at, fields_of(c));
 }

@@ -2,8 +2,9 @@
 ghost use mathlib.Core.Path.{_≡_};
 ghost use Prim.Native.Nat.{_+_, _≤_};
 ghost use lib.ListN.{length};
+ghost use Rattle.records.specs.Answers.{AnswersBy};
 ghost use Rattle.records.specs.Bytes.{stored};
-ghost use Rattle.records.specs.Orders.{flagOf, operationOf, newlineFlag, orderFieldsOf, orderOf, orderBits, orderOperandsOk, orderOk, orderBytes, orderIn, orderStarts, orderRead};
+ghost use Rattle.records.specs.Orders.{flagOf, operationOf, newlineFlag, orderFieldsOf, orderOf, orderBits, orderOperandsOk, orderOk, orderBytes, orderIn, orderStarts, orderRead, orderCause};
 use crate::bytes;
 use crate::code;
 
@@ -199,7 +200,7 @@ pub fn order_starts(s: &[u8]) -> bool
 
 // An order alone: refused at place 1 where it is bad or not whole, at place 2 where more follows.
 pub fn read_order(s: &[u8]) -> OrderRead
-    ensures { λ r. ⌜ r ≡ orderRead (now (s .entry)) ⌝ }
+    ensures { λ r. ⌜ AnswersBy orderCause r (orderRead (now (s .entry))) ⌝ }
 {
     if order_starts(s) {} else {
         return OrderRead::Malformed(1);

@@ -2,6 +2,7 @@
 use crate::request::Request;
 use code::emitters::Condition;
 use emit::answer::Answer;
+use layout::config::Offset;
 use layout::utils::Temporary;
 use layout::utils::TemporaryNumber;
 use operations::operation::Operation;
@@ -107,21 +108,16 @@ fn operation(r: Request) -> Operation {
     }
 }
 
-fn stack_offset(spill: u64) -> Answered {
-    if spill < 256 {
-        found(layout::config::stack_offset(16 + spill))
-    } else {
-        refused(3)
+fn of_offset(offset: Offset) -> Answered {
+    match offset {
+        Offset::At(bytes) => found(bytes),
+        Offset::Operand => refused(3),
     }
 }
 
-fn field_offset(kind: u8, field: u64) -> Answered {
-    if field < 3 {
-        if kind == 0 {
-            found(layout::config::fst_offset(field))
-        } else {
-            found(layout::config::snd_offset(field))
-        }
+fn stack_offset(spill: u64) -> Answered {
+    if spill < 256 {
+        of_offset(layout::config::stack_offset(16 + spill))
     } else {
         refused(3)
     }
@@ -135,7 +131,7 @@ fn ask(r: Request, context: &[u8]) -> Answered {
         21 => of_temporary(layout::utils::fresh_temporary(half(r.kind), context)),
         22 => of_temporary(layout::utils::variable_temporary(half(r.kind), context, r.label)),
         23 => stack_offset(r.x),
-        24 => field_offset(r.kind, r.x),
+        24 => of_offset(layout::config::field_offset(half(r.kind), r.x)),
         _ => refused(2),
     }
 }

@@ -29,7 +29,7 @@ fn store_zeros(out: &mut [u8], p: Cursor, n: u64) -> Cursor
 {
     let mut q = p;
     for i in 0..n {
-        let offset = layout::config::fst_offset(i);
+        let offset = layout::offset::fst_offset(i);
         q = emit::cursor::emit(out, q, Row(MOVIM, HEAP, 0, 0, offset, 0));
     }
     q
@@ -40,7 +40,7 @@ fn store_fst(out: &mut [u8], p: Cursor, table: &[u64; 267], ext: bool, v: u64, t
     requires { ⌜ (Table (now table)) × (v < 133) × (t < 3) × (p .at + 48 < 2 ^ 64) ⌝ }
     ensures { λ q. ⌜ Emits (now (out .entry)) p (now (out .exit)) q (storeFst base ext v t) ⌝ }
 {
-    let offset = layout::config::fst_offset(t);
+    let offset = layout::offset::fst_offset(t);
     if ext {
         emit::cursor::emit(out, p, Row(MOVIM, HEAP, 0, 0, offset, 0))
     } else {
@@ -62,7 +62,7 @@ fn store_value(
     requires { ⌜ (Table (now table)) × (first ≤ v) × (8 * (v - first) + 8 ≤ length (now kinds)) × (v < 133) × (t < 3) × (p .at + 96 < 2 ^ 64) ⌝ }
     ensures { λ q. ⌜ Emits (now (out .entry)) p (now (out .exit)) q (storeValue base (extIn (now (kinds .entry)) first) v t) ⌝ }
 {
-    let offset = layout::config::snd_offset(t);
+    let offset = layout::offset::snd_offset(t);
     let w = layout::utils::location_at(table, 2 * v + 1);
     let q = block::store_field(out, p, w, HEAP, offset);
     let ext = layout::utils::is_ext(kinds, v - first);

@@ -27,4 +27,4 @@ load-spilled-spec =
     (λ c κs. let a = c .before .before .before .before .before .before .before .before .before .before .before .before .args in let w = c .before .before .before .before .before .before .before .before .before .before .before .before .pre in let d = c .before .before .before .before .before .before .before .before .set-aside .ensures in let e = c .before .before .before .emit .ensures in let z = aside-size (a .aside) in (w .0, w .1, w .2, w .3, w .4, omega (arith, d .place, e .place), omega (arith, d .drawn, e .drawn)))
     (λ c κs. let a = c .before .before .before .before .before .before .before .before .before .before .before .before .before .before .before .before .args in let w = c .before .before .before .before .before .before .before .before .before .before .before .before .before .before .before .before .pre in let d = c .before .before .before .before .before .before .before .before .before .before .before .before .set-aside .ensures in let e = c .before .before .before .before .before .before .before .emit .ensures in let b = c .before .before .before .load-body .ensures in let z = aside-size (a .aside) in let y = body-size (extIn (a .kinds .now) (a .first)) (a .shared) (a .other) (a .v) (a .k) 4 in omega (arith, w .4, three (a .other), d .place, e .place, b .place))
     (λ c. search needs)
-    (λ c. rw (← (c .before .before .before .before .before .before .before .before .before .before .before .before .before .before .before .before .before .before .before .pre .7), ← (c .before .before .before .before .before .before .before .before .before .before .before .before .stack-offset .ensures)) (c .before .before .before .before .before .before .before .before .before .before .before .before .before .before .before .set-aside .ensures ⨟ grown (leaf (MOVL RETURN1 STACK _) refl) (c .before .before .before .before .before .before .before .before .before .before .emit .ensures) refl refl ⨟ c .before .before .before .before .before .before .load-body .ensures ⨟ c .before .before .restore-aside .ensures)))
+    (λ c. rw (← (c .before .before .before .before .before .before .before .before .before .before .before .before .before .before .before .before .before .before .before .pre .7), ← (c .before .before .before .before .before .before .before .before .before .before .before .before .spill-offset .ensures)) (c .before .before .before .before .before .before .before .before .before .before .before .before .before .before .before .set-aside .ensures ⨟ grown (leaf (MOVL RETURN1 STACK _) refl) (c .before .before .before .before .before .before .before .before .before .before .emit .ensures) refl refl ⨟ c .before .before .before .before .before .before .load-body .ensures ⨟ c .before .before .restore-aside .ensures)))

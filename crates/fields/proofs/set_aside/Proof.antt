@@ -15,4 +15,4 @@ set-aside-spec =
     (λ c κs. search needs)
     (λ c κs. search needs)
     (λ c. search needs)
-    (λ c. rw (c .before .before .before .before .before .if1 .left, ← (c .before .before .before .before .stack-offset .ensures)) (grown (leaf (MOVS RETURN1 STACK _) refl) (c .before .before .emit .ensures) refl refl)))
+    (λ c. rw (c .before .before .before .before .before .if1 .left, ← (c .before .before .before .before .spill-offset .ensures)) (grown (leaf (MOVS RETURN1 STACK _) refl) (c .before .before .emit .ensures) refl refl)))

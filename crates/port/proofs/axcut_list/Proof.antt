@@ -12,4 +12,4 @@ axcut-list-spec =
     (λ c κs. search needs)
     (λ c κs. search needs)
     (λ c. search needs)
-    (λ c. let l = c .before .before .before .before .list-records .ensures in let n = c .told .ensures ∙ ap listedNumbers (l .0) in (ap numberIn n, (ap valueIn n, l .1))))
+    (λ c. let l = c .before .before .before .before .list-records .ensures in let n = c .told .ensures ∙ ap listedNumbers (l .0 .answer) in (ap numberIn n, (ap valueIn n, l .1))))

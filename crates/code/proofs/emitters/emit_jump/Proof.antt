@@ -14,4 +14,4 @@ emit-jump-spec =
     (λ c. search needs)
     (λ c. rw (lt-ltb _ 16 (c .before .before .before .before .if1 .taken)) (c .before .before .emit .ensures))
     (λ c. search needs)
-    (λ c. rw (le-ltb _ 16 (c .before .before .before .before .before .if1 .left), ← (c .before .before .before .before .stack-offset .ensures)) (c .before .before .emit2 .ensures)))
+    (λ c. rw (le-ltb _ 16 (c .before .before .before .before .before .if1 .left), ← (c .before .before .before .before .spill-offset .ensures)) (c .before .before .emit2 .ensures)))

@@ -19,4 +19,4 @@ emit-load-label-spec =
     (λ c. search needs)
     (λ c. on-register _ _ (c .before .before .before .before .if1 .taken) (grown (leaf (LEAL _ _) refl) (c .before .before .emit .ensures) refl refl))
     (λ c. search needs)
-    (λ c. rw (← (c .before .before .before .before .stack-offset .ensures)) (on-spill _ _ (c .before .before .before .before .before .if1 .left) (grown (seq (leaf (LEAL TEMP _) refl) (leaf (MOVS TEMP STACK _) refl)) (c .before .before .emit2 .ensures) refl refl))))
+    (λ c. rw (← (c .before .before .before .before .spill-offset .ensures)) (on-spill _ _ (c .before .before .before .before .before .if1 .left) (grown (seq (leaf (LEAL TEMP _) refl) (leaf (MOVS TEMP STACK _) refl)) (c .before .before .emit2 .ensures) refl refl))))

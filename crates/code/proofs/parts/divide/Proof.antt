@@ -23,4 +23,4 @@ divide-spec =
     (λ c κs. search needs)
     (λ c κs. search needs)
     (λ c. search needs)
-    (λ c. rw (le-ltb _ 16 (c .before .before .before .before .before .if1 .left), ← (c .before .before .before .before .stack-offset .ensures)) (grown (seq (leaf CQO refl) (leaf (IDIVM STACK _) refl)) (c .before .before .emit23 .ensures) refl refl)))
+    (λ c. rw (le-ltb _ 16 (c .before .before .before .before .before .if1 .left), ← (c .before .before .before .before .spill-offset .ensures)) (grown (seq (leaf CQO refl) (leaf (IDIVM STACK _) refl)) (c .before .before .emit23 .ensures) refl refl)))

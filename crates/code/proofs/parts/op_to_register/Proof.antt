@@ -17,4 +17,4 @@ op-to-register-spec =
     (λ c. search needs)
     (λ c. on-register _ _ (c .before .before .before .before .if1 .taken) (register-register (c .before .before .before .before .before .before .before .args .n) (c .before .before .before .before .before .code-number .ensures .0) _ _ (c .before .before .emit .ensures)))
     (λ c. search needs)
-    (λ c. rw (← (c .before .before .before .before .stack-offset .ensures)) (on-spill _ _ (c .before .before .before .before .before .if1 .left) (register-spill (c .before .before .before .before .before .before .before .before .args .n) (c .before .before .before .before .before .before .code-number .ensures .0) _ _ (c .before .before .emit2 .ensures)))))
+    (λ c. rw (← (c .before .before .before .before .spill-offset .ensures)) (on-spill _ _ (c .before .before .before .before .before .if1 .left) (register-spill (c .before .before .before .before .before .before .before .before .args .n) (c .before .before .before .before .before .before .code-number .ensures .0) _ _ (c .before .before .emit2 .ensures)))))

@@ -23,6 +23,6 @@ op-to-spill-spec =
     (λ c. search needs)
     (λ c κs. search needs)
     (λ c. search needs)
-    (λ c. rw (← (c .before .before .before .before .before .stack-offset .ensures)) (on-register _ _ (c .before .before .before .before .if1 .taken) (spill-register (c .before .before .before .before .before .before .before .before .args .n) (c .before .before .before .before .before .before .code-number .ensures .0) _ _ (c .before .before .emit .ensures))))
+    (λ c. rw (← (c .before .before .before .before .before .spill-offset .ensures)) (on-register _ _ (c .before .before .before .before .if1 .taken) (spill-register (c .before .before .before .before .before .before .before .before .args .n) (c .before .before .before .before .before .before .code-number .ensures .0) _ _ (c .before .before .emit .ensures))))
     (λ c. search needs)
-    (λ c. rw (← (c .before .before .before .before .before .before .before .before .before .before .stack-offset .ensures), ← (c .before .before .before .before .before .before .before .before .stack-offset2 .ensures)) (on-spill _ _ (c .before .before .before .before .before .before .before .before .before .if1 .left) (grown (leaf (MOVL TEMP STACK _) refl) (c .before .before .before .before .before .before .emit2 .ensures) refl refl ⨟ spill-register (c .before .before .before .before .before .before .before .before .before .before .before .before .before .args .n) (c .before .before .before .before .before .before .before .before .before .before .before .code-number .ensures .0) _ _ (c .before .before .emit3 .ensures)))))
+    (λ c. rw (← (c .before .before .before .before .before .before .before .before .before .before .spill-offset .ensures), ← (c .before .before .before .before .before .before .before .before .spill-offset2 .ensures)) (on-spill _ _ (c .before .before .before .before .before .before .before .before .before .if1 .left) (grown (leaf (MOVL TEMP STACK _) refl) (c .before .before .before .before .before .before .emit2 .ensures) refl refl ⨟ spill-register (c .before .before .before .before .before .before .before .before .before .before .before .before .before .args .n) (c .before .before .before .before .before .before .before .before .before .before .before .code-number .ensures .0) _ _ (c .before .before .emit3 .ensures)))))

@@ -1,4 +1,5 @@
 use borrow.Author.Needs.{needs}
+use Rattle.records.proofs.Answers.{answers-by}
 use Rattle.layout.proofs.Placing.{position-none, position-operand}
 use Rattle.layout.proofs.utils.position.Statement.{statement}
 use Rattle.layout.proofs.utils.position.Tie as tie
@@ -7,7 +8,7 @@ pub position-spec : {M : Type 1} → statement M
 position-spec =
     tie.close
     (tie.spec
-    (λ c. position-none _ (c .if1 .taken))
+    (λ c. answers-by (position-none _ (c .if1 .taken)))
     (λ c κs. search needs)
     (λ c κs. search needs)
-    (λ c. position-operand _ (c .before .before .before .if1 .left) (c .location-at .ensures .0)))
+    (λ c. answers-by (position-operand _ (c .before .before .before .if1 .left) (c .location-at .ensures .0))))

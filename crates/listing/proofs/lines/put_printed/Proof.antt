@@ -12,10 +12,10 @@ put-printed-spec =
     (tie.spec
     (λ c κs. search needs)
     (λ c. search needs)
-    (λ c κs. (sym (c .before .before .before .before .check-codes .ensures) ∙ c .before .before .checked .given .1))
+    (λ c κs. (sym (c .before .before .before .before .check-codes .ensures .answer) ∙ c .before .before .checked .given .1))
     (λ c. search needs)
     (λ c κs. search needs)
     (λ c. search needs)
-    (λ c. printed-listing _ _ (sym (c .before .before .before .before .before .before .before .check-codes .ensures) ∙ c .before .before .before .before .before .checked .given .1) (c .before .before .put-listing .ensures))
+    (λ c. printed-listing _ _ (sym (c .before .before .before .before .before .before .before .check-codes .ensures .answer) ∙ c .before .before .before .before .before .checked .given .1) (c .before .before .put-listing .ensures))
     (λ c. search needs)
-    (λ c. printed-refusal _ _ (sym (c .before .before .before .before .before .before .before .check-codes .ensures) ∙ c .before .before .before .before .before .checked2 .given .1) (at-most (c .before .before .put-refusal .ensures) (omega arith))))
+    (λ c. printed-refusal _ _ (sym (c .before .before .before .before .before .before .before .check-codes .ensures .answer) ∙ c .before .before .before .before .before .checked2 .given .1) (at-most (c .before .before .put-refusal .ensures) (omega arith))))

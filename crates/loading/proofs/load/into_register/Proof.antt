@@ -16,4 +16,4 @@ into-register-spec =
     (λ c κs. search needs)
     (λ c κs. search needs)
     (λ c. search needs)
-    (λ c. rw (le-ltb _ 16 (c .before .before .before .before .before .if1 .left), ← (c .before .before .before .before .stack-offset .ensures)) (grown (leaf (MOVL TEMP STACK _) refl) (c .before .before .emit .ensures) refl refl)))
+    (λ c. rw (le-ltb _ 16 (c .before .before .before .before .before .if1 .left), ← (c .before .before .before .before .spill-offset .ensures)) (grown (leaf (MOVL TEMP STACK _) refl) (c .before .before .emit .ensures) refl refl)))

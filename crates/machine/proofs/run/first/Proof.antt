@@ -24,6 +24,6 @@ first-spec =
     (λ c κs. omega (arith, c .before .before .before .pre .0 .whole))
     (λ c. search needs)
     (λ c. search needs)
-    (λ c. let s = c .before .before .before .before .before in let l = c .before .before .before .loop in first-later (s .args .label) (s .args .s .now) (s .args .n) (s .args .k) (l .i) (l .inv) (s .pre .0) (c .before .before .if1 .left) (c .before .lab-at .ensures) (c .if2 .left))
+    (λ c. let s = c .before .before .before .before .before in let l = c .before .before .before .loop in first-later (s .args .label) (s .args .s .now) (s .args .n) (s .args .k) (l .i) (l .inv) (s .pre .0) (c .before .before .if1 .left) (c .before .is-label .ensures) (c .if2 .left))
     (λ c. let s = c .before .before .before in let l = c .before .loop in first-none (s .args .label) (s .args .s .now) (s .args .n) (s .args .k) (l .i) (l .inv) (c .if1 .taken))
-    (λ c. let s = c .before .before .before .before .before in let l = c .before .before .before .loop in first-here (s .args .label) (s .args .s .now) (s .args .n) (s .args .k) (l .i) (l .inv) (s .pre .0) (c .before .before .if1 .left) (c .before .lab-at .ensures) (c .if2 .taken)))
+    (λ c. let s = c .before .before .before .before .before in let l = c .before .before .before .loop in first-here (s .args .label) (s .args .s .now) (s .args .n) (s .args .k) (l .i) (l .inv) (s .pre .0) (c .before .before .if1 .left) (c .before .is-label .ensures) (c .if2 .taken)))

@@ -20,4 +20,4 @@ erase-spec =
     (λ c. search needs)
     (λ c. rw (lt-ltb _ 16 (c .before .before .before .before .if1 .taken)) (c .before .before .erase-register .ensures))
     (λ c. search needs)
-    (λ c. rw (le-ltb _ 16 (c .before .before .before .before .before .before .before .before .before .if1 .left), ← (c .before .before .before .before .before .before .before .before .stack-offset .ensures)) (grown (leaf (MOVL TEMP STACK _) refl) (c .before .before .before .before .before .before .emit .ensures) refl refl ⨟ c .before .before .erase-register2 .ensures)))
+    (λ c. rw (le-ltb _ 16 (c .before .before .before .before .before .before .before .before .before .if1 .left), ← (c .before .before .before .before .before .before .before .before .spill-offset .ensures)) (grown (leaf (MOVL TEMP STACK _) refl) (c .before .before .before .before .before .before .emit .ensures) refl refl ⨟ c .before .before .erase-register2 .ensures)))

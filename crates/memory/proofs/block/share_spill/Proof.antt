@@ -18,4 +18,4 @@ share-spill-spec =
     (λ c κs. search needs)
     (λ c κs. search needs)
     (λ c. search needs)
-    (λ c. rw (← (c .before .before .before .before .before .before .before .before .before .stack-offset .ensures)) (grown (skip-if-zero (CMPIM STACK _ 0) refl (seq (leaf (MOVL TEMP STACK _) refl) (leaf (ADDIM TEMP 0 _) refl))) (counted 1 (c .before .before .before .before .before .before .before .emit4 .ensures ⨾ c .before .before .before .emit .ensures) (c .draw .ensures)) refl refl)))
+    (λ c. rw (← (c .before .before .before .before .before .before .before .before .before .spill-offset .ensures)) (grown (skip-if-zero (CMPIM STACK _ 0) refl (seq (leaf (MOVL TEMP STACK _) refl) (leaf (ADDIM TEMP 0 _) refl))) (counted 1 (c .before .before .before .before .before .before .before .emit4 .ensures ⨾ c .before .before .before .emit .ensures) (c .draw .ensures)) refl refl)))

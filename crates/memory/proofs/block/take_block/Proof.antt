@@ -19,4 +19,4 @@ take-block-spec =
     (λ c. search needs)
     (λ c. rw (lt-ltb _ 16 (c .before .before .before .before .if1 .taken)) (grown (leaf (MOV _ HEAP) refl) (c .before .before .emit .ensures) refl refl))
     (λ c. search needs)
-    (λ c. rw (le-ltb _ 16 (c .before .before .before .before .before .if1 .left), ← (c .before .before .before .before .stack-offset .ensures)) (grown (seq (leaf (MOV TEMP HEAP) refl) (leaf (MOVS HEAP STACK _) refl)) (c .before .before .emit2 .ensures) refl refl)))
+    (λ c. rw (le-ltb _ 16 (c .before .before .before .before .before .if1 .left), ← (c .before .before .before .before .spill-offset .ensures)) (grown (seq (leaf (MOV TEMP HEAP) refl) (leaf (MOVS HEAP STACK _) refl)) (c .before .before .emit2 .ensures) refl refl)))

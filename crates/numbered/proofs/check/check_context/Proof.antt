@@ -9,5 +9,5 @@ check-context-spec =
     (λ c κs. search needs)
     (λ c. search needs)
     (λ c. search needs)
-    (λ c. rw (← (c .before .before .check-context .ensures), c .enum-told .given .1))
-    (λ c. rw (← (c .before .before .check-context .ensures), c .enum-told2 .given .1)))
+    (λ c. rw (← (c .before .before .check-context .ensures .answer), c .enum-told .given .1))
+    (λ c. rw (← (c .before .before .check-context .ensures .answer), c .enum-told2 .given .1)))

@@ -9,5 +9,5 @@ check-order-spec =
     (λ c κs. search needs)
     (λ c. search needs)
     (λ c. search needs)
-    (λ c. rw (← (c .before .before .read-order .ensures), c .enum-told .given .1))
-    (λ c. rw (← (c .before .before .before .read-order .ensures), c .before .bad .given .1)))
+    (λ c. rw (← (c .before .before .read-order .ensures .answer), c .enum-told .given .1))
+    (λ c. rw (← (c .before .before .before .read-order .ensures .answer), c .before .bad .given .1)))

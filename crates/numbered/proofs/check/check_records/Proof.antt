@@ -9,5 +9,5 @@ check-records-spec =
     (λ c κs. search needs)
     (λ c. search needs)
     (λ c. search needs)
-    (λ c. rw (← (c .before .before .check-codes .ensures), c .enum-told .given .1))
-    (λ c. rw (← (c .before .before .before .check-codes .ensures), c .before .bad .given .1)))
+    (λ c. rw (← (c .before .before .check-codes .ensures .answer), c .enum-told .given .1))
+    (λ c. rw (← (c .before .before .before .check-codes .ensures .answer), c .before .bad .given .1)))

@@ -19,4 +19,4 @@ item-at-spec =
     (λ c. search needs)
     (λ c κs. search needs)
     (λ c. search needs)
-    (λ c. finds _ _ (c .before .before .before .before .before .if1 .left) (c .before .before .before .before .least .ensures) (c .before .before .read-order .ensures) (c .before .bytes-after .ensures) (c .least2 .ensures)))
+    (λ c. finds _ _ (c .before .before .before .before .before .if1 .left) (c .before .before .before .before .least .ensures) (c .before .before .read-order .ensures .answer) (c .before .bytes-after .ensures) (c .least2 .ensures)))

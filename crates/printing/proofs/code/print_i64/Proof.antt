@@ -11,8 +11,8 @@ print-i64-spec =
     (tie.spec
     (λ c κs. search needs)
     (λ c. search needs)
-    (λ c κs. let w = context-within (c .before .before .before .before .before .before .before .args .context .now) _ (sym (c .before .before .before .before .check-context .ensures) ∙ c .before .before .n .given .1) in (w .1, w .0))
+    (λ c κs. let w = context-within (c .before .before .before .before .before .before .before .args .context .now) _ (sym (c .before .before .before .before .check-context .ensures .answer) ∙ c .before .before .n .given .1) in (w .1, w .0))
     (λ c. search needs)
     (λ c. search needs)
-    (λ c. rw (sym (c .before .before .before .before .before .before .before .check-context .ensures) ∙ c .before .before .before .before .before .n .given .1) (c .before .before .print-checked .ensures))
-    (λ c. rw (sym (c .before .before .check-context .ensures) ∙ c .enum-told .given .1) (refused refl refl refl)))
+    (λ c. rw (sym (c .before .before .before .before .before .before .before .check-context .ensures .answer) ∙ c .before .before .before .before .before .n .given .1) (c .before .before .print-checked .ensures))
+    (λ c. rw (sym (c .before .before .check-context .ensures .answer) ∙ c .enum-told .given .1) (refused refl refl refl)))

@@ -18,6 +18,6 @@ put-read-name-spec =
     (λ c. search needs)
     (λ c κs. search needs)
     (λ c. search needs)
-    (λ c. rw (sym (c .before .before .before .before .before .before .before .read-order .ensures) ∙ c .before .before .before .before .before .read .given .1) (c .before .before .put-name .ensures))
+    (λ c. rw (sym (c .before .before .before .before .before .before .before .read-order .ensures .answer) ∙ c .before .before .before .before .before .read .given .1) (c .before .before .put-name .ensures))
     (λ c. search needs)
-    (λ c. rw (sym (c .before .before .before .before .before .before .before .read-order .ensures) ∙ c .before .before .before .before .before .enum-told .given .1) (at-most (c .before .before .put-bytes .ensures) (omega arith))))
+    (λ c. rw (sym (c .before .before .before .before .before .before .before .read-order .ensures .answer) ∙ c .before .before .before .before .before .enum-told .given .1) (at-most (c .before .before .put-bytes .ensures) (omega arith))))

@@ -13,8 +13,8 @@ into-x86-64-routine-spec =
     (tie.spec
     (λ c κs. search needs)
     (λ c. search needs)
-    (λ c κs. let w = body-length (c .before .before .before .before .before .before .args .body .now) _ (sym (c .before .before .before .check-codes .ensures) ∙ c .before .enum-told .given .1) in omega arith)
+    (λ c κs. let w = body-length (c .before .before .before .before .before .before .args .body .now) _ (sym (c .before .before .before .check-codes .ensures .answer) ∙ c .before .enum-told .given .1) in omega arith)
     (λ c. search needs)
     (λ c. search needs)
-    (λ c. rw (sym (c .before .before .before .before .before .before .check-codes .ensures) ∙ c .before .before .before .before .enum-told .given .1) (c .before .before .assemble-checked .ensures))
-    (λ c. rw (sym (c .before .before .before .check-codes .ensures) ∙ c .before .place .given .1) (record { answer = refl; cause = refl; bytes = refl })))
+    (λ c. rw (sym (c .before .before .before .before .before .before .check-codes .ensures .answer) ∙ c .before .before .before .before .enum-told .given .1) (c .before .before .assemble-checked .ensures))
+    (λ c. rw (sym (c .before .before .before .check-codes .ensures .answer) ∙ c .before .place .given .1) (record { answer = refl; cause = refl; bytes = refl })))

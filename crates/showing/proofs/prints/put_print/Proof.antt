@@ -16,5 +16,5 @@ put-print-spec =
     (λ c κs. search needs)
     (λ c. search needs)
     (λ c. search needs)
-    (λ c. rw (sym (c .before .before .before .before .before .before .before .read-order .ensures) ∙ c .before .before .before .before .before .read .given .1) (c .before .before .put-whole .ensures))
-    (λ c. rw (sym (c .before .before .read-order .ensures) ∙ c .enum-told .given .1) (at-most (nothing _ _) (omega arith))))
+    (λ c. rw (sym (c .before .before .before .before .before .before .before .read-order .ensures .answer) ∙ c .before .before .before .before .before .read .given .1) (c .before .before .put-whole .ensures))
+    (λ c. rw (sym (c .before .before .read-order .ensures .answer) ∙ c .enum-told .given .1) (at-most (nothing _ _) (omega arith))))

@@ -12,8 +12,8 @@ store-spec =
     (tie.spec
     (λ c κs. search needs)
     (λ c. search needs)
-    (λ c κs. sym (c .before .before .before .before .check-context .ensures) ∙ c .before .before .k .given .1)
+    (λ c κs. sym (c .before .before .before .before .check-context .ensures .answer) ∙ c .before .before .k .given .1)
     (λ c. search needs)
     (λ c. search needs)
     (λ c. c .before .before .store-last .ensures)
-    (λ c. rw (sym (c .before .before .check-context .ensures) ∙ c .enum-told .given .1) (refused refl refl refl)))
+    (λ c. rw (sym (c .before .before .check-context .ensures .answer) ∙ c .enum-told .given .1) (refused refl refl refl)))
