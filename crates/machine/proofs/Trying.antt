@@ -1,6 +1,6 @@
 -- One instruction tried alone: refused, or performed as the step.
 use Prim.Native.Nat.{ℕ, _*_, _<_}
-use mathlib.Core.Path.{_≡_, sym, ap, _∙_}
+use mathlib.Core.Path.{_≡_, ap, _∙_}
 use mathlib.Core.Bool.{Bool, true, false, _&&_}
 use mathlib.Core.List.{List, []}
 use lib.Dec.{leb, eqb}
@@ -9,27 +9,28 @@ use native.Mathlib.Omega.{arith}
 use borrow.Author.Tests.{ltb-true, eqb-true}
 use Rattle.records.specs.declared.code.Code.{Code}
 use Rattle.records.specs.declared.code.Fields.{Fields}
+use Rattle.records.specs.declared.code.CodeRead.{CodeRead}
+use Rattle.records.specs.declared.code.CodeRead.the-variants as read
 use Rattle.records.specs.Codes.{fieldsOf, codeOf}
 use Rattle.records.specs.Instructions.{registerOk, labelOk, wordOk, operandsOk, fieldsOk, used}
+use Rattle.records.specs.Instructions.{fieldsIn, codeAt}
+use Rattle.records.specs.ReadBack.{codeIn}
+use Rattle.records.specs.Answers.{AnswersBy}
 use Rattle.records.proofs.Conditions.{and-left, and-right}
+use Rattle.records.proofs.CodesRead.{starts-ok}
+use Rattle.records.proofs.CodesBack.{code-fields, fields-code}
 use Rattle.instructions.specs.declared.instruction.Compared.{Compared}
 use Rattle.instructions.specs.declared.instruction.Pair.{Pair}
 use Rattle.instructions.specs.declared.instruction.Moved.{Moved}
-use Rattle.machine.specs.declared.step.Tried.the-variants.{Took, Malformed}
+use Rattle.instructions.specs.declared.instruction.Went.{Went}
 use Rattle.instructions.specs.View.{View, view}
 use Rattle.instructions.specs.Memory.{heapOk}
-use Rattle.instructions.specs.Step.{Call, config, Outcome, outcomeOf, step}
-use Rattle.machine.specs.Trial.{took, trial, trialOf}
+use Rattle.instructions.specs.Step.{Call, config, Outcome, step}
 use Rattle.instructions.specs.Forms.{comparedOf, Goes}
-use Rattle.records.specs.declared.code.CodeRead.{CodeRead}
-use Rattle.records.specs.declared.code.CodeRead.the-variants as read
-use Rattle.records.specs.Instructions.{fieldsIn, codeAt}
-use Rattle.records.specs.ReadBack.{codeIn}
-use Rattle.records.proofs.CodesRead.{starts-ok}
-use Rattle.records.proofs.CodesBack.{code-fields, fields-code}
-use Rattle.instructions.specs.declared.instruction.Went.{Went}
+use Rattle.machine.specs.declared.step.Tried.the-variants.{Took, Malformed}
 use Rattle.machine.specs.declared.run.Turn.{Turn}
 use Rattle.machine.specs.declared.step.Tried.{Tried}
+use Rattle.machine.specs.Trial.{took, trial, trialOf, causeOf}
 use Rattle.machine.specs.Run.{codesOf}
 use Rattle.machine.specs.Loop.{Listed, turnOf, Turns}
 use Rattle.machine.proofs.Running.{unlike}
@@ -90,9 +91,9 @@ module _ (words : ℕ → ℕ) (n : ℕ) (s : List ℕ) (place : ℕ) (v : View)
         let o = starts-ok (drop (24 * place) s) (z .starts place h) in
         rw (k, same, fields-code f o, o)
 
-    module _ {t : Tried} (v′ : View) (q′ : Compared) (b : (calls : List Call) → trialOf t v′ q′ calls ≡ trial words x (config v q calls)) where
+    module _ {t : Tried} (v′ : View) (q′ : Compared) (b : (calls : List Call) → AnswersBy causeOf (trialOf t v′ q′ calls) (trial words x (config v q calls))) where
       pub not-refused : {A : Type 0} {i : ℕ} → t ≡ Malformed i → A
-      not-refused {i} m = unlike (let y : trialOf (Malformed i) v′ q′ [] ≡ took (step words (codeIn (drop (24 * place) s)) (config v q [])) = rw m at (b [] ∙ tries []) in cc)
+      not-refused {i} m = unlike (let y : trialOf (Malformed i) v′ q′ [] ≡ took (step words (codeIn (drop (24 * place) s)) (config v q [])) = rw m at (b [] .answer ∙ tries []) in cc)
 
       pub turns : {w : Went} {r : Turn} → t ≡ Took w → r ≡ turnOf (codesOf n s) place w → Turns words n s place v q v′ q′ r
-      turns {w} m u = record { went = w; goes = λ calls. took-same (rw m at (b calls ∙ tries calls)); turn = u }
+      turns {w} m u = record { went = w; goes = λ calls. took-same (rw m at (b calls .answer ∙ tries calls)); turn = u }

@@ -1,14 +1,14 @@
--- One instruction tried alone, on a heap of any size and with operands that no record may hold. From document 01, 'Causes and numbers', row 2.
+-- One instruction tried alone, on a heap of any size and with operands that no record may hold. From document 01, 'Causes and numbers', rows 2 and 11.
 use Prim.Native.Nat.{ℕ}
 use mathlib.Core.Bool.{cond}
-use mathlib.Core.List.{List}
+use mathlib.Core.List.{List, [], _∷_}
 use Rattle.records.specs.declared.code.Code.{Code}
 use Rattle.records.specs.Codes.{fieldsOf}
 use Rattle.records.specs.Instructions.{fieldsOk}
 use Rattle.instructions.specs.declared.instruction.Compared.{Compared}
 use Rattle.instructions.specs.View.{View}
 use Rattle.instructions.specs.Memory.{heapOk}
-use Rattle.instructions.specs.Step.{Call, Config, config, Outcome, step, outcomeOf}
+use Rattle.instructions.specs.Step.{Call, Config, config, Outcome, next, jump, end, fault, step, outcomeOf}
 use Rattle.machine.specs.declared.step.Tried.{Tried}
 use Rattle.machine.specs.declared.step.Tried.the-variants.{Took, Malformed}
 
@@ -23,3 +23,11 @@ trial words x c = cond (heapOk (c .state .size)) (cond (fieldsOk (fieldsOf x)) (
 abbrev pub trialOf : Tried → View → Compared → List Call → Trial
 trialOf (Took w) s q calls = took (outcomeOf w s q calls)
 trialOf (Malformed place) s q calls = refused place (config s q calls)
+
+-- document 01's number and values: 0 where the instruction is performed; a fault comes after no step, at place 1
+abbrev pub causeOf : Trial → List ℕ
+causeOf (took (next c)) = 0 ∷ []
+causeOf (took (jump label c)) = 0 ∷ []
+causeOf (took (end c)) = 0 ∷ []
+causeOf (took (fault c)) = 11 ∷ 0 ∷ 1 ∷ []
+causeOf (refused place c) = 2 ∷ place ∷ []

@@ -3,6 +3,7 @@ ghost use mathlib.Core.Path.{_≡_};
 ghost use mathlib.Core.List.{List};
 ghost use mathlib.Core.Bool.{true};
 ghost use Prim.Native.Nat.{_<_};
+ghost use Rattle.records.specs.Answers.{AnswersBy};
 ghost use Rattle.records.specs.Codes.{codeOf};
 ghost use Rattle.records.specs.Instructions.{fieldsOk};
 ghost use Rattle.instructions.specs.View.{wordsOf};
@@ -11,7 +12,7 @@ ghost use Rattle.instructions.specs.Step.{Call, config};
 ghost use Rattle.instructions.specs.Forms.{comparedOf, Sized, Goes};
 ghost use Rattle.machine.specs.State.{see};
 ghost use Rattle.machine.specs.Tables.{tabled, performed};
-ghost use Rattle.machine.specs.Trial.{trial, trialOf};
+ghost use Rattle.machine.specs.Trial.{trial, trialOf, causeOf};
 use crate::state::State;
 use instructions::instruction;
 use instructions::instruction::Compared;
@@ -175,7 +176,7 @@ pub fn step(
     compared: Compared,
     words: [u64; 9],
 ) -> Stepped
-    ensures { λ r. ⌜ ((calls : List Call) → trialOf (r .tried) (see (r .state) (now (heap .exit))) (r .compared) calls ≡ trial (wordsOf words) code (config (see state (now (heap .entry))) compared calls)) ⌝ }
+    ensures { λ r. ⌜ ((calls : List Call) → AnswersBy causeOf (trialOf (r .tried) (see (r .state) (now (heap .exit))) (r .compared) calls) (trial (wordsOf words) code (config (see state (now (heap .entry))) compared calls))) ⌝ }
 {
     if memory::heap_ok(heap.len()) {} else {
         return Stepped {

@@ -72,6 +72,7 @@ pub record RecordsReadBack : Type 0 where
   pub codes-written :
       (most n : ℕ) (s : List ℕ) → Bytes s → checkedCodes most s ≡ Good n
       → joined codeBytes (items 24 codeIn n s) ≡ s
+  -- of bindings, each that is written starts a record at its place, and is read from it
   pub bindings-start :
       (bs : List Binding) → Each WellFormedBinding bs → (rest : List ℕ) (k : ℕ) → k < length bs
       → bindingStarts (drop (8 * k) (joined bindingBytes bs ++ rest)) ≡ true

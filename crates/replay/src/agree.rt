@@ -12,11 +12,11 @@ pub enum Agreed {
 }
 
 // The Rust has no numbers for its failures: where it panics, 255 is stored, and 4, 6 and 8 agree with that.
-fn numbers_agree(rust: u8, port: u8) -> bool {
+fn numbers_agree(rust: u8, port: u64) -> bool {
     if rust == 255 {
         return port == 4 || port == 6 || port == 8;
     }
-    rust == port
+    rust as u64 == port
 }
 
 // Queries write no records.

@@ -10,52 +10,39 @@ use records::order;
 
 // What the port answers: document 01's number, 0 where it is not refused; records or another number; the counter after.
 pub struct Answered {
-    pub number: u8,
+    pub number: u64,
     pub value: u64,
     pub counter: u64,
 }
 
-fn refused(number: u8) -> Answered {
+fn of_answer(answer: Answer) -> Answered {
+    let mut value = 0;
+    let number = numbered::emission::told(answer, &mut value);
+    let counter = numbered::emission::counter_after(answer, 0);
     Answered {
         number,
-        value: 0,
-        counter: 0,
+        value,
+        counter,
     }
 }
 
-fn found(value: u64) -> Answered {
+fn of_temporary(temporary: Temporary) -> Answered {
+    let mut value = 0;
+    let number = numbered::query::located(temporary, &mut value);
     Answered {
-        number: 0,
+        number,
         value,
         counter: 0,
     }
 }
 
-fn of_answer(answer: Answer) -> Answered {
-    match answer {
-        Answer::Written(n, counter) => Answered {
-            number: 0,
-            value: n as u64,
-            counter,
-        },
-        Answer::Context => refused(1),
-        Answer::Body(_) => refused(2),
-        Answer::Operand => refused(3),
-        Answer::Missing => refused(4),
-        Answer::Arguments => refused(6),
-        Answer::Count => refused(7),
-        Answer::Position => refused(8),
-        Answer::Labels => refused(9),
-        Answer::Room(_) => refused(10),
-    }
-}
-
-fn of_temporary(temporary: Temporary) -> Answered {
-    match temporary {
-        Temporary::Operand(w) => found(w),
-        Temporary::Malformed => refused(1),
-        Temporary::Missing => refused(4),
-        Temporary::OutOfTemporaries => refused(8),
+fn of_offset(offset: Offset) -> Answered {
+    let mut value = 0;
+    let number = numbered::query::measured(offset, &mut value);
+    Answered {
+        number,
+        value,
+        counter: 0,
     }
 }
 
@@ -108,19 +95,9 @@ fn operation(r: Request) -> Operation {
     }
 }
 
-fn of_offset(offset: Offset) -> Answered {
-    match offset {
-        Offset::At(bytes) => found(bytes),
-        Offset::Operand => refused(3),
-    }
-}
-
-fn stack_offset(spill: u64) -> Answered {
-    if spill < 256 {
-        of_offset(layout::config::stack_offset(16 + spill))
-    } else {
-        refused(3)
-    }
+// A spill's word; past the last spill 0, which is none's.
+fn word_of(spill: u64) -> u64 {
+    if spill < 256 { 16 + spill } else { 0 }
 }
 
 // Queries 20 to 24; any other number is no request.
@@ -130,9 +107,13 @@ fn ask(r: Request, context: &[u8]) -> Answered {
         20 => of_temporary(layout::utils::position(r.x)),
         21 => of_temporary(layout::utils::fresh_temporary(half(r.kind), context)),
         22 => of_temporary(layout::utils::variable_temporary(half(r.kind), context, r.label)),
-        23 => stack_offset(r.x),
+        23 => of_offset(layout::config::stack_offset(word_of(r.x))),
         24 => of_offset(layout::config::field_offset(half(r.kind), r.x)),
-        _ => refused(2),
+        _ => Answered {
+            number: 2,
+            value: 0,
+            counter: 0,
+        },
     }
 }
 

@@ -1,8 +1,8 @@
 use borrow.Author.Needs.{needs}
 use Prim.Native.Nat.{_-_}
-use mathlib.Core.Path.{_≡_, refl, sym, ap, _∙_}
+use mathlib.Core.Path.{_≡_, refl, ap, _∙_}
 use lib.ListN.{length}
-use Rattle.instructions.specs.View.{view, wordsOf}
+use Rattle.instructions.specs.View.{wordsOf}
 use Rattle.instructions.specs.Memory.{heapOk}
 use Rattle.machine.specs.State.{see}
 use Rattle.machine.specs.Run.{started, codesOf}
