@@ -10,6 +10,7 @@ use denote.Enum.Declared.{tagOf}
 use types.Run.{OneOf, miss}
 use Rattle.records.specs.Contexts.{checkedContext}
 use Rattle.records.specs.ReadBack.{joined, codeBytes}
+use Rattle.records.proofs.Answers.{answers-by}
 use Rattle.records.proofs.CodesBack.{code-laws}
 use Rattle.records.proofs.Joined.{joined-length}
 use Rattle.trees.specs.Tree.{Tree, size, flat}
@@ -89,7 +90,7 @@ module _ (ch : Channel) (q : Asked) (words : ℕ → ℕ) {r : Answer} {o o′ a
   pub refused-plays : accepted r ≡ false → Plays ch q words ch r (Ended 0) o o′
   refused-plays f =
       let e : isAccepted ch q ≡ false = ap accepted (sym (s .answer)) ∙ f in
-      record { channel = rw e; answer = s .answer; ran = rw e; records = s .records }
+      record { channel = rw e; answer = answers-by (s .answer); ran = answers-by (rw e); records = s .records }
 
   module _ {n d m : ℕ} (e : r ≡ Accepted n d m) (l : length o ≡ q .recordsRoom) where
     counts : CountedAt (ch .context) q n m (variablesIn (checkedContext (ch .context)))
@@ -118,7 +119,7 @@ module _ (ch : Channel) (q : Asked) (words : ℕ → ℕ) {r : Answer} {o o′ a
         rw (records, c .records) in
         record {
           channel = rw (yes, after, w .last, runs);
-          answer = sym e ∙ s .answer;
-          ran = rw yes (w .answer ∙ ap (λ (z : Done). z .answer) runs);
+          answer = answers-by (sym e ∙ s .answer);
+          ran = answers-by (rw yes (w .answer ∙ ap (λ (z : Done). z .answer) runs));
           records = s .records;
         }

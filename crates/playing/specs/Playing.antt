@@ -5,6 +5,7 @@ use mathlib.Core.Path.{_≡_}
 use mathlib.Core.Bool.{Bool, cond}
 use mathlib.Core.List.{List, []}
 use lib.ListN.{length, replicate, take}
+use Rattle.records.specs.Answers.{AnswersBy}
 use Rattle.trees.specs.Tree.{size}
 use Rattle.layout.specs.Config.{base}
 use Rattle.instructions.specs.View.{View}
@@ -12,8 +13,9 @@ use Rattle.machine.specs.declared.run.Answer as run
 use Rattle.machine.specs.declared.run.Answer.the-variants.{Ended}
 use Rattle.machine.specs.State.{see, freshState}
 use Rattle.machine.specs.Run.{Done, ran}
+use Rattle.machine.specs.Run as machine
 use Rattle.orders.specs.declared.answer.Answer.{Answer}
-use Rattle.orders.specs.Answered.{Asked, accepted, orderTree, orderContext, answerTo, recordsOf, recordsOutput}
+use Rattle.orders.specs.Answered.{Asked, causeOf, accepted, orderTree, orderContext, answerTo, recordsOf, recordsOutput}
 use Rattle.playing.specs.declared.channel.Channel as code
 
 -- the context that was answered last, and the registers, stack and heap that the last run left
@@ -55,6 +57,6 @@ asking order bindings counter records =
 -- an order q on a channel: the channel after it, its answer, how its run ended, and the records' output o as it becomes
 pub record Plays (ch : Channel) (q : Asked) (words : ℕ → ℕ) (ch′ : Channel) (r : Answer) (a : run.Answer) (o o′ : List ℕ) : Type 0 where
   pub channel : ch′ ≡ next ch q words
-  pub answer : r ≡ answerTo base (ch .context) q
-  pub ran : a ≡ ends ch q words
+  pub answer : AnswersBy causeOf r (answerTo base (ch .context) q)
+  pub ran : AnswersBy machine.causeOf a (ends ch q words)
   pub records : o′ ≡ recordsOutput base (ch .context) q o
