@@ -52,10 +52,10 @@ enum {
     AXCUT_MOST_BODY_RECORDS = 65506,   /* in a routine's body */
     AXCUT_MOST_LISTED = 2730,          /* records that axcut_list takes */
     AXCUT_MOST_ARGUMENTS = 5,
-    AXCUT_MOST_VARIABLES = 133,        /* that orders can reach from the empty context */
-    AXCUT_ROOM_FOR_RECORDS = 102624,   /* enough for the records of every order on such a context */
-    AXCUT_ROOM_FOR_CONTEXT = 1064,     /* enough for the context after it */
-    AXCUT_ROOM_FOR_TEXT = 162706       /* enough for every listing */
+    AXCUT_MOST_VARIABLES = 133,        /* that orders can reach from the empty context (proved: orders_fit) */
+    AXCUT_ROOM_FOR_RECORDS = 102624,   /* enough for the records of every order on such a context (proved: orders_fit) */
+    AXCUT_ROOM_FOR_CONTEXT = 1064,     /* enough for the context after it (proved: orders_fit) */
+    AXCUT_ROOM_FOR_TEXT = 162706       /* enough for every listing (proved: listings_fit) */
 };
 
 /* The machine: registers, stack, heap and the words that print calls leave. */

@@ -37,7 +37,7 @@ module _ (ok : List ℕ → Bool) (size limit : ℕ) (s : List ℕ) where
   passes (suc n) k m j e l h = this-one n k m j (ltb k limit && ok (drop (size * k) s)) refl e l (λ r q. passes n (suc k) m j r q h)
 
 module _ (s : List ℕ) (n : ℕ) (accepted : checkedList s ≡ Good n) where
-  record-passes : (k : ℕ) → k < n → (k < 2730) × (codeStarts (drop (24 * k) s) ≡ true)
+  pub record-passes : (k : ℕ) → k < n → (k < 2730) × (codeStarts (drop (24 * k) s) ≡ true)
   unfolding checked
   record-passes k h = passes codeStarts 24 2730 s _ 0 n k accepted (omega arith) h
 

@@ -25,7 +25,7 @@ variable-extent ext a v =
     within ext (moved base (snd v) (snd a)) (seq (moved base (fst v) (fst a)) (moved base (snd v) (snd a))) 0 4
     (omega (arith, s .none)) (omega (arith, f .none, s .none)) (omega (arith, s .most)) (omega (arith, f .most, s .most))
 
-copies-extent : (ext : Bool) (a v n : ℕ) → (labels (copyTo base ext a v n) ≤ 0) × (size (copyTo base ext a v n) ≤ 4 * n)
+pub copies-extent : (ext : Bool) (a v n : ℕ) → (labels (copyTo base ext a v n) ≤ 0) × (size (copyTo base ext a v n) ≤ 4 * n)
 copies-extent ext a v zero = (omega arith, omega arith)
 copies-extent ext a v (suc n) =
     let x = variable-extent ext a v in

@@ -1,0 +1,116 @@
+-- How many records a store or a load has at most, by the number of its variables; and a store beside that of linked ones.
+use Prim.Native.Nat.{ℕ, zero, suc, _+_, _*_, _-_, _≤_, _<_}
+use mathlib.Core.Path.{_≡_, refl}
+use mathlib.Core.Bool.{Bool, true, false, cond}
+use native.Mathlib.Omega.{arith}
+use native.Mathlib.Decide.{ℕ-discrete, decLt}
+use lib.Dec.{ltb, eqb}
+use Rattle.records.specs.declared.code.Code.the-variants.{ADDIM, MOVS, MOVL, CMPIM}
+use Rattle.trees.specs.Tree.{Tree, nop, leaf, seq, if-zero, size}
+use Rattle.layout.specs.Config.{Config, base, STACK, TEMP, HEAP, stackOffset, fstOffset, MINUSONE}
+use Rattle.layout.specs.Positions.{location}
+use Rattle.code.specs.Code.{loadImmediate}
+use Rattle.memory.specs.Blocks.{blockRegister, storeField}
+use Rattle.memory.specs.Objects.{fst, storeFst, storeValue, storeValues, storeOther, storeOthers, storeSome, storeObject, chunks, freed, loadSome, loadObject}
+use Rattle.memory.specs.Sizes.{acquire-size, immediate-size, store-values-size, store-others-size, block-size, others-size}
+use Rattle.rooms.specs.Sizes.{storedWithin, loadedWithin}
+
+-- every variable is linked
+abbrev linked : ℕ → Bool
+linked v = false
+
+-- of a choice between two trees
+at-least : (b : Bool) (t u : Tree) (n : ℕ) → n ≤ size t → n ≤ size u → n ≤ size (cond b t u)
+at-least true t u n p q = p
+at-least false t u n p q = q
+
+at-most : (b : Bool) (t u : Tree) (n : ℕ) → size t ≤ n → size u ≤ n → size (cond b t u) ≤ n
+at-most true t u n p q = p
+at-most false t u n p q = q
+
+both-choices : (b : Bool) (t u u′ : Tree) → size u ≤ size u′ → size (cond b t u) ≤ size (cond b t u′)
+both-choices true t u u′ h = omega arith
+both-choices false t u u′ h = h
+
+module _ (g : Config) where
+  some-record : (w r offset : ℕ) → 1 ≤ size (storeField g w r offset)
+  some-record w r offset =
+      at-least (ltb w 16) (leaf (MOVS w r offset) refl) (seq (leaf (MOVL TEMP STACK (stackOffset g w)) refl) (leaf (MOVS TEMP r offset) refl)) 1 (omega arith) (omega arith)
+
+  fst-linked : (integer : Bool) (v t : ℕ) → size (storeFst g integer v t) ≤ size (storeFst g false v t)
+  fst-linked true v t = some-record (fst v) HEAP (fstOffset t)
+  fst-linked false v t = omega arith
+
+  module _ (ext : ℕ → Bool) where
+    value-linked : (v t : ℕ) → size (storeValue g ext v t) ≤ size (storeValue g linked v t)
+    value-linked v t = omega (arith, fst-linked (ext v) v t)
+
+    values-linked : (v k free : ℕ) → size (storeValues g ext v k free) ≤ size (storeValues g linked v k free)
+    values-linked v zero free = omega arith
+    values-linked v (suc k) free = omega (arith, value-linked (v + k) (free - 1), values-linked v k (free - 1))
+
+    other-linked : (v k : ℕ) → size (storeOther g ext v k) ≤ size (storeOther g linked v k)
+    other-linked v k = omega (arith, values-linked v k (g .fields - 1))
+
+    others-linked : (m v n : ℕ) → size (storeOthers g ext m v n) ≤ size (storeOthers g linked m v n)
+    others-linked zero v n = omega arith
+    others-linked (suc m) v n =
+        let rest = n - (g .fields - 1) in omega (arith, other-linked (v + rest) (n - rest), others-linked m v rest)
+
+    some-linked : (v n : ℕ) → size (storeSome g ext v n) ≤ size (storeSome g linked v n)
+    some-linked v n =
+        let rest = n - g .fields in
+        omega (arith, values-linked (v + rest) (n - rest) (g .fields), others-linked (chunks (g .fields - 1) rest) v rest)
+
+    -- no kinds of variables make a store longer than linked ones
+    pub store-linked : (v n : ℕ) → size (storeObject g ext v n) ≤ size (storeObject g linked v n)
+    store-linked v n = both-choices (eqb n 0) (loadImmediate g (fst v) 0) (storeSome g ext v n) (storeSome g linked v n) (some-linked v n)
+
+-- a store of some variables by their number, wherever they stand
+store-some : (ext : ℕ → Bool) (v n : ℕ) → size (storeSome base ext v n) ≤ storedWithin base n
+store-some ext v n =
+    let a = store-values-size ext (v + (n - 3)) (n - (n - 3)) 3 (omega arith) in
+    let q = acquire-size (fst (v + (n - 3))) in
+    let z = store-others-size ext (chunks 2 (n - 3)) v (n - 3) in
+    omega arith
+
+pub store-within : (ext : ℕ → Bool) (v n : ℕ) → size (storeObject base ext v n) ≤ storedWithin base n
+store-within ext v n =
+    at-most (eqb n 0) (loadImmediate base (fst v) 0) (storeSome base ext v n) (storedWithin base n) (omega (arith, immediate-size (fst v) 0)) (store-some ext v n)
+
+-- the three largest stores, of linked variables
+largest : (v n : ℕ) → v ≡ 0 → n ≡ 133 → size (storeObject base linked v n) ≡ 4275
+unfolding location
+largest v n e f = rw (e, f)
+
+second-largest : (v n : ℕ) → v ≡ 1 → n ≡ 132 → size (storeObject base linked v n) ≡ 4274
+unfolding location
+second-largest v n e f = rw (e, f)
+
+all-but-one : (v n : ℕ) → v ≡ 0 → n ≡ 132 → size (storeObject base linked v n) ≡ 4270
+unfolding location
+all-but-one v n e f = rw (e, f)
+
+-- the bound by their number is reached in spills alone; so many variables stand in registers too
+pub store-most : (ext : ℕ → Bool) (v n : ℕ) → v + n ≤ 133 → size (storeObject base ext v n) ≤ 4275
+store-most ext v n h = by (decLt n 132) (ℕ-discrete n 132) (ℕ-discrete v 0)
+  where
+    by : Dec (n < 132) → Dec (n ≡ 132) → Dec (v ≡ 0) → size (storeObject base ext v n) ≤ 4275
+    by (yes l) e z = omega (arith, store-within ext v n)
+    by (no l) (yes e) (yes z) = omega (arith, store-linked base ext v n, all-but-one v n z e)
+    by (no l) (yes e) (no z) = omega (arith, store-linked base ext v n, second-largest v n (omega arith) e)
+    by (no l) (no e) z = omega (arith, store-linked base ext v n, largest v n (omega arith) (omega arith))
+
+load-some : (ext : ℕ → Bool) (shared : Bool) (v n : ℕ) → size (loadSome base ext shared v n) ≤ 31 + 23 * chunks 2 (n - 3)
+load-some ext shared v n =
+    let a = block-size ext shared false (freed base ext v (n - 3)) (v + (n - 3)) (n - (n - 3)) in
+    let z = others-size ext shared (chunks 2 (n - 3)) v (n - 3) in
+    omega arith
+
+pub load-within : (ext : ℕ → Bool) (v n : ℕ) → size (loadObject base ext v n) ≤ loadedWithin base n
+load-within ext v n =
+    let r : ℕ = blockRegister (fst v) in
+    let p : Tree = leaf (MOVL TEMP STACK (stackOffset base (fst v))) refl in
+    let c : Tree = if-zero (CMPIM r 0 0) refl (loadSome base ext false v n) (seq (leaf (ADDIM r 0 MINUSONE) refl) (loadSome base ext true v n)) in
+    let y = at-most (ltb (fst v) 16) nop p 1 (omega arith) (omega arith) in
+    at-most (eqb n 0) nop (seq (cond (ltb (fst v) 16) nop p) c) (loadedWithin base n) (omega arith) (omega (arith, load-some ext false v n, load-some ext true v n))

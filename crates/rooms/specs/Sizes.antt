@@ -1,0 +1,58 @@
+-- How many records an order has at most, by the number of variables that it stores, loads or makes, and the sizes of buffers that include/axcut.h
+-- recommends. From document 01, 'Binding record' and 'Instruction record', and memory.rs.
+use Prim.Native.Nat.{ℕ, _+_, _*_, _-_, _/_}
+use Rattle.records.specs.declared.order.Order.{Order}
+use Rattle.records.specs.declared.order.Order.the-variants.{Put, Compute, Copy, Drop, Store, Load, Print}
+use Rattle.layout.specs.Config.{Config}
+use Rattle.layout.specs.Positions.{positions}
+use Rattle.memory.specs.Objects.{chunks}
+
+-- how many variables have both their positions
+abbrev pub mostVariables : Config → ℕ
+mostVariables g = positions g / 2
+
+module _ (g : Config) where
+  -- blocks before the last one of an object of n variables
+  abbrev otherBlocks : ℕ → ℕ
+  otherBlocks n = chunks (g .fields - 1) (n - g .fields)
+
+  -- a block stored: its link, two records for each word of its fields, and the block acquired, whose children are erased
+  abbrev storedLast : ℕ
+  storedLast = 16 * g .fields + 19
+
+  abbrev storedOther : ℕ
+  storedOther = 16 * g .fields + 17
+
+  abbrev pub storedWithin : ℕ → ℕ
+  storedWithin n = storedLast + storedOther * otherBlocks n
+
+  -- a block loaded: released, its link, its fields, each pointer shared, and register 4 set aside and restored
+  abbrev loadedLast : ℕ
+  loadedLast = 8 * g .fields + 7
+
+  abbrev loadedOther : ℕ
+  loadedOther = 8 * (g .fields - 1) + 7
+
+  -- an object is loaded in two ways, one of which is run
+  abbrev pub loadedWithin : ℕ → ℕ
+  loadedWithin n = 2 * (loadedLast + loadedOther * otherBlocks n) + 7
+
+  -- the records of an order
+  abbrev pub recordsWithin : Order → ℕ
+  recordsWithin (Put value) = 1
+  recordsWithin (Compute operation a b) = 9
+  recordsWithin (Copy a n) = 4 * n + 5
+  recordsWithin Drop = 12
+  recordsWithin (Store n tag) = storedWithin n + 1
+  recordsWithin (Load n) = loadedWithin n
+  recordsWithin (Print newline a) = 21
+
+-- AXCUT_ROOM_FOR_RECORDS, AXCUT_ROOM_FOR_CONTEXT and AXCUT_ROOM_FOR_TEXT, in bytes
+abbrev pub roomForRecords : ℕ
+roomForRecords = 102624
+
+abbrev pub roomForContext : ℕ
+roomForContext = 1064
+
+abbrev pub roomForText : ℕ
+roomForText = 162706

@@ -1,0 +1,23 @@
+// The sizes of buffers that include/axcut.h recommends are enough, and nothing less is.
+// Each promise is the claim of a function that does nothing: its statement is in specs/Claims.antt, and its proof cites the theorem.
+ghost use Rattle.rooms.specs.Claims.{ListingsFill, ListingsFit, OrdersFill, OrdersFit};
+
+// no order on at most 133 variables is refused for want of room
+pub fn orders_fit()
+    ensures { λ r. ⌜ OrdersFit ⌝ }
+{}
+
+// and with a byte less one is
+pub fn orders_fill()
+    ensures { λ r. ⌜ OrdersFill ⌝ }
+{}
+
+// no listing of at most 2,730 records is refused for want of room
+pub fn listings_fit()
+    ensures { λ r. ⌜ ListingsFit ⌝ }
+{}
+
+// and with a byte less one is
+pub fn listings_fill()
+    ensures { λ r. ⌜ ListingsFill ⌝ }
+{}
