@@ -28,8 +28,8 @@ pub enum Answer {
     Played(usize, u64, Ran, Vec<u8>),
     /// A channel's context, state and heap.
     Shown(Vec<u8>, Box<State>, Vec<u64>),
-    /// The Rust panicked.
-    Panic,
+    /// The Rust panicked, at what document 01 gives this number.
+    Panic(u64),
     /// The labels that the Rust drew lead above the last fresh label.
     Exceeded(u64),
     /// The driver could not read or ask the request.
@@ -68,7 +68,7 @@ impl fmt::Display for Answer {
                 writeln!(f, "context {}", hex::write(context))?;
                 write!(f, "{}", state_lines(state, heap))
             }
-            Answer::Panic => write!(f, "panic"),
+            Answer::Panic(_) => write!(f, "panic"),
             Answer::Exceeded(labels) => write!(f, "exceeded {labels}"),
             Answer::Malformed(reason) => write!(f, "malformed {reason}"),
             Answer::Damaged => write!(f, "damaged"),

@@ -79,7 +79,9 @@ fn outcome(request: &Request, rust: &Answer, port: &Answer) -> Outcome {
         (_, _, Answer::Damaged) => Outcome::Different,
         _ if rust == port => Outcome::Same,
         (_, Answer::Malformed(_), _) => Outcome::PortAlone,
-        (_, Answer::Panic, Answer::Refused(4 | 6 | 8, None)) => Outcome::Matched,
+        (_, Answer::Panic(cause), Answer::Refused(number, None)) if cause == number => {
+            Outcome::Matched
+        }
         (_, Answer::Exceeded(_), Answer::Refused(9, None)) => Outcome::Matched,
         (Request::Emission(emission), Answer::Records(..), Answer::Refused(10, bytes))
             if bytes.is_some() && *bytes == lacking(emission) =>
@@ -132,10 +134,20 @@ mod tests {
 
     #[test]
     fn failures_of_the_rust_match_their_refusals_alone() {
-        let panic =
-            |number| outcome_of("position 267", Answer::Panic, Answer::Refused(number, None));
-        assert_eq!(panic(8), Outcome::Matched);
-        assert_eq!(panic(3), Outcome::Different);
+        let panic = |line, number| {
+            let rust = rust_side::answer(&parse::request(line).unwrap());
+            outcome_of(line, rust, Answer::Refused(number, None))
+        };
+        for (line, cause) in [
+            ("variable_temporary fst 7 -", 4),
+            ("routine 6", 6),
+            ("position 267", 8),
+        ] {
+            for number in [3, 4, 6, 8] {
+                let same = panic(line, number) == Outcome::Matched;
+                assert_eq!(same, number == cause, "{line} refused with {number}");
+            }
+        }
         let exceeded = |number| {
             let refused = Answer::Refused(number, None);
             outcome_of("@2147483647 erase_block r4", Answer::Exceeded(3), refused)

@@ -18,8 +18,7 @@ const LAST_SPILL: u64 = 255;
 /// The highest count that document 01 lets be shared.
 const MOST_SHARED: u64 = (1 << 31) - 1;
 
-/// What stands for a panic of the Rust, and for labels that lead above the last.
-const PANIC: u8 = 255;
+/// What stands for labels that lead above the last.
 const LABELS: u8 = 9;
 
 /// The prime of the checksum.
@@ -329,7 +328,7 @@ fn answered(answer: &Answer, takes_counter: bool) -> Option<Answered> {
         Answer::Register(register) => value(*register),
         Answer::Spill(spill, _) => value(16 + spill),
         Answer::Value(number) => value(u64::try_from(*number).ok()?),
-        Answer::Panic => Some(number(PANIC)),
+        Answer::Panic(cause) => Some(number(*cause as u8)),
         Answer::Exceeded(_) => Some(number(LABELS)),
         _ => None,
     }

@@ -16,6 +16,7 @@ use axcut2x86_64::Backend;
 use axcut2x86_64::code::{Code, compare_immediate};
 use axcut2x86_64::config::{Immediate, Register, Spill, Temporary, field_offset, stack_offset};
 use axcut2x86_64::into_routine::into_x86_64_routine;
+use std::any::Any;
 use std::panic::{AssertUnwindSafe, catch_unwind};
 use std::sync::atomic::{AtomicBool, Ordering};
 
@@ -30,7 +31,7 @@ const MOST_LOADED: u64 = 1 << 13;
 /// Why a request has no answer.
 enum Failure {
     Malformed(String),
-    Panic,
+    Panic(u64),
     Exceeded(u64),
 }
 
@@ -59,7 +60,7 @@ pub fn answer(request: &Request) -> Answer {
     };
     answer.unwrap_or_else(|failure| match failure {
         Failure::Malformed(reason) => Answer::Malformed(reason),
-        Failure::Panic => Answer::Panic,
+        Failure::Panic(number) => Answer::Panic(number),
         Failure::Exceeded(labels) => Answer::Exceeded(labels),
     })
 }
@@ -68,12 +69,30 @@ fn malformed<T>(reason: impl Into<String>) -> Result<T> {
     Err(Failure::Malformed(reason.into()))
 }
 
+/// How the messages of the Rust's panics begin, and document 01's number for what each is about.
+const PANICS: [(&str, u64); 4] = [
+    ("Variable ", 4),
+    ("too many arguments for main", 6),
+    ("function calls can use 6 argument registers at most", 6),
+    ("Out of temporaries", 8),
+];
+
+/// The number for a panic of the Rust. Any other panic is the driver's own.
+fn number_of(panic: &(dyn Any + Send)) -> u64 {
+    let message = match panic.downcast_ref::<String>() {
+        Some(message) => message,
+        None => panic.downcast_ref::<&str>().copied().unwrap_or_default(),
+    };
+    let known = PANICS.iter().find(|(begin, _)| message.starts_with(begin));
+    known.expect(message).1
+}
+
 /// Runs a piece of the Rust, with a panic as a failure.
 fn caught<T>(run: impl FnOnce() -> Result<T>) -> Result<T> {
     RUNNING.store(true, Ordering::Relaxed);
     let result = catch_unwind(AssertUnwindSafe(run));
     RUNNING.store(false, Ordering::Relaxed);
-    result.unwrap_or(Err(Failure::Panic))
+    result.unwrap_or_else(|panic| Err(Failure::Panic(number_of(&*panic))))
 }
 
 /// Performs the operations in sequence on one list. The first that fails gives the answer.

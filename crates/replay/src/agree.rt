@@ -1,4 +1,6 @@
 // The port's answer to a request against the Rust's.
+ghost use mathlib.Core.Path.{_≡_};
+ghost use lib.Dec.{eqb};
 use crate::checksum;
 use crate::perform;
 use crate::perform::Answered;
@@ -11,11 +13,10 @@ pub enum Agreed {
     Ended,
 }
 
-// The Rust has no numbers for its failures: where it panics, 255 is stored, and 4, 6 and 8 agree with that.
-fn numbers_agree(rust: u8, port: u64) -> bool {
-    if rust == 255 {
-        return port == 4 || port == 6 || port == 8;
-    }
+// The Rust has no numbers for its failures: where it panics, the number is stored that its message stands for, 4, 6 or 8.
+fn numbers_agree(rust: u8, port: u64) -> bool
+    ensures { λ r. ⌜ r ≡ eqb rust port ⌝ }
+{
     rust as u64 == port
 }
 

@@ -137,9 +137,9 @@ fn written(
     };
     match answer {
         Answer::Records(records, counter) => Ok((records, counter)),
-        Answer::Panic => refused(8, None),
+        Answer::Panic(number) => refused(number, None),
         Answer::Exceeded(_) => match emit(0) {
-            Answer::Panic => refused(8, None),
+            Answer::Panic(number) => refused(number, None),
             _ => refused(9, None),
         },
         answer => panic!("the Rust answered {answer}"),
