@@ -1,8 +1,10 @@
 -- Lemmas of the proofs.
-pub mod ObjectSizes  -- how many records a store or a load has at most
+pub mod StoreSizes  -- how many records a store has at most
+pub mod LoadSizes  -- how many records a load has at most
 pub mod OrderSizes  -- how many records an order has at most, and how many variables it leaves
 pub mod Answering  -- an order that is not refused before 9, and its room
 pub mod Filling  -- orders that need the whole room
 pub mod Digits  -- how many digits a number has
 pub mod Lines  -- how long a record's line is, and a listing
 pub mod LongestListing  -- a list of records whose listing needs the whole room
+pub mod Routines  -- how many bytes a routine has at most

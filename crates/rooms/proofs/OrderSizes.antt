@@ -21,7 +21,8 @@ use Rattle.judging.specs.After.{countAfter}
 use Rattle.judging.proofs.Asking.{put-fits, compute-fits, copy-there, copy-asks, copies-fit, copies-few, store-there, store-fits, load-few}
 use Rattle.ordering.proofs.Extent.{copies-extent, share-extent}
 use Rattle.rooms.specs.Sizes.{mostVariables, recordsWithin, roomForRecords}
-use Rattle.rooms.proofs.ObjectSizes.{store-within, store-most, load-within}
+use Rattle.rooms.proofs.StoreSizes.{store-within, store-most}
+use Rattle.rooms.proofs.LoadSizes.{load-within}
 
 pub order-within : (c : List ℕ) (k : ℕ) (b : List ℕ) (o : Order) → size (treeOf base c k b o) ≤ recordsWithin base o
 unfolding treeOf

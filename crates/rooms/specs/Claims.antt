@@ -1,5 +1,6 @@
--- No order on as many variables as have positions, and no listing, is refused for want of room where the buffers have the sizes that include/axcut.h
--- recommends; and with a byte less one is. In the answers that the contracts of `answering::order::order` and `listing::list_records` cite.
+-- No order on as many variables as have positions, no listing and no routine is refused for want of room where the buffers have the sizes that
+-- include/axcut.h recommends; and with a byte less an order and a listing are. In the answers that the contracts of `order`, `list_records` and
+-- `into_x86_64_routine` cite.
 use Prim.Native.Nat.{ℕ, _^_, _≤_, _<_}
 use mathlib.Core.Path.{_≡_}
 use mathlib.Core.Logic.{_≢_}
@@ -17,13 +18,15 @@ use Rattle.records.specs.Orders.{orderFieldsOf, orderBytes}
 use Rattle.records.specs.ReadBack.{Bytes, joined, codeBytes}
 use Rattle.trees.specs.Tree.{size}
 use Rattle.layout.specs.Config.{base}
+use Rattle.emit.specs.declared.answer.Answer.the-variants as emission
+use Rattle.routine.specs.Routine.{routineAnswer}
 use Rattle.orders.specs.declared.answer.Answer.the-variants.{Room}
 use Rattle.orders.specs.Writes.{treeOf}
 use Rattle.orders.specs.Answered.{Asked, accepted, answerTo, placesIn, orderContext}
 use Rattle.listing.specs.declared.Listed.the-variants.{Short}
 use Rattle.listing.specs.Names.{codeNames}
 use Rattle.listing.specs.Listing.{listedText, listed}
-use Rattle.rooms.specs.Sizes.{mostVariables, recordsWithin, roomForRecords, roomForContext, roomForText}
+use Rattle.rooms.specs.Sizes.{mostVariables, recordsWithin, roomForRecords, roomForContext, roomForText, roomForRoutine}
 
 pub record OrdersFit : Type 0 where
   -- an order's records are no more than the bound for its variables
@@ -70,3 +73,7 @@ longestRecords n = joined codeBytes (replicate n longestRecord)
 -- the most that are listed need the whole room
 abbrev pub ListingsFill : Type 0
 ListingsFill = (room : ℕ) → room < roomForText → listed codeNames (longestRecords 2730) room ≡ Short roomForText
+
+-- no routine needs more than the most records that a list has
+abbrev pub RoutinesFit : Type 0
+RoutinesFit = (room arguments : ℕ) → roomForRoutine ≤ room → (bytes : ℕ) (body : List ℕ) → routineAnswer base room arguments body ≢ emission.Room bytes

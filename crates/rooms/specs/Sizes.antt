@@ -26,16 +26,22 @@ module _ (g : Config) where
   abbrev pub storedWithin : ℕ → ℕ
   storedWithin n = storedLast + storedOther * otherBlocks n
 
-  -- a block loaded: released, its link, its fields, each pointer shared, and register 4 set aside and restored
-  abbrev loadedLast : ℕ
-  loadedLast = 8 * g .fields + 7
+  -- a block loaded and released, and one whose pointers are shared: its link, its fields, and register 4 borrowed for it
+  abbrev releasedLast : ℕ
+  releasedLast = 4 * g .fields + 5
 
-  abbrev loadedOther : ℕ
-  loadedOther = 8 * (g .fields - 1) + 7
+  abbrev releasedOther : ℕ
+  releasedOther = 4 * (g .fields - 1) + 5
 
-  -- an object is loaded in two ways, one of which is run
+  abbrev sharedLast : ℕ
+  sharedLast = 8 * g .fields + 3
+
+  abbrev sharedOther : ℕ
+  sharedOther = 8 * (g .fields - 1) + 3
+
+  -- an object is loaded in two ways, of which one is run, and 7 records choose
   abbrev pub loadedWithin : ℕ → ℕ
-  loadedWithin n = 2 * (loadedLast + loadedOther * otherBlocks n) + 7
+  loadedWithin n = releasedLast + sharedLast + (releasedOther + sharedOther) * otherBlocks n + 7
 
   -- the records of an order
   abbrev pub recordsWithin : Order → ℕ
@@ -56,3 +62,7 @@ roomForContext = 1064
 
 abbrev pub roomForText : ℕ
 roomForText = 162706
+
+-- AXCUT_MOST_RECORDS records
+abbrev pub roomForRoutine : ℕ
+roomForRoutine = 24 * 65536

@@ -1,6 +1,6 @@
 // The sizes of buffers that include/axcut.h recommends are enough, and nothing less is.
 // Each promise is the claim of a function that does nothing: its statement is in specs/Claims.antt, and its proof cites the theorem.
-ghost use Rattle.rooms.specs.Claims.{ListingsFill, ListingsFit, OrdersFill, OrdersFit};
+ghost use Rattle.rooms.specs.Claims.{ListingsFill, ListingsFit, OrdersFill, OrdersFit, RoutinesFit};
 
 // no order on at most 133 variables is refused for want of room
 pub fn orders_fit()
@@ -20,4 +20,9 @@ pub fn listings_fit()
 // and with a byte less one is
 pub fn listings_fill()
     ensures { λ r. ⌜ ListingsFill ⌝ }
+{}
+
+// no routine is refused for want of room on 65,536 records
+pub fn routines_fit()
+    ensures { λ r. ⌜ RoutinesFit ⌝ }
 {}

@@ -33,7 +33,7 @@ head-bytes n = joined-length code-laws (head base n) ∙ ap (λ (k : ℕ). 24 * 
 cleanup-bytes : length (joined codeBytes (cleanup base)) ≡ 24 * 9
 cleanup-bytes = joined-length code-laws (cleanup base)
 
-bytes-length : (n : ℕ) (body : List ℕ) → length (routineBytes base n body) ≡ 24 * (25 + n) + length body
+pub bytes-length : (n : ℕ) (body : List ℕ) → length (routineBytes base n body) ≡ 24 * (25 + n) + length body
 unfolding routineBytes
 bytes-length n body =
     omega (arith, length-append (joined codeBytes (head base n)) (body ++ joined codeBytes (cleanup base)), length-append body (joined codeBytes (cleanup base)), head-bytes n, cleanup-bytes)

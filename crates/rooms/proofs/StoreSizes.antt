@@ -1,19 +1,19 @@
--- How many records a store or a load has at most, by the number of its variables; and a store beside that of linked ones.
-use Prim.Native.Nat.{ℕ, zero, suc, _+_, _*_, _-_, _≤_, _<_}
+-- How many records a store has at most: by the number of its variables, and beside the store of linked ones.
+use Prim.Native.Nat.{ℕ, zero, suc, _+_, _-_, _≤_, _<_}
 use mathlib.Core.Path.{_≡_, refl}
 use mathlib.Core.Bool.{Bool, true, false, cond}
 use native.Mathlib.Omega.{arith}
 use native.Mathlib.Decide.{ℕ-discrete, decLt}
 use lib.Dec.{ltb, eqb}
-use Rattle.records.specs.declared.code.Code.the-variants.{ADDIM, MOVS, MOVL, CMPIM}
-use Rattle.trees.specs.Tree.{Tree, nop, leaf, seq, if-zero, size}
-use Rattle.layout.specs.Config.{Config, base, STACK, TEMP, HEAP, stackOffset, fstOffset, MINUSONE}
+use Rattle.records.specs.declared.code.Code.the-variants.{MOVS, MOVL}
+use Rattle.trees.specs.Tree.{Tree, leaf, seq, size}
+use Rattle.layout.specs.Config.{Config, base, STACK, TEMP, HEAP, stackOffset, fstOffset}
 use Rattle.layout.specs.Positions.{location}
 use Rattle.code.specs.Code.{loadImmediate}
-use Rattle.memory.specs.Blocks.{blockRegister, storeField}
-use Rattle.memory.specs.Objects.{fst, storeFst, storeValue, storeValues, storeOther, storeOthers, storeSome, storeObject, chunks, freed, loadSome, loadObject}
-use Rattle.memory.specs.Sizes.{acquire-size, immediate-size, store-values-size, store-others-size, block-size, others-size}
-use Rattle.rooms.specs.Sizes.{storedWithin, loadedWithin}
+use Rattle.memory.specs.Blocks.{storeField}
+use Rattle.memory.specs.Objects.{fst, storeFst, storeValue, storeValues, storeOther, storeOthers, storeSome, storeObject, chunks}
+use Rattle.memory.specs.Sizes.{acquire-size, immediate-size, store-values-size, store-others-size}
+use Rattle.rooms.specs.Sizes.{storedWithin}
 
 -- every variable is linked
 abbrev linked : ℕ → Bool
@@ -24,7 +24,7 @@ at-least : (b : Bool) (t u : Tree) (n : ℕ) → n ≤ size t → n ≤ size u �
 at-least true t u n p q = p
 at-least false t u n p q = q
 
-at-most : (b : Bool) (t u : Tree) (n : ℕ) → size t ≤ n → size u ≤ n → size (cond b t u) ≤ n
+pub at-most : (b : Bool) (t u : Tree) (n : ℕ) → size t ≤ n → size u ≤ n → size (cond b t u) ≤ n
 at-most true t u n p q = p
 at-most false t u n p q = q
 
@@ -100,17 +100,3 @@ store-most ext v n h = by (decLt n 132) (ℕ-discrete n 132) (ℕ-discrete v 0)
     by (no l) (yes e) (yes z) = omega (arith, store-linked base ext v n, all-but-one v n z e)
     by (no l) (yes e) (no z) = omega (arith, store-linked base ext v n, second-largest v n (omega arith) e)
     by (no l) (no e) z = omega (arith, store-linked base ext v n, largest v n (omega arith) (omega arith))
-
-load-some : (ext : ℕ → Bool) (shared : Bool) (v n : ℕ) → size (loadSome base ext shared v n) ≤ 31 + 23 * chunks 2 (n - 3)
-load-some ext shared v n =
-    let a = block-size ext shared false (freed base ext v (n - 3)) (v + (n - 3)) (n - (n - 3)) in
-    let z = others-size ext shared (chunks 2 (n - 3)) v (n - 3) in
-    omega arith
-
-pub load-within : (ext : ℕ → Bool) (v n : ℕ) → size (loadObject base ext v n) ≤ loadedWithin base n
-load-within ext v n =
-    let r : ℕ = blockRegister (fst v) in
-    let p : Tree = leaf (MOVL TEMP STACK (stackOffset base (fst v))) refl in
-    let c : Tree = if-zero (CMPIM r 0 0) refl (loadSome base ext false v n) (seq (leaf (ADDIM r 0 MINUSONE) refl) (loadSome base ext true v n)) in
-    let y = at-most (ltb (fst v) 16) nop p 1 (omega arith) (omega arith) in
-    at-most (eqb n 0) nop (seq (cond (ltb (fst v) 16) nop p) c) (loadedWithin base n) (omega arith) (omega (arith, load-some ext false v n, load-some ext true v n))
