@@ -100,7 +100,8 @@ module _ (q : Asked) (t : Tree) (after : List ℕ) where
   pub records-short : {n : ℕ} → q .counter + labels t ≤ 2147483647 → 24 * size t ≡ n → q .recordsRoom < n → granted q t after ≡ Room n
   records-short {n} l e h = rw (le-ltb 2147483647 (q .counter + labels t) l, e, lt-ltb (q .recordsRoom) n h)
 
-  pub context-short : {n : ℕ} → q .counter + labels t ≤ 2147483647 → 24 * size t ≤ q .recordsRoom → length after ≡ n → q .contextRoom < n → granted q t after ≡ Room n
+  pub context-short : {n : ℕ} → q .counter + labels t ≤ 2147483647 → 24 * size t ≤ q .recordsRoom → length after ≡ n → q .contextRoom < n
+      → granted q t after ≡ Room n
   context-short {n} l r e h = rw (le-ltb 2147483647 (q .counter + labels t) l, le-ltb (q .recordsRoom) (24 * size t) r, e, lt-ltb (q .contextRoom) n h)
 
 accepted-late : (r : Answer) → accepted r ≡ true → early r ≡ false
@@ -135,9 +136,11 @@ module _ (context : List ℕ) (q : Asked) (few : placesIn context ≤ mostVariab
   room-enough r l bytes e =
       let p = passed context q (ap early e) in
       let k = p .0 in
+      let t = treeOf base context k (q .bindings) (orderIs q) in
+      let after = contextAfter context k (q .bindings) (orderIs q) in
       let o = order-most context k (q .bindings) (orderIs q) (p .2 .there) (p .2 .placed) in
       let c = context-few k (p .1) (p .2) in
-      no-room-wanted q (treeOf base context k (q .bindings) (orderIs q)) (contextAfter context k (q .bindings) (orderIs q)) (omega arith) (omega arith) bytes (sym (p .2 .answer) ∙ e)
+      no-room-wanted q t after (omega arith) (omega arith) bytes (sym (p .2 .answer) ∙ e)
 
   pub variables-stay : accepted (answerTo base context q) ≡ true → placesIn (orderContext context q) ≤ mostVariables base
   variables-stay e =

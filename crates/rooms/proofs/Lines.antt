@@ -50,14 +50,16 @@ usedBytes u = u .a + u .b + 9 * u .label + 19 * u .offset + 19 * u .value
 spaced-long : (bs : List ℕ) → length (spaced bs) ≡ 1 + length bs
 spaced-long bs = omega arith
 
+five-spaced : (s t u v w : List ℕ)
+    → length (spaced s ++ spaced t ++ spaced u ++ spaced v ++ spaced w) ≡ 5 + length s + length t + length u + length v + length w
+five-spaced s t u v w =
+    simp length-append (omega (arith, spaced-long s, spaced-long t, spaced-long u, spaced-long v, spaced-long w))
+
 pub newline-long : length (ascii "\n") ≡ 1
 newline-long = refl
 
 pub of-four : (s t u v : List ℕ) → length (s ++ t ++ u ++ v) ≡ length s + length t + length u + length v
 of-four s t u v = simp length-append
-
-of-five : (s t u v w : List ℕ) → length (s ++ t ++ u ++ v ++ w) ≡ length s + length t + length u + length v + length w
-of-five s t u v w = simp length-append
 
 operands-long : (u f : Fields) → f .label < 256 ^ 4 → operandsOk u f ≡ true → length (operands f) ≤ 10 + usedBytes u
 unfolding operandsOk operands
@@ -71,7 +73,7 @@ operands-long u f l e =
     let c = label-long (u .label) (f .label) (eqb (u .label) 1) refl l (p₂ .1) in
     let o = word-long (u .offset) (f .offset) (eqb (u .offset) 1) refl (p₃ .1) in
     let v = word-long (u .value) (f .value) (eqb (u .value) 1) refl (p₄ .1) in
-    omega (arith, of-five (spaced (decimal (f .a))) (spaced (decimal (f .b))) (spaced (decimal (f .label))) (spaced (signed (f .offset))) (spaced (signed (f .value))), spaced-long (decimal (f .a)), spaced-long (decimal (f .b)), spaced-long (decimal (f .label)), spaced-long (signed (f .offset)), spaced-long (signed (f .value)))
+    omega (arith, five-spaced (decimal (f .a)) (decimal (f .b)) (decimal (f .label)) (signed (f .offset)) (signed (f .value)))
 
 -- the name and the fields that are used, of each code: one computed test
 short : ℕ → ℕ → Bool
@@ -81,7 +83,9 @@ name-and-used : (code : ℕ) → 1 ≤ code → code ≤ 44 → length (nameOf c
 unfolding short codeNames used codeOf readers
 name-and-used code l h =
     let e : code - 1 + 1 ≡ code = omega arith in
-    leb→le (length (nameOf codeNames code) + usedBytes (used code)) 44 (subst (λ (c : ℕ). T (leb (length (nameOf codeNames c) + usedBytes (used c)) 44)) e (at short (map length codeNames) tt (code - 1) (omega arith)))
+    let t : T (leb (length (nameOf codeNames (code - 1 + 1)) + usedBytes (used (code - 1 + 1))) 44) = at short (map length codeNames) tt (code - 1) (omega arith) in
+    leb→le (length (nameOf codeNames code) + usedBytes (used code)) 44
+    (subst (λ (c : ℕ). T (leb (length (nameOf codeNames c) + usedBytes (used c)) 44)) e t)
 
 line-long : (place : ℕ) (f : Fields) → f .label < 256 ^ 4 → fieldsOk f ≡ true → length (line codeNames place f) ≤ length (decimal place) + 56
 unfolding line fieldsOk

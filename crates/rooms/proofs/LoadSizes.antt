@@ -59,7 +59,9 @@ module _ (ext : ℕ → Bool) where
         let k : ℕ = n - (n - 2) in
         let aside : Bool = freed base ext v (n - 2) in
         let z = others-most m v (n - 2) (omega arith) in
-        let b = block-then (ltb (fst w) 16) (loadBody base ext shared true w k (fst w)) (loadSpilled base ext shared true aside w k) (size (setAside base aside) + otherMost shared)
+        let b =
+        block-then (ltb (fst w) 16) (loadBody base ext shared true w k (fst w)) (loadSpilled base ext shared true aside w k)
+        (size (setAside base aside) + otherMost shared)
         (omega (arith, other-body shared w k (fst w) (omega arith))) (omega (arith, other-body shared w k RETURN1 (omega arith))) in
         rw (lt-ltb 0 n (omega arith), mul-suc) (omega arith)
 
@@ -69,7 +71,9 @@ module _ (ext : ℕ → Bool) where
         let k : ℕ = n - (n - 3) in
         let aside : Bool = freed base ext v (n - 3) in
         let z = others-most (chunks 2 (n - 3)) v (n - 3) (omega arith) in
-        let b = at-most (ltb (fst w) 16) (loadBody base ext shared false w k (fst w)) (loadSpilled base ext shared false aside w k) (size (setAside base aside) + lastMost shared + 2)
+        let b =
+        at-most (ltb (fst w) 16) (loadBody base ext shared false w k (fst w)) (loadSpilled base ext shared false aside w k)
+        (size (setAside base aside) + lastMost shared + 2)
         (omega (arith, last-body shared w k (fst w) (omega arith))) (omega (arith, last-body shared w k RETURN1 (omega arith), restore-size false .1)) in
         omega arith
 

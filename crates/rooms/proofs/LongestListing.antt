@@ -59,7 +59,8 @@ operands-long = refl
 line-long : (place : ℕ) → length (line codeNames place (fieldsOf longestRecord)) ≡ length (decimal place) + 56
 unfolding line
 line-long place =
-    omega (arith, of-four (decimal place) (spaced (nameOf codeNames (fieldsOf longestRecord .code))) (operands (fieldsOf longestRecord)) (ascii "\n"), name-long, operands-long, newline-long)
+    let f = fieldsOf longestRecord in
+    omega (arith, of-four (decimal place) (spaced (nameOf codeNames (f .code))) (operands f) (ascii "\n"), name-long, operands-long, newline-long)
 
 module _ (n : ℕ) (h : n ≤ 2730) where
   lines-long : (k : ℕ) → k ≤ n → length (lines codeNames (longestRecords n) k) ≡ 56 * k + placeDigits k

@@ -36,7 +36,8 @@ module _ (room n : ℕ) (h : roomForRoutine ≤ room) (bytes : ℕ) where
       let z : _≡_ {A = ℕ} 0 1 = cc in
       omega arith
 
-  arguments : (body : List ℕ) → length body ≤ 24 * 65506 → (b : Bool) → ltb 5 n ≡ b → cond b Arguments (granted 0 room (length (routineBytes base n body)) 0) ≢ Room bytes
+  arguments : (body : List ℕ) → length body ≤ 24 * 65506 → (b : Bool) → ltb 5 n ≡ b
+      → cond b Arguments (granted 0 room (length (routineBytes base n body)) 0) ≢ Room bytes
   arguments body l true e r = let z : _≡_ {A = ℕ} 0 1 = cc in omega arith
   arguments body l false e r = written body l (ltb-false 5 n e) r
 

@@ -12,7 +12,7 @@ use Rattle.records.specs.declared.binding.Kind.the-variants.{Linked, Ext}
 use Rattle.records.specs.declared.code.Code.{Code}
 use Rattle.records.specs.declared.code.Code.the-variants.{MOVIM}
 use Rattle.records.specs.declared.order.Order.{Order}
-use Rattle.records.specs.declared.order.Order.the-variants.{Put, Store}
+use Rattle.records.specs.declared.order.Order.the-variants.{Put, Store, Load}
 use Rattle.records.specs.Contexts.{bindingBytes}
 use Rattle.records.specs.Orders.{orderFieldsOf, orderBytes}
 use Rattle.records.specs.ReadBack.{Bytes, joined, codeBytes}
@@ -50,6 +50,9 @@ ordering order records after =
     record { order = orderBytes (orderFieldsOf order); bindings = []; counter = 0; recordsRoom = records; contextRoom = after }
 
 pub record OrdersFill : Type 0 where
+  -- five linked variables in spills reach the bounds for a store and a load of five
+  pub store-reaches : size (treeOf base (variables Linked 11) 11 [] (Store 5 0)) ≡ recordsWithin base (Store 5 0)
+  pub load-reaches : size (treeOf base (variables Linked 7) 7 (variables Linked 5) (Load 5)) ≡ recordsWithin base (Load 5)
   -- a store of all variables, all linked, needs the whole room for records
   pub records-needed :
       (room : ℕ) → room < roomForRecords → answerTo base (variables Linked 133) (ordering (Store 133 0) room roomForContext) ≡ Room roomForRecords

@@ -7,10 +7,11 @@ use crate::refusal::{Cause, Refusal};
 use crate::RECORD_SIZE;
 use std::ops::RangeInclusive;
 
-/// Bytes that are enough for the records of every order on a context that orders reach (proved: `orders_fit`).
+/// Bytes that are enough for the records of every order on a context that orders reach: proved,
+/// `orders_fit`.
 const RECORDS_ROOM: usize = 102_624;
 
-/// Bytes that are enough for the context after it (proved: `orders_fit`).
+/// Bytes that are enough for the context after it: `orders_fit` too.
 const CONTEXT_ROOM: usize = 1_064;
 
 /// Blocks beyond those reachable at once: the next free one, and the frontier.
