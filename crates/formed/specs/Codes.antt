@@ -5,11 +5,23 @@ use mathlib.Core.Bool.{true, false}
 use native.Mathlib.Omega.{arith}
 use borrow.Author.Tests.{lt-ltb, ne-eqb}
 use Rattle.records.specs.declared.code.Code.{Code}
-use Rattle.records.specs.declared.code.Code.the-variants.{ADD, ADDRM, ADDMR, ADDI, ADDIM, SUB, SUBRM, SUBMR, SUBI, IMUL, IMULRM, IMULMR, IDIV, IDIVM, CQO, JMPL, MOV, MOVS, MOVL, MOVI, MOVIM, CMPI, CMPIM, JEL, PUSH, POP, CALL, LAB}
+use Rattle.records.specs.declared.code.Code.the-variants.{ADD, ADDRM, ADDMR, ADDI, ADDIM, SUB, SUBRM, SUBMR, SUBI, IMUL, IMULRM, IMULMR, IDIV, IDIVM, CQO, JMP, JMPL, JMPLN, LEAL, MOV, MOVS, MOVL, MOVI, MOVIM, CMP, CMPRM, CMPMR, CMPI, CMPIM, JEL, JNEL, JLL, JLEL, JGL, JGEL, PUSH, POP, CALL, LAB}
 use Rattle.records.specs.Codes.{fieldsOf}
-use Rattle.records.specs.Instructions.{labelOk}
+use Rattle.records.specs.Instructions.{labelHeld, labelOk}
 use Rattle.records.specs.ReadBack.{WellFormedCode}
 use Rattle.records.proofs.CodesBack.{labelled, ok-fields}
+use Rattle.code.specs.declared.emitters.Condition.{Condition}
+use Rattle.code.specs.declared.emitters.Condition.the-variants.{Equal, NotEqual, Less, LessOrEqual, Greater, GreaterOrEqual}
+use Rattle.code.specs.Code.{jumpIf}
+
+-- a label that a record may hold
+pub record Held (l : ℕ) : Type 0 where
+  pub fits : l < 2 ^ 32
+  pub ok : labelHeld l ≡ true
+
+-- those that are drawn, and the names of print's functions: from 1 to 2^31 + 3
+pub drawn : {l : ℕ} → 0 < l → l < 2147483652 → Held l
+drawn {l} z h = record { fits = omega arith; ok = rw (ne-eqb l 0 (omega arith), lt-ltb l 2147483652 h) }
 
 module _ (c : Code) (a : fieldsOf c .a < 16) (b : fieldsOf c .b < 16) (o : fieldsOf c .offset < 2 ^ 64) (v : fieldsOf c .value < 2 ^ 64) where
   general : fieldsOf c .label < 2 ^ 32 → labelOk (labelled c) (fieldsOf c .label) ≡ true → WellFormedCode c
@@ -20,25 +32,39 @@ module _ (c : Code) (a : fieldsOf c .a < 16) (b : fieldsOf c .b < 16) (o : field
   plain : labelled c ≡ false → fieldsOf c .label ≡ 0 → WellFormedCode c
   plain n z = general (omega (arith, z)) (rw (n, z))
 
-  -- one that uses a label from 1 to 2^31 + 3: those that are drawn, and the names of print's functions
-  held : labelled c ≡ true → 0 < fieldsOf c .label → fieldsOf c .label < 2147483652 → WellFormedCode c
-  held n z h = general (omega arith) (rw (n, ne-eqb (fieldsOf c .label) 0 (omega arith), lt-ltb (fieldsOf c .label) 2147483652 h))
+  -- one that uses a label
+  named : labelled c ≡ true → Held (fieldsOf c .label) → WellFormedCode c
+  named n h = general (h .fits) (rw n (h .ok))
 
-module _ {l : ℕ} (z : 0 < l) (h : l < 2147483652) where
-  pub jel : WellFormedCode (JEL l)
-  jel = held (JEL l) (omega arith) (omega arith) (omega arith) (omega arith) refl z h
+module _ {l : ℕ} (h : Held l) where
+  pub lab : WellFormedCode (LAB l)
+  lab = named (LAB l) (omega arith) (omega arith) (omega arith) (omega arith) refl h
 
   pub jmpl : WellFormedCode (JMPL l)
-  jmpl = held (JMPL l) (omega arith) (omega arith) (omega arith) (omega arith) refl z h
+  jmpl = named (JMPL l) (omega arith) (omega arith) (omega arith) (omega arith) refl h
 
-  pub lab : WellFormedCode (LAB l)
-  lab = held (LAB l) (omega arith) (omega arith) (omega arith) (omega arith) refl z h
+  pub jmpln : WellFormedCode (JMPLN l)
+  jmpln = named (JMPLN l) (omega arith) (omega arith) (omega arith) (omega arith) refl h
 
   pub call : WellFormedCode (CALL l)
-  call = held (CALL l) (omega arith) (omega arith) (omega arith) (omega arith) refl z h
+  call = named (CALL l) (omega arith) (omega arith) (omega arith) (omega arith) refl h
+
+  pub leal : {a : ℕ} → a < 16 → WellFormedCode (LEAL a l)
+  leal {a} r = named (LEAL a l) r (omega arith) (omega arith) (omega arith) refl h
+
+  pub jump-if : (k : Condition) → WellFormedCode (jumpIf k l)
+  jump-if Equal = named (JEL l) (omega arith) (omega arith) (omega arith) (omega arith) refl h
+  jump-if NotEqual = named (JNEL l) (omega arith) (omega arith) (omega arith) (omega arith) refl h
+  jump-if Less = named (JLL l) (omega arith) (omega arith) (omega arith) (omega arith) refl h
+  jump-if LessOrEqual = named (JLEL l) (omega arith) (omega arith) (omega arith) (omega arith) refl h
+  jump-if Greater = named (JGL l) (omega arith) (omega arith) (omega arith) (omega arith) refl h
+  jump-if GreaterOrEqual = named (JGEL l) (omega arith) (omega arith) (omega arith) (omega arith) refl h
 
 -- register a, and with it an offset or a value
 module _ {a : ℕ} (h : a < 16) where
+  pub jmp : WellFormedCode (JMP a)
+  jmp = plain (JMP a) h (omega arith) (omega arith) (omega arith) refl refl
+
   pub idiv : WellFormedCode (IDIV a)
   idiv = plain (IDIV a) h (omega arith) (omega arith) (omega arith) refl refl
 
@@ -89,6 +115,9 @@ module _ {a b : ℕ} (h : a < 16) (k : b < 16) where
   pub mov : WellFormedCode (MOV a b)
   mov = plain (MOV a b) h k (omega arith) (omega arith) refl refl
 
+  pub cmp : WellFormedCode (CMP a b)
+  cmp = plain (CMP a b) h k (omega arith) (omega arith) refl refl
+
   module _ {o : ℕ} (f : o < 2 ^ 64) where
     pub addrm : WellFormedCode (ADDRM a b o)
     addrm = plain (ADDRM a b o) h k f (omega arith) refl refl
@@ -113,6 +142,12 @@ module _ {a b : ℕ} (h : a < 16) (k : b < 16) where
 
     pub movl : WellFormedCode (MOVL a b o)
     movl = plain (MOVL a b o) h k f (omega arith) refl refl
+
+    pub cmprm : WellFormedCode (CMPRM a b o)
+    cmprm = plain (CMPRM a b o) h k f (omega arith) refl refl
+
+    pub cmpmr : WellFormedCode (CMPMR a o b)
+    cmpmr = plain (CMPMR a o b) h k f (omega arith) refl refl
 
 pub cqo : WellFormedCode CQO
 cqo = plain CQO (omega arith) (omega arith) (omega arith) (omega arith) refl refl

@@ -9,3 +9,4 @@ pub mod Blocks  -- those of memory.rs for one block
 pub mod Objects  -- those of memory.rs for whole objects
 pub mod Printing  -- that of print_i64
 pub mod Orders  -- that of every order, and its size
+pub mod Granting  -- what an accepted store, load, share or erase says

@@ -4,9 +4,9 @@ use lib.Dec.{eqb}
 use Rattle.records.specs.declared.order.Operation.{Operation}
 use Rattle.records.specs.declared.order.Operation.the-variants.{Add, Sub, Mul, Div, Rem}
 use Rattle.layout.specs.Config.{base, RETURN2}
-use Rattle.code.specs.Code.{registerRegister, registerSpill, spillRegister, moveFrom, moveTo, toRegister, toSpill, intoRegister, throughTemp, commutative, subtraction, divideBy, divideKept, restored, quotient, remainder, arithmetic, loadImmediate, moved}
+use Rattle.code.specs.Code.{registerRegister, registerSpill, spillRegister, moveFrom, moveTo, toRegister, toSpill, intoRegister, throughTemp, commutative, subtraction, divideBy, divideKept, restored, quotient, remainder, arithmetic, loadImmediate, loadLabel, moved, compareWords, compareImmediate}
 use Rattle.formed.specs.Formed.{Formed, one, _then_}
-use Rattle.formed.specs.Codes.{idiv, idivm, movi, movim, add, sub, imul, mov, addrm, addmr, subrm, submr, imulrm, imulmr, movs, movl, cqo}
+use Rattle.formed.specs.Codes.{idiv, idivm, movi, movim, add, sub, imul, mov, addrm, addmr, subrm, submr, imulrm, imulmr, movs, movl, cmp, cmprm, cmpmr, cmpi, cmpim, cqo, Held, leal}
 use Rattle.formed.specs.Choices.{either, on-operand, offset-fits, stack, temp, return1, return2}
 
 -- an operation by its number
@@ -77,3 +77,15 @@ formed-immediate w q = on-operand w (λ l. one (movi l q)) (λ l. one (movim sta
 
 pub formed-moved : (w x : ℕ) → Formed (moved base w x)
 formed-moved w x = on-operand x (λ l. move-from w l) (λ l. on-operand w (λ k. move-to x k) (λ k. move-to x temp then move-from w temp))
+
+pub formed-compare : (x y : ℕ) → Formed (compareWords base x y)
+formed-compare x y =
+    on-operand x
+    (λ l. on-operand y (λ k. one (cmp l k)) (λ k. one (cmprm l stack (offset-fits y))))
+    (λ l. on-operand y (λ k. one (cmpmr stack k (offset-fits x))) (λ k. one (movl temp stack (offset-fits x)) then one (cmprm temp stack (offset-fits y))))
+
+pub formed-compare-immediate : (w : ℕ) {value : ℕ} → value < 2 ^ 64 → Formed (compareImmediate base w value)
+formed-compare-immediate w q = on-operand w (λ l. one (cmpi l q)) (λ l. one (cmpim stack (offset-fits w) q))
+
+pub formed-load-label : (w : ℕ) {l : ℕ} → Held l → Formed (loadLabel base w l)
+formed-load-label w h = on-operand w (λ r. one (leal h r)) (λ r. one (leal h temp) then one (movs temp stack (offset-fits w)))

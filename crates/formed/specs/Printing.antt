@@ -11,7 +11,7 @@ use Rattle.layout.specs.Config.{base}
 use Rattle.printing.specs.Registers.{registersOf, registersTo, registersToSave, firstBackup, backupsUsed}
 use Rattle.printing.specs.Print.{moves, movesBack, pushes, pops, saveRegisters, restoreRegisters, printName, callPrint, printI64}
 use Rattle.formed.specs.Formed.{Formed, none, one, _then_}
-use Rattle.formed.specs.Codes.{addi, subi, mov, movl, push, pop, call}
+use Rattle.formed.specs.Codes.{addi, subi, mov, movl, push, pop, Held, drawn, call}
 use Rattle.formed.specs.Choices.{either, on-operand, offset-fits, stack, temp, block-register}
 
 -- a list of registers
@@ -67,12 +67,12 @@ to-save ext (suc k) h =
 seven : 7 < 16
 seven = omega arith
 
-name-held : (newline : Bool) → (0 < printName newline) × (printName newline < 2147483652)
-name-held true = (omega arith, omega arith)
-name-held false = (omega arith, omega arith)
+name-held : (newline : Bool) → Held (printName newline)
+name-held true = drawn (omega arith) (omega arith)
+name-held false = drawn (omega arith) (omega arith)
 
 call-print : (newline : Bool) (w : ℕ) → Formed (callPrint newline w)
-call-print newline w = let name = name-held newline in one (mov seven (block-register w)) then one (call (name .0) (name .1))
+call-print newline w = one (mov seven (block-register w)) then one (call (name-held newline))
 
 pub formed-print : (newline : Bool) (w : ℕ) (ext : ℕ → Bool) (n : ℕ) → Formed (printI64 base newline w ext n)
 formed-print newline w ext n =

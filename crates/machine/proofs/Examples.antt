@@ -14,8 +14,7 @@ use Rattle.word.specs.Words.{sum, difference, signs, magnitude, negated, quotie
 use Rattle.instructions.specs.Memory.{heapOk, placeOf}
 use Rattle.instructions.specs.Step.{step}
 use Rattle.machine.specs.Run.{runs, started, placesOf, ran}
-use Rattle.machine.specs.State.{see, entryState, freshState}
-use Rattle.machine.specs.Claims.{firsts}
+use Rattle.machine.specs.State.{see, entryState, freshState, firsts}
 
 abbrev heap : List ℕ
 heap = replicate 16 0

@@ -1,10 +1,8 @@
 -- The machine's state, the one at entry, and the one that orders start from. From document 01: 'A stack of 320 words, all zero at entry', 'STACK enters at 2^40−8', and
 -- 'The first state follows the 16 records before the body of a 0-argument routine, entered with 65,536 in register 7 and zero in the others but STACK'.
-use Prim.Native.Nat.{ℕ}
+use Prim.Native.Nat.{ℕ, zero, suc}
 use mathlib.Core.List.{List, [], _∷_}
 use lib.ListN.{replicate}
-use Rattle.records.specs.declared.code.Code.{Code}
-use Rattle.records.specs.declared.code.Code.the-variants.{ADDI, SUBI, MOV, PUSH, LAB, NOEXECSTACK, TEXT, GLOBAL, EXTERN}
 use Rattle.instructions.specs.View.{View, view}
 use Rattle.machine.specs.declared.state.State.{State}
 
@@ -15,27 +13,11 @@ see s heap = view (s .registers) (s .stack) heap
 abbrev pub entryState : State
 entryState = record { registers = 1099511627768 ∷ 0 ∷ 0 ∷ 0 ∷ 0 ∷ 0 ∷ 0 ∷ 65536 ∷ 0 ∷ 0 ∷ 0 ∷ 0 ∷ 0 ∷ 0 ∷ 0 ∷ 0 ∷ []; stack = replicate 320 0 }
 
--- the records before the body of a routine with no argument: the Rust's `preamble` and `setup`
-abbrev pub setup : List Code
-setup =
-    NOEXECSTACK
-    ∷ TEXT
-    ∷ EXTERN 2147483650
-    ∷ EXTERN 2147483651
-    ∷ GLOBAL 2147483648
-    ∷ LAB 2147483648
-    ∷ PUSH 2
-    ∷ PUSH 3
-    ∷ PUSH 12
-    ∷ PUSH 13
-    ∷ PUSH 14
-    ∷ PUSH 15
-    ∷ SUBI 0 2048
-    ∷ MOV 2 7
-    ∷ MOV 3 2
-    ∷ ADDI 3 64
-    ∷ []
-
--- what they leave: STACK at word 57 of the stack, HEAP at block 0, FREE at block 1
+-- what the records before the body of a routine with no argument leave: STACK at word 57 of the stack, HEAP at block 0, FREE at block 1
 abbrev pub freshState : State
 freshState = record { registers = 1099511625672 ∷ 0 ∷ 65536 ∷ 65600 ∷ 0 ∷ 0 ∷ 0 ∷ 65536 ∷ 0 ∷ 0 ∷ 0 ∷ 0 ∷ 0 ∷ 0 ∷ 0 ∷ 0 ∷ []; stack = replicate 320 0 }
+
+-- the first n words of a function
+abbrev pub firsts : ℕ → (ℕ → ℕ) → List ℕ
+firsts zero f = []
+firsts (suc n) f = f 0 ∷ firsts n (λ i. f (suc i))

@@ -31,7 +31,7 @@ use Rattle.orders.specs.Answered.{Asked, accepted, orderIs, orderTree, orderCon
 use Rattle.judging.proofs.Leaving.{context-long, after-long}
 use Rattle.answering.specs.Answers.{AnswersOrder}
 use Rattle.playing.specs.Playing.{Channel, fresh, isAccepted, Plays}
-use Rattle.playing.specs.Accepting.{good-context, taken}
+use Rattle.orders.proofs.Accepting.{good-context, taken}
 
 -- a channel as it starts
 pub starts : (s : State) → s ≡ freshState → (blocks : ℕ) → record { context = []; view = see s (replicate (8 * blocks) 0) } ≡ fresh blocks

@@ -1,6 +1,6 @@
 pub mod Answers  -- an answer that is the one expected
 pub mod Table  -- a table's rule, from one computed test over its entries
-pub mod Conditions  -- conditions joined by `&&`
+pub mod Conditions  -- conditions joined by `&&`, and choices of which one part is a refusal
 pub mod Matched  -- a number that is none of those that a `match` names
 pub mod Numbers  -- a number's bytes read one by one, in two halves, and from a part of a list
 pub mod Starting  -- what stands at the start of a part of a list
@@ -16,6 +16,7 @@ pub mod Digits  -- numbers and their bytes, both ways
 pub mod Joined  -- lists of records of one kind
 pub mod Kept  -- fields made into an item and back
 pub mod CodesBack  -- an instruction written and read back
+pub mod CodesFormed  -- what is read from accepted instruction records is well formed
 pub mod BindingsBack  -- a binding written and read back
 pub mod OrdersBack  -- an order written and read back
 pub mod ReadBack  -- the claim that records are read back as they were written

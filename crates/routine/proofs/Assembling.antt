@@ -1,15 +1,17 @@
--- Head, body and cleanup written one after the other are the routine; and the answer.
+-- Head, body and cleanup written one after the other are the routine, whose bytes are those of its records; and the answer.
 use Prim.Native.Nat.{ℕ, zero, suc, _+_, _*_, _≤_}
 use mathlib.Core.Path.{_≡_, refl, sym, ap, _∙_}
 use mathlib.Core.Bool.{Bool, true, false}
-use mathlib.Core.List.{List, _++_}
+use mathlib.Core.List.{List, [], _∷_, _++_, append-assoc}
 use native.Mathlib.Omega.{arith}
 use lib.ListN.{length, take, length-append}
 use lib.Seq.{sets, length-sets, take-length}
 use borrow.Author.Tests.{le-ltb}
-use Rattle.records.specs.ReadBack.{joined, codeBytes}
+use Rattle.records.specs.declared.code.Code.{Code}
+use Rattle.records.specs.ReadBack.{joined, items, codeBytes, codeIn}
 use Rattle.records.proofs.CodesBack.{code-laws}
 use Rattle.records.proofs.Joined.{joined-length}
+use Rattle.records.proofs.ReadBack.{records-read-back}
 use Rattle.records.proofs.Storing.{sets-then}
 use Rattle.emit.specs.declared.answer.Answer.{Answer}
 use Rattle.emit.specs.declared.cursor.Cursor.{Cursor}
@@ -19,6 +21,7 @@ use Rattle.emit.specs.Laws.{length-fields}
 use Rattle.emit.specs.Wrote.{written-whole, granted-if}
 use Rattle.layout.specs.Config.{base}
 use Rattle.routine.specs.Routine.{moveArguments, head, cleanup, routineBytes, accepting, Assembles}
+use Rattle.routine.specs.Records.{RoutineIsRecords}
 
 arguments-length : (n : ℕ) → length (moveArguments n) ≡ n
 arguments-length zero = refl
@@ -37,6 +40,16 @@ pub bytes-length : (n : ℕ) (body : List ℕ) → length (routineBytes base n b
 unfolding routineBytes
 bytes-length n body =
     omega (arith, length-append (joined codeBytes (head base n)) (body ++ joined codeBytes (cleanup base)), length-append body (joined codeBytes (cleanup base)), head-bytes n, cleanup-bytes)
+
+joined-append : (xs ys : List Code) → joined codeBytes (xs ++ ys) ≡ joined codeBytes xs ++ joined codeBytes ys
+joined-append [] ys = refl
+joined-append (x ∷ xs) ys = rw (joined-append xs ys, append-assoc)
+
+pub routine-records : RoutineIsRecords
+unfolding routineBytes
+routine-records n k body bytes e =
+    let codes : List Code = items 24 codeIn k body in
+    rw (joined-append (head base n) (codes ++ cleanup base), joined-append codes (cleanup base), records-read-back .codes-written 65506 k body bytes e)
 
 -- where the body starts
 pub body-place : {o o₁ : List ℕ} {p q : Cursor} (n : ℕ) → Emitted o p o₁ q (fieldsList (head base n)) 0 → p .at ≡ 0 → q .at ≡ 24 * (16 + n)

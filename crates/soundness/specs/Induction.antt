@@ -38,7 +38,7 @@ use Rattle.orders.specs.Plain.{OwedKinds}
 use Rattle.playing.specs.Playing.{fresh}
 use Rattle.soundness.specs.Claims.{Item, isAccepted, runOf, reached, values, acquired, changes, PeakWithin, AllOwed, stateAfter, statesBefore, SoundChannel, LastRan, LastRefused, After, HeapStaysSound, HeapStaysSoundOnAcquired, acquires, Owed}
 use Rattle.soundness.specs.Peak.{NoFault, LoadsOwed, ReachesWithin, HeapAfterList, PeakOf, Unfaulted, FrontierWithinPeakOfLists, FrontierIsPeak}
-use Rattle.playing.specs.Accepting.{Taken, taken}
+use Rattle.orders.proofs.Accepting.{Taken, taken}
 use Rattle.soundness.specs.Ending.{start}
 use Rattle.soundness.specs.Carried.{Carried, Room, bounded-by-room, bounded-by-run, places-are}
 use Rattle.soundness.specs.Changing.{changing-tries, result-by-run}

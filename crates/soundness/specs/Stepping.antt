@@ -38,7 +38,7 @@ use Rattle.orders.specs.Writes.{treeOf, contextAfter, present, kindsOk}
 use Rattle.orders.specs.Answered.{orderIs}
 use Rattle.playing.specs.Playing.{Channel}
 use Rattle.soundness.specs.Claims.{Item, stateOf, Owed, acquires, callsOf, changes}
-use Rattle.playing.specs.Accepting.{Taken}
+use Rattle.orders.proofs.Accepting.{Taken}
 use Rattle.soundness.specs.Ending.{start, heap-ok, Ends, ends}
 use Rattle.soundness.specs.Carried.{Carried, abstractly, BoundedAfter, reaches-on, carried-on, state-same, carried-same}
 use Rattle.soundness.specs.Changing.{integer-held}

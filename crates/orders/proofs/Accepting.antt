@@ -1,7 +1,7 @@
 -- What an accepted order says of its context, its bindings, its operands and its outputs.
 use Prim.Native.Nat.{ℕ, _+_, _*_, _/_, _≤_}
 use mathlib.Core.Path.{_≡_, refl, sym, ap, _∙_}
-use mathlib.Core.Bool.{Bool, true, false, cond}
+use mathlib.Core.Bool.{true}
 use mathlib.Core.List.{List}
 use native.Mathlib.Omega.{arith}
 use lib.Dec.{ltb, leb, eqb}
@@ -11,12 +11,13 @@ use Rattle.records.specs.declared.check.Checked.{Checked}
 use Rattle.records.specs.declared.check.Checked.the-variants as checked
 use Rattle.records.specs.Contexts.{checkedContext}
 use Rattle.records.specs.Orders.{orderStarts}
+use Rattle.records.proofs.Conditions.{chosen, passed}
 use Rattle.trees.specs.Tree.{Tree, labels, size}
 use Rattle.layout.specs.Config.{base}
 use Rattle.orders.specs.declared.answer.Answer.{Answer}
 use Rattle.orders.specs.declared.answer.Answer.the-variants.{Accepted, Malformed, Missing, Kind, Count, Position, Labels, Room}
 use Rattle.orders.specs.Writes.{wanted, countOk, treeOf, contextAfter, present, kindsOk, asked}
 use Rattle.orders.specs.Answered.{Asked, accepted, orderIs, granted, decided, onContext, answerTo}
 
 -- the answer to an accepted order of records t and the context after them
 abbrev pub acceptance : Asked → Tree → List ℕ → Answer
@@ -34,16 +35,6 @@ pub record Taken (context : List ℕ) (q : Asked) (k : ℕ) : Type 0 where
   pub context-fits : length (contextAfter context k (q .bindings) (orderIs q)) ≤ q .contextRoom
   pub answer : answerTo base context q ≡ acceptance q (treeOf base context k (q .bindings) (orderIs q)) (contextAfter context k (q .bindings) (orderIs q))
 
--- a choice of which the second part is a refusal
-chosen : (b : Bool) (x y : Answer) → accepted y ≡ false → accepted (cond b x y) ≡ true → (b ≡ true) × (accepted x ≡ true)
-chosen true x y r e = (refl, e)
-chosen false x y r e = let z : _≡_ {A = ℕ} 0 1 = cc in absurd (omega arith)
-
--- and of which the first is one
-passed : (b : Bool) (x y : Answer) → accepted x ≡ false → accepted (cond b x y) ≡ true → (b ≡ false) × (accepted y ≡ true)
-passed false x y r e = (refl, e)
-passed true x y r e = let z : _≡_ {A = ℕ} 0 1 = cc in absurd (omega arith)
-
 on-good : (c : Checked) (f : ℕ → Answer) → accepted (onContext c f) ≡ true → (k : ℕ) × (c ≡ checked.Good k) × (accepted (f k) ≡ true)
 on-good (checked.Good k) f e = (k, refl, e)
 on-good (checked.Malformed place) f e = let z : _≡_ {A = ℕ} 0 1 = cc in absurd (omega arith)
@@ -57,9 +48,9 @@ module _ (q : Asked) (t : Tree) (after : List ℕ) where
 
   granted-if : accepted (granted q t after) ≡ true → Granted
   granted-if e =
-      let a = passed (ltb 2147483647 (q .counter + labels t)) Labels _ refl e in
-      let b = passed (ltb (q .recordsRoom) (24 * size t)) (Room (24 * size t)) _ refl (a .1) in
-      let c = passed (ltb (q .contextRoom) (length after)) (Room (length after)) _ refl (b .1) in
+      let a = passed accepted (ltb 2147483647 (q .counter + labels t)) Labels _ refl e in
+      let b = passed accepted (ltb (q .recordsRoom) (24 * size t)) (Room (24 * size t)) _ refl (a .1) in
+      let c = passed accepted (ltb (q .contextRoom) (length after)) (Room (length after)) _ refl (b .1) in
       record {
         labelled = ltb-false 2147483647 (q .counter + labels t) (a .0);
         records-fit = ltb-false (q .recordsRoom) (24 * size t) (b .0);
@@ -78,10 +69,10 @@ module _ (context : List ℕ) (q : Asked) (k : ℕ) where
 
   decided-if : accepted (decided base context k q) ≡ true → Decided
   decided-if e =
-      let a = chosen (present context k (q .bindings) (orderIs q)) _ Missing refl e in
-      let b = chosen (kindsOk context k (q .bindings) (orderIs q)) _ Kind refl (a .1) in
-      let c = chosen (countOk (orderIs q)) _ Count refl (b .1) in
-      let d = chosen (leb (asked context k (q .bindings) (orderIs q)) 267) _ Position refl (c .1) in
+      let a = chosen accepted (present context k (q .bindings) (orderIs q)) _ Missing refl e in
+      let b = chosen accepted (kindsOk context k (q .bindings) (orderIs q)) _ Kind refl (a .1) in
+      let c = chosen accepted (countOk (orderIs q)) _ Count refl (b .1) in
+      let d = chosen accepted (leb (asked context k (q .bindings) (orderIs q)) 267) _ Position refl (c .1) in
       let g = granted-if q (treeOf base context k (q .bindings) (orderIs q)) (contextAfter context k (q .bindings) (orderIs q)) (d .1) in
       record {
         there = a .0;
@@ -108,9 +99,9 @@ taken context q k good e =
     let a = on-good (checkedContext context) _ e in
     let same : a .0 ≡ k = good-same (sym (a .1) ∙ good) in
     let b = on-good (checkedContext (q .bindings)) _ (a .2) in
-    let c = chosen (orderStarts (q .order)) _ (Malformed 1) refl (b .2) in
-    let d = chosen (eqb (b .0) (wanted (orderIs q))) _ (Malformed 1) refl (c .1) in
-    let f = chosen (eqb (length (q .order)) 24) _ (Malformed 2) refl (d .1) in
+    let c = chosen accepted (orderStarts (q .order)) _ (Malformed 1) refl (b .2) in
+    let d = chosen accepted (eqb (b .0) (wanted (orderIs q))) _ (Malformed 1) refl (c .1) in
+    let f = chosen accepted (eqb (length (q .order)) 24) _ (Malformed 2) refl (d .1) in
     let g = decided-if context q k (rw same at (f .1)) in
     record {
       bindings-good = b .1 ∙ ap checked.Good (eqb-true (b .0) (wanted (orderIs q)) (d .0));

@@ -1,0 +1,64 @@
+-- What the operations of code.rs write is read back: at most ten well-formed records each.
+use Prim.Native.Nat.{ℕ, _^_, _<_}
+use mathlib.Core.Path.{_≡_, refl}
+use mathlib.Core.Bool.{true, _&&_}
+use mathlib.Core.List.{[], _∷_}
+use native.Mathlib.Omega.{arith}
+use Rattle.records.specs.declared.code.Code.{Code}
+use Rattle.records.specs.Instructions.{labelHeld}
+use Rattle.records.specs.ReadBack.{WellFormedCode}
+use Rattle.records.proofs.Conditions.{and-right, chosen}
+use Rattle.emit.specs.declared.answer.Answer.the-variants.{Operand}
+use Rattle.emit.specs.Answers.{accepted}
+use Rattle.layout.specs.Config.{base}
+use Rattle.layout.specs.Positions.{operandOk}
+use Rattle.code.specs.Code.{jumpIf, compareWords, compareImmediate, arithmetic, loadImmediate, loadLabel, moved}
+use Rattle.code.specs.Sizes.{plain-arithmetic, plain-compare, plain-compare-immediate, plain-load-immediate, plain-load-label, plain-mov}
+use Rattle.operations.specs.declared.operation.Operation.{Operation}
+use Rattle.operations.specs.declared.operation.Operation.the-variants.{Label, Jump, JumpLabel, JumpLabelFixed, JumpLabelIf, JumpLabelIfZero, LoadImmediate, LoadLabel, AddAndJump, Arithmetic, Mov, Compare, CompareImmediate}
+use Rattle.operations.specs.Operations.{recordsOf, operandsOk, answerOf}
+use Rattle.formed.specs.Codes.{Held, lab, jmp, jmpl, jmpln, jump-if, addi, movl}
+use Rattle.formed.specs.Choices.{offset-fits, zero-fits, stack, temp}
+use Rattle.formed.specs.Operations.{formed-arithmetic, formed-immediate, formed-moved, formed-compare, formed-compare-immediate, formed-load-label}
+use Rattle.written.specs.Claims.{Readable, OperationFits}
+use Rattle.written.proofs.Lists.{readable, Short, short-tree, short-then, on-operand}
+
+held : {l : ℕ} → l < 2 ^ 32 → labelHeld l ≡ true → Held l
+held h e = record { fits = h; ok = e }
+
+single : {c : Code} → WellFormedCode c → Short (c ∷ [])
+single w = record { each = (w, tt); most = omega arith }
+
+operation-short : (o : Operation) → OperationFits o → operandsOk base o ≡ true → Short (recordsOf base o)
+unfolding recordsOf operandsOk
+operation-short (Label l) f e = single (lab (held f e))
+operation-short (Jump w) f e =
+    on-operand w (λ l. single (jmp l)) (λ l. record { each = (movl temp stack (offset-fits w), (jmp temp, tt)); most = omega arith })
+operation-short (JumpLabel l) f e = single (jmpl (held f e))
+operation-short (JumpLabelFixed l) f e = single (jmpln (held f e))
+operation-short (JumpLabelIf k x y l) f e =
+    let h = and-right (operandOk base x && operandOk base y) (labelHeld l) e in
+    short-then (compareWords base x y) (jumpIf k l) (formed-compare x y) (plain-compare base x y) (omega arith) (jump-if (held f h) k)
+operation-short (JumpLabelIfZero k w l) f e =
+    let h = and-right (operandOk base w) (labelHeld l) e in
+    short-then (compareImmediate base w 0) (jumpIf k l) (formed-compare-immediate w zero-fits) (plain-compare-immediate base w 0) (omega arith) (jump-if (held f h) k)
+operation-short (LoadImmediate w value) f e = short-tree (loadImmediate base w value) (formed-immediate w f) (plain-load-immediate base w value) (omega arith)
+operation-short (LoadLabel w l) f e =
+    let h = and-right (operandOk base w) (labelHeld l) e in
+    short-tree (loadLabel base w l) (formed-load-label w (held f h)) (plain-load-label base w l) (omega arith)
+operation-short (AddAndJump w value) f e =
+    on-operand w (λ l. record { each = (addi l f, (jmp l, tt)); most = omega arith })
+    (λ l. record { each = (movl temp stack (offset-fits w), (addi temp f, (jmp temp, tt))); most = omega arith })
+operation-short (Arithmetic o w x y) f e = short-tree (arithmetic base o w x y) (formed-arithmetic o w x y) (plain-arithmetic base o w x y) (omega arith)
+operation-short (Mov w x) f e = short-tree (moved base w x) (formed-moved w x) (plain-mov base w x) (omega arith)
+operation-short (Compare x y) f e = short-tree (compareWords base x y) (formed-compare x y) (plain-compare base x y) (omega arith)
+operation-short (CompareImmediate w value) f e =
+    short-tree (compareImmediate base w value) (formed-compare-immediate w f) (plain-compare-immediate base w value) (omega arith)
+
+pub operation-readable : (o : Operation) → OperationFits o → operandsOk base o ≡ true → Readable (recordsOf base o)
+operation-readable o f e =
+    let s = operation-short o f e in
+    readable (recordsOf base o) (s .each) (omega (arith, s .most))
+
+pub operation-reads : (o : Operation) (room : ℕ) → OperationFits o → accepted (answerOf base room o) ≡ true → Readable (recordsOf base o)
+operation-reads o room f e = operation-readable o f (chosen accepted (operandsOk base o) _ Operand refl e .0)

@@ -1,0 +1,20 @@
+-- What is written is read back, operation by operation.
+use Rattle.records.specs.Contexts.{checkedContext}
+use Rattle.written.specs.Claims.{WrittenIsRead}
+use Rattle.written.proofs.Lists.{readable}
+use Rattle.written.proofs.Operations.{operation-reads}
+use Rattle.written.proofs.Trees.{store-reads, load-reads, erase-reads, share-reads, print-reads, order-reads}
+use Rattle.written.proofs.Routines.{routine-reads}
+
+pub written-is-read : WrittenIsRead
+written-is-read = record {
+  lists = readable;
+  operations = operation-reads;
+  stores = store-reads;
+  loads = load-reads;
+  erases = erase-reads;
+  shares = share-reads;
+  prints = λ room newline w context e. print-reads room newline w context (checkedContext context) e;
+  orders = order-reads;
+  routines = routine-reads;
+}
