@@ -16,7 +16,8 @@ use Rattle.records.specs.Contexts.{checkedContext, extAt}
 use Rattle.heap.specs.Values.{Value, integer, object, Values, nil, cons, countOf, joined, firstOf, restOf, valueAt, copies, KindsFrom}
 use Rattle.heap.specs.Orders.{listOf}
 use Rattle.orders.specs.Writes.{made, madeAll, wanted, kindAt, contextAfter, present, asked}
-use Rattle.orders.specs.Plain.{integerOf, result, plainly, AsStored, OwedKinds}
+use Rattle.word.specs.Results.{result}
+use Rattle.orders.specs.Plain.{integerOf, plainly, AsStored, OwedKinds}
 use Rattle.contexts.specs.Bindings.{good-length, good-append, good-take, good-made, good-made-all}
 use Rattle.contexts.specs.Kinds.{ext-left, ext-right, ext-take, isExt, ext-made, ext-made-all, kind-at}
 use Rattle.contexts.specs.ValueKinds.{count-joined, count-first, count-copies, isInteger, kinds-at, kinds-joined, kinds-first, kinds-copies, kinds-cons, kinds-moved}

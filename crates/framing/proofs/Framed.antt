@@ -5,7 +5,7 @@ use mathlib.Core.Bool.{Bool, true, false, cond}
 use mathlib.Core.List.{List, [], _∷_, _++_}
 use mathlib.Core.Option.{some}
 use native.Mathlib.Omega.{arith}
-use native.Mathlib.Nat.{zero-add}
+use native.Mathlib.Nat.{zero-add, add-zero}
 use lib.Dec.{eqb}
 use lib.ListN.{length, drop}
 use lib.Seq.{drop-at}
@@ -18,13 +18,17 @@ use Rattle.instructions.specs.declared.instruction.Compared.the-variants.{Absen
 use Rattle.instructions.specs.View.{View, upd, putReg}
 use Rattle.instructions.specs.Memory.{placeOf}
 use Rattle.instructions.specs.Step.{Config, config, end, step}
+use Rattle.machine.specs.declared.run.Answer.the-variants.{Ended, Limit}
+use Rattle.machine.specs.Run.{codesOf, runs, started, ran}
+use Rattle.machine.specs.Run as machine
 use Rattle.structured.specs.Evaluation.{done}
 use Rattle.structured.specs.Claims.{Reaches}
-use Rattle.structured.proofs.Steps.{drop-part, after}
-use Rattle.routine.specs.Routine.{argument, head, cleanup}
-use Rattle.routine.proofs.Assembling.{head-length}
-use Rattle.framing.specs.Claims.{SavedIn, SetUp, Returned, routine, fresh, Returns, RoutineReturns}
-use Rattle.framing.proofs.Through.{through, reached, ended}
+use Rattle.structured.proofs.Steps.{at-drop, drop-part, after}
+use Rattle.routine.specs.Routine.{argument, head, cleanup, routineBytes}
+use Rattle.routine.proofs.Assembling.{head-length, routine-records}
+use Rattle.written.proofs.Routines.{items-length, few-arguments, routine-readable}
+use Rattle.framing.specs.Claims.{SavedIn, SetUp, Returned, routine, fresh, Frames, RoutineReturns}
+use Rattle.framing.proofs.Through.{through, passes, reached, ended}
 
 -- a state whose STACK is known, with that number written in
 abbrev pointed : View → ℕ → View
@@ -139,11 +143,14 @@ exits words registers b s =
       };
     }
 
--- ---- the whole
+-- ---- the whole, around the records of a body
+
+abbrev around : ℕ → List Code → List Code
+around n body = head base n ++ (body ++ cleanup base)
 
 module _ (words : ℕ → ℕ) (n : ℕ) (body : List Code) (v : View) where
   abbrev p : List Code
-  p = routine n body
+  p = around n body
 
   body-place : drop (16 + n) p ≡ body ++ cleanup base
   body-place = drop-at (head base n) (body ++ cleanup base) (16 + n) (head-length n)
@@ -151,35 +158,60 @@ module _ (words : ℕ → ℕ) (n : ℕ) (body : List Code) (v : View) where
   cleanup-place : drop (16 + n + length body) p ≡ cleanup base
   cleanup-place = drop-part p (16 + n) (length body) body (cleanup base) body-place refl
 
-  module _ (d : Config) (r : Reaches words p (16 + n) 0 (16 + n) (fresh v) d) (most : ℕ) (b : Config) (g : Reaches words p most (16 + n) (16 + n + length body) d b) where
-    to-cleanup : Reaches words p (16 + n + most) 0 (16 + n + length body) (fresh v) b
-    to-cleanup = after words p (16 + n) most 0 (16 + n) (16 + n + length body) (done b) r g (omega arith) (16 + n + most) (omega arith)
+  module _ (x : Entry words n v) where
+    -- the run to the body's place
+    to-body : (left made : ℕ) → runs words p (16 + n + left) made 0 (fresh v) ≡ runs words p left (made + (16 + n)) (16 + n) (x .to)
+    to-body left made = rw (head-length n, zero-add) at (passes words p (head base n) 0 (body ++ cleanup base) (fresh v) (x .to) refl (x .run) left made)
 
-    to-return : (e : Config) → through words front b ≡ some e → Reaches words p (16 + n + most + 8) 0 (16 + n + length body + 8) (fresh v) e
-    to-return e h =
-        after words p (16 + n + most) 8 0 (16 + n + length body) (16 + n + length body + 8) (done e) to-cleanup
-        (reached words p front (16 + n + length body) (RET ∷ []) b e cleanup-place h) (omega arith) (16 + n + most + 8) (omega arith)
+    -- a record stands there, the body's first or the cleanup's
+    stopped : started words p (16 + n) v ≡ machine.done (Limit (16 + n)) (x .to)
+    unfolding runs
+    stopped = rw (add-zero, zero-add) at (to-body 0 0) ∙ by body body-place
+      where
+        by : (b : List Code) → drop (16 + n) p ≡ b ++ cleanup base → runs words p 0 (16 + n) (16 + n) (x .to) ≡ machine.done (Limit (16 + n)) (x .to)
+        by [] e = rw (at-drop p (16 + n) e)
+        by (c ∷ cs) e = rw (at-drop p (16 + n) e)
 
-    returned : Exit words (v .reg) b → (limit : ℕ) → 16 + n + most + 9 ≤ limit → Returns words p limit v b
-    returned x limit h =
-        let z : drop (16 + n + length body + 8) p ≡ RET ∷ [] = drop-part p (16 + n + length body) 8 front (RET ∷ []) cleanup-place refl in
-        let k = ended words p (16 + n + length body + 8) (fresh v) (x .to) (x .last) z (x .return) (16 + n + most + 8) limit (to-return (x .to) (x .run)) (omega arith) in
-        record { steps = k .0; within = k .1; last = x .last; run = k .2; state = x .state }
+    module _ (most : ℕ) (b : Config) (g : Reaches words p most (16 + n) (16 + n + length body) (x .to) b) where
+      enters : Reaches words p (16 + n) 0 (16 + n) (fresh v) (x .to)
+      enters = record { steps = 16 + n; within = omega arith; run = to-body }
+
+      to-cleanup : Reaches words p (16 + n + most) 0 (16 + n + length body) (fresh v) b
+      to-cleanup = after words p (16 + n) most 0 (16 + n) (16 + n + length body) (done b) enters g (omega arith) (16 + n + most) (omega arith)
+
+      to-return : (e : Config) → through words front b ≡ some e → Reaches words p (16 + n + most + 8) 0 (16 + n + length body + 8) (fresh v) e
+      to-return e h =
+          after words p (16 + n + most) 8 0 (16 + n + length body) (16 + n + length body + 8) (done e) to-cleanup
+          (reached words p front (16 + n + length body) (RET ∷ []) b e cleanup-place h) (omega arith) (16 + n + most + 8) (omega arith)
+
+      returned : (y : Exit words (v .reg) b) (limit : ℕ) → 16 + n + most + 9 ≤ limit → (k : ℕ) × (k ≤ limit) × (started words p limit v ≡ machine.done (Ended k) (y .last))
+      returned y limit h =
+          let z : drop (16 + n + length body + 8) p ≡ RET ∷ [] = drop-part p (16 + n + length body) 8 front (RET ∷ []) cleanup-place refl in
+          ended words p (16 + n + length body + 8) (fresh v) (y .to) (y .last) z (y .return) (16 + n + most + 8) limit (to-return (y .to) (y .run)) (omega arith)
+
+-- ---- the whole, as bytes
+
+module _ (words : ℕ → ℕ) (n k : ℕ) (body : List ℕ) (v : View) (x : Entry words n v) (e : length (codesOf k body) ≡ k)
+    (bytes : (limit : ℕ) → ran words (routineBytes base n body) limit v ≡ started words (routine n k body) limit v) where
+  framed-whole : Frames words n k body v
+  framed-whole =
+      record {
+        entered = x .to;
+        starts = bytes (16 + n) ∙ stopped words n (codesOf k body) v x;
+        state = x .state;
+        returns = λ most b g a c limit h.
+            let y = exit b a c in
+            let r = returned words n (codesOf k body) v x most b (rw e g) y limit h in
+            record { steps = r .0; within = r .1; last = y .last; run = bytes limit ∙ r .2; state = y .state };
+      }
+    where
+      exit : (b : Config) → b .state .reg STACK ≡ 1099511625672 → SavedIn (b .state .stk) (v .reg) → Exit words (v .reg) b
+      exit b a c = subst (λ w. Exit words (v .reg) (config w (b .pair) (b .calls))) (pointed-same (b .state) 1099511625672 a) (exits words (v .reg) b c)
 
 pub routine-returns : RoutineReturns
 unfolding RoutineReturns
-routine-returns words n body v h s =
-    let x : Entry words n v = subst (Entry words n) (pointed-same v 1099511627768 s) (entries words v n h) in
-    let r : Reaches words (routine n body) (16 + n) 0 (16 + n) (fresh v) (x .to) = enters x in
-    record {
-      entered = x .to;
-      enters = r;
-      state = x .state;
-      returns = λ most b g a c limit k. returned words n body v (x .to) r most b g (exit b a c) limit k;
-    }
-  where
-    enters : (x : Entry words n v) → Reaches words (routine n body) (16 + n) 0 (16 + n) (fresh v) (x .to)
-    enters x = rw (head-length n, zero-add) at (reached words (routine n body) (head base n) 0 (body ++ cleanup base) (fresh v) (x .to) refl (x .run))
-
-    exit : (b : Config) → b .state .reg STACK ≡ 1099511625672 → SavedIn (b .state .stk) (v .reg) → Exit words (v .reg) b
-    exit b a c = subst (λ w. Exit words (v .reg) (config w (b .pair) (b .calls))) (pointed-same (b .state) 1099511625672 a) (exits words (v .reg) b c)
+routine-returns words room n k body v b a e s h =
+    let five = few-arguments room n body a in
+    let r = routine-readable n k body five b e in
+    framed-whole words n k body v (subst (Entry words n) (pointed-same v 1099511627768 s) (entries words v n five)) (items-length k body)
+    (λ limit. ap (λ (z : List ℕ). ran words z limit v) (routine-records n k body b e) ∙ r .runs words limit v h)

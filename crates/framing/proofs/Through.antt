@@ -4,16 +4,15 @@ use mathlib.Core.Path.{_≡_, refl, ap, _∙_}
 use mathlib.Core.List.{List, [], _∷_, _++_}
 use mathlib.Core.Option.{Option, none, some}
 use native.Mathlib.Omega.{arith}
-use native.Mathlib.Nat.{add-zero, zero-add}
+use native.Mathlib.Nat.{add-zero, zero-add, add-suc, suc-add}
 use lib.ListN.{length, drop}
 use Rattle.records.specs.declared.code.Code.{Code}
 use Rattle.instructions.specs.Step.{Config, Outcome, next, jump, end, fault, step}
 use Rattle.machine.specs.declared.run.Answer.the-variants.{Ended}
 use Rattle.machine.specs.Run.{runs}
 use Rattle.machine.specs.Run as machine
-use Rattle.structured.specs.Evaluation.{done}
 use Rattle.structured.specs.Claims.{Reaches}
-use Rattle.structured.proofs.Steps.{drop-one, at-drop, after, stepped}
+use Rattle.structured.proofs.Steps.{drop-one, at-drop}
 
 abbrev onNext : Outcome → (Config → Option Config) → Option Config
 onNext (next c) k = k c
@@ -30,20 +29,25 @@ unlike : {A : Type 0} {d : Config} → none ≡ some d → A
 unlike e = let z : _≡_ {A = ℕ} 0 1 = cc in absurd (omega arith)
 
 module _ (words : ℕ → ℕ) (p : List Code) where
-  pub reached : (xs : List Code) (i : ℕ) (rest : List Code) (c d : Config) → drop i p ≡ xs ++ rest → through words xs c ≡ some d → Reaches words p (length xs) i (i + length xs) c d
-  reached [] i rest c d e h =
-      let g : c ≡ d = cc in
-      record { steps = 0; within = omega arith; run = λ left made. simp (zero-add, add-zero, g) }
-  reached (x ∷ xs) i rest c d e h = by (step words x c) refl h (λ f g. reached xs (suc i) rest f d (drop-one p i e) g)
+  -- one step for each, and then the rest of the run
+  pub passes : (xs : List Code) (i : ℕ) (rest : List Code) (c d : Config) → drop i p ≡ xs ++ rest → through words xs c ≡ some d
+      → (left made : ℕ) → runs words p (length xs + left) made i c ≡ runs words p left (made + length xs) (i + length xs) d
+  unfolding runs
+  passes [] i rest c d e h left made = let g : c ≡ d = cc in simp (zero-add, add-zero, g)
+  passes (x ∷ xs) i rest c d e h left made = by (step words x c) refl h (λ f g. passes xs (suc i) rest f d (drop-one p i e) g left (suc made))
     where
-      by : (o : Outcome) → step words x c ≡ o → onNext o (λ d. through words xs d) ≡ some d → ((f : Config) → through words xs f ≡ some d → Reaches words p (length xs) (suc i) (suc i + length xs) f d)
-          → Reaches words p (suc (length xs)) i (i + suc (length xs)) c d
+      by : (o : Outcome) → step words x c ≡ o → onNext o (λ d. through words xs d) ≡ some d
+          → ((f : Config) → through words xs f ≡ some d
+          → runs words p (length xs + left) (suc made) (suc i) f ≡ runs words p left (suc made + length xs) (suc i + length xs) d)
+          → runs words p (suc (length xs) + left) made i c ≡ runs words p left (made + suc (length xs)) (i + suc (length xs)) d
       by (next f) s h r =
-          let m : i + suc (length xs) ≡ suc i + length xs = omega arith in
-          rw m (after words p 1 (length xs) i (suc i) (suc i + length xs) (done d) (stepped words p i e c s) (r f h) (omega arith) (suc (length xs)) (omega arith))
+          rw (suc-add (length xs) left, at-drop p i e, s, add-suc made (length xs), add-suc i (length xs), ← suc-add made (length xs), ← suc-add i (length xs)) (r f h)
       by (jump label f) s h r = unlike h
       by (end f) s h r = unlike h
       by (fault f) s h r = unlike h
+
+  pub reached : (xs : List Code) (i : ℕ) (rest : List Code) (c d : Config) → drop i p ≡ xs ++ rest → through words xs c ≡ some d → Reaches words p (length xs) i (i + length xs) c d
+  reached xs i rest c d e h = record { steps = length xs; within = omega arith; run = passes xs i rest c d e h }
 
   -- a run that comes to a record that ends it
   module _ (i : ℕ) {x : Code} {xs : List Code} (c b d : Config) (e : drop i p ≡ x ∷ xs) (s : step words x b ≡ end d) where

@@ -1,21 +1,26 @@
--- What the crate promises: a routine entered with STACK at 2^40 − 8 sets up the frame, the free lists and the arguments for its body; and where the body comes
--- to the cleanup with STACK and the six saved words as they were, the routine returns to its caller with the caller's registers and what the body left in the others.
+-- What the crate promises of the bytes of an accepted routine: entered with STACK at 2^40 − 8 they set up the frame, the free lists and the arguments for the body; and
+-- where the body comes to the cleanup with STACK and the six saved words as they were, they return to the caller with its registers and what the body left in the others.
 -- From into_routine.rs, document 01, 'Machine', and the System V AMD64 ABI: rbx, rbp and r12..r15 are registers 2, 3 and 12..15.
 use Prim.Native.Nat.{ℕ, suc, _+_, _*_, _≤_, _<_}
 use mathlib.Core.Path.{_≡_}
 use mathlib.Core.Logic.{_≢_}
+use mathlib.Core.Bool.{true}
 use mathlib.Core.List.{List, [], _++_}
-use lib.ListN.{length}
+use Rattle.records.specs.declared.check.Checked.the-variants.{Good}
 use Rattle.records.specs.declared.code.Code.{Code}
+use Rattle.records.specs.Instructions.{checkedCodes}
+use Rattle.records.specs.ReadBack.{Bytes}
+use Rattle.emit.specs.Answers.{accepted}
 use Rattle.layout.specs.Config.{base, STACK, HEAP, FREE}
 use Rattle.word.specs.Words.{sum}
 use Rattle.instructions.specs.declared.instruction.Compared.the-variants.{Absent}
 use Rattle.instructions.specs.View.{View}
+use Rattle.instructions.specs.Memory.{heapOk}
 use Rattle.instructions.specs.Step.{Config, config}
-use Rattle.machine.specs.declared.run.Answer.the-variants.{Ended}
-use Rattle.machine.specs.Run.{done, started}
+use Rattle.machine.specs.declared.run.Answer.the-variants.{Ended, Limit}
+use Rattle.machine.specs.Run.{done, codesOf, ran}
 use Rattle.structured.specs.Claims.{Reaches}
-use Rattle.routine.specs.Routine.{argument, head, cleanup}
+use Rattle.routine.specs.Routine.{argument, head, cleanup, routineBytes, routineAnswer}
 
 -- the registers that a function keeps for its caller, in words 313..318 of the stack
 pub record SavedIn (stack registers : ℕ → ℕ) : Type 0 where
@@ -60,30 +65,34 @@ pub record Returned (registers : ℕ → ℕ) (b d : Config) : Type 0 where
   pub size : d .state .size ≡ b .state .size
   pub calls : d .calls ≡ b .calls
 
-abbrev pub routine : ℕ → List Code → List Code
-routine n body = head base n ++ (body ++ cleanup base)
+-- the records of a routine with n arguments around a body of k records
+abbrev pub routine : ℕ → ℕ → List ℕ → List Code
+routine n k body = head base n ++ (codesOf k body ++ cleanup base)
 
 abbrev pub fresh : View → Config
 fresh v = config v Absent []
 
--- a run of the whole that ends at RET
-pub record Returns (words : ℕ → ℕ) (p : List Code) (limit : ℕ) (v : View) (b : Config) : Type 0 where
+-- a run of the routine's bytes that ends at RET
+pub record Returns (words : ℕ → ℕ) (bytes : List ℕ) (limit : ℕ) (v : View) (b : Config) : Type 0 where
   pub steps : ℕ
   pub within : steps ≤ limit
   pub last : Config
-  pub run : started words p limit v ≡ done (Ended steps) last
+  pub run : ran words bytes limit v ≡ done (Ended steps) last
   pub state : Returned (v .reg) b last
 
--- a routine with n arguments around a body, entered in the state v
-pub record Frames (words : ℕ → ℕ) (n : ℕ) (body : List Code) (v : View) : Type 0 where
-  -- the configuration that the body starts from, at place 16 + n
+-- such a routine, entered in the state v
+pub record Frames (words : ℕ → ℕ) (n k : ℕ) (body : List ℕ) (v : View) : Type 0 where
+  -- the configuration that the body starts from: a run of the routine's bytes comes to it in 16 + n steps
   pub entered : Config
-  pub enters : Reaches words (routine n body) (16 + n) 0 (16 + n) (fresh v) entered
+  pub starts : ran words (routineBytes base n body) (16 + n) v ≡ done (Limit (16 + n)) entered
   pub state : SetUp n v entered
-  -- if the body comes to the cleanup's place, by its end or by a jump, with STACK and the saved words as they were
-  pub returns : (most : ℕ) (b : Config) → Reaches words (routine n body) most (16 + n) (16 + n + length body) entered b
+  -- if the body, from place 16 + n, comes to the cleanup's place, by its end or by a jump, with STACK and the saved words as they were
+  pub returns : (most : ℕ) (b : Config) → Reaches words (routine n k body) most (16 + n) (16 + n + k) entered b
       → b .state .reg STACK ≡ 1099511625672 → SavedIn (b .state .stk) (v .reg)
-      → (limit : ℕ) → 16 + n + most + 9 ≤ limit → Returns words (routine n body) limit v b
+      → (limit : ℕ) → 16 + n + most + 9 ≤ limit → Returns words (routineBytes base n body) limit v b
 
+-- an accepted routine beside a heap that the machine takes
 unfoldable pub RoutineReturns : Type 0
-RoutineReturns = (words : ℕ → ℕ) (n : ℕ) (body : List Code) (v : View) → n ≤ 5 → v .reg STACK ≡ 1099511627768 → Frames words n body v
+RoutineReturns =
+    (words : ℕ → ℕ) (room n k : ℕ) (body : List ℕ) (v : View) → Bytes body → accepted (routineAnswer base room n body) ≡ true → checkedCodes 65506 body ≡ Good k
+    → v .reg STACK ≡ 1099511627768 → heapOk (v .size) ≡ true → Frames words n k body v

@@ -1,4 +1,4 @@
--- load_immediate, mov, add, sub and mul do what they name: one lemma over the operation, for every mixture of registers and spills.
+-- mov, add, sub and mul do what they name: one lemma over the operation, for every mixture of registers and spills.
 use Prim.Native.Nat.{ℕ, _%_, _^_, _≤_, _<_}
 use mathlib.Core.Path.{_≡_, refl, sym, ap, _∙_}
 use mathlib.Core.Logic.{_≢_}
@@ -15,15 +15,15 @@ use Rattle.word.specs.Words.{sum, product}
 use Rattle.instructions.specs.Step.{Config}
 use Rattle.positions.specs.Held.{held, Placed}
 use Rattle.positions.specs.Runs.{Does, then, so}
-use Rattle.meaning.specs.Claims.{Sets, Computes, ComputesWhatItNames}
-use Rattle.meaning.proofs.Puts.{Given, given, Puts, puts-sets, placed-after, puts-other, puts-again, by-temp}
-use Rattle.meaning.proofs.Records.{Basic, plus, minus, times, number, result, to-does, from-does, register-does, spill-does, immediate-does}
+use Rattle.meaning.specs.Claims.{Sets}
+use Rattle.meaning.proofs.Puts.{Given, Puts, puts-sets, placed-after, puts-other, puts-again, by-temp}
+use Rattle.meaning.proofs.Records.{Basic, minus, number, result, to-does, from-does, register-does, spill-does}
 
-sum-comm : (x y : ℕ) → sum x y ≡ sum y x
+pub sum-comm : (x y : ℕ) → sum x y ≡ sum y x
 unfolding sum
 sum-comm x y = ap (λ n. n % 2 ^ 64) (add-comm x y)
 
-product-comm : (x y : ℕ) → product x y ≡ product y x
+pub product-comm : (x y : ℕ) → product x y ≡ product y x
 unfolding product
 product-comm x y = ap (λ n. n % 2 ^ 64) (mul-comm x y)
 
@@ -94,7 +94,7 @@ module _ (words : ℕ → ℕ) {N : ℕ} (c : Config) (v : Placed N c) where
     through o = through-does o t x y (f .below) (g .below) k
 
     -- where the operation may take its sources in the other sequence
-    commutative-does : (o : Basic) → result o (held c x) (held c y) ≡ result o (held c y) (held c x) → Named o (commutative base (number o) t x y)
+    pub commutative-does : (o : Basic) → result o (held c x) (held c y) ≡ result o (held c y) (held c x) → Named o (commutative base (number o) t x y)
     commutative-does o comm =
         shape-does o (toRegister base (number o) t x) (cond (eqb t y) (toSpill base (number o) t x) (throughTemp base (number o) t x y))
         (λ h e. rw (comm, ← e) (so (register-does words c v t x h (g .below) o) (λ d. puts-sets)))
@@ -104,20 +104,6 @@ module _ (words : ℕ → ℕ) {N : ℕ} (c : Config) (v : Placed N c) where
         by h true e = rw (comm, ← (eqb-true t y e)) (spill-in-place o t x h (f .below) (g .below))
         by h false e = through o
 
-    subtraction-does : Named minus (subtraction base t x y)
+    pub subtraction-does : Named minus (subtraction base t x y)
     subtraction-does =
         shape-does minus (throughTemp base 1 t x y) (throughTemp base 1 t x y) (λ h e. through minus) (λ h. through minus)
-
-    pub computed : (value : ℕ) → Computes words c t x y value
-    computed value =
-        record {
-          load-immediate = so (immediate-does words c v t value (f .below)) (λ d. puts-sets);
-          mov = mov-does t x (f .below) (g .below);
-          add = commutative-does plus (sum-comm (held c x) (held c y));
-          sub = subtraction-does;
-          mul = commutative-does times (product-comm (held c x) (held c y));
-        }
-
-pub computes-what-it-names : ComputesWhatItNames
-unfolding ComputesWhatItNames
-computes-what-it-names words N c v t x y value f g k = computed words c v t x y (given t f) (given x g) (given y k) value

@@ -1,16 +1,17 @@
 -- div and rem do what they name, or fault: RETURN2 waits in TEMP and RETURN1 in the target while the division uses both.
-use Prim.Native.Nat.{ℕ, _-_, _^_, _≤_, _<_}
+use Prim.Native.Nat.{ℕ, _≤_, _<_}
 use mathlib.Core.Path.{_≡_, refl, sym, ap, _∙_}
 use mathlib.Core.Logic.{_≢_}
-use mathlib.Core.Bool.{Bool, true, false, not, cond, _&&_, _||_}
+use mathlib.Core.Bool.{Bool, true, false, cond}
 use native.Mathlib.Omega.{arith}
 use lib.Dec.{ltb, eqb}
 use borrow.Author.Tests.{ltb-true, ltb-false, eq-eqb, eqb-true, eqb-false}
 use Rattle.records.specs.declared.code.Code.the-variants.{IDIV, IDIVM, CQO, MOV}
+use Rattle.records.specs.declared.order.Operation.the-variants.{Div, Rem}
 use Rattle.trees.specs.Tree.{Tree, leaf, seq}
 use Rattle.layout.specs.Config.{base, STACK, TEMP, RETURN1, RETURN2, stackOffset}
-use Rattle.code.specs.Code.{divideBy, divideKept, restored}
-use Rattle.word.specs.Words.{signs, quotient, remainder, divides}
+use Rattle.code.specs.Code.{divideBy, divideKept, restored, arithmetic}
+use Rattle.word.specs.Words.{signs, quotient, remainder, divisible, divides}
 use Rattle.instructions.specs.declared.instruction.Compared.the-variants.{Absent}
 use Rattle.instructions.specs.declared.memory.Loaded.the-variants.{Word}
 use Rattle.instructions.specs.View.{putReg}
@@ -21,13 +22,19 @@ use Rattle.positions.specs.Held.{held, Placed}
 use Rattle.positions.specs.HeldLemmas.{held-register, placed-keeps}
 use Rattle.positions.specs.PlaceLemmas.{spill-read}
 use Rattle.positions.specs.Runs.{Does, then, go, so}
-use Rattle.meaning.specs.Claims.{Unchanged, Sets, divisionFaults, Stops, DivisionOperands, Divides, DividesWhatItNames}
-use Rattle.meaning.proofs.Puts.{Given, given, unchanged-trans, unchanged-sub, Puts, put, placed-after, puts-other}
+use Rattle.meaning.specs.Claims.{Unchanged, Sets, DivisionOperands}
+use Rattle.meaning.proofs.Puts.{Given, unchanged-trans, unchanged-sub, Puts, put, placed-after, puts-other}
 use Rattle.meaning.proofs.Records.{to-does, from-does}
 
 -- the operands that a division never writes
 abbrev Far : ℕ → ℕ → Type 0
 Far t l = (l ≢ t) × (l ≢ TEMP) × (l ≢ RETURN1) × (l ≢ RETURN2)
+
+-- a division with target t faults, and only t, TEMP and registers 4 and 5 are then other than before
+pub record Stops (words : ℕ → ℕ) (tree : Tree) (c : Config) (t : ℕ) : Type 0 where
+  pub at : Config
+  pub run : evaluate words tree c ≡ faulted at
+  pub rest : Unchanged (Far t) c at
 
 -- with what is known of more operands
 wider : {P Q : ℕ → Type 0} {c d : Config} → Unchanged P c d → ((l : ℕ) → l < 272 → Q l → held d l ≡ held c l) → Unchanged Q c d
@@ -44,13 +51,9 @@ record Comes (words : ℕ → ℕ) (tree : Tree) (c : Config) (R : Evaluated →
 on : {words : ℕ → ℕ} {a b : Tree} {c : Config} {P : Config → Type 0} {R : Evaluated → Type 0} → Does words a c P → ((d : Config) → P d → Comes words b d R) → Comes words (seq a b) c R
 on r k = record { outcome = rw (r .run) (k (r .to) (r .post) .outcome) }
 
-divides-where : (a d : ℕ) → divides (signs a) a d ≡ not (divisionFaults a d)
+divides-where : (a d : ℕ) → divides (signs a) a d ≡ divisible a d
 unfolding divides
-divides-where a d = rw (eq-eqb (signs a) (signs a) refl) (by (eqb d 0) (eqb a (2 ^ 63) && eqb d (2 ^ 64 - 1)))
-  where
-    by : (p q : Bool) → (true && (not p && not q)) ≡ not (p || q)
-    by true q = refl
-    by false q = refl
+divides-where a d = rw (eq-eqb (signs a) (signs a) refl)
 
 -- after CQO on a, and after IDIV of a by d
 abbrev extended : Config → ℕ → Config
@@ -60,10 +63,10 @@ abbrev divided : Config → ℕ → ℕ → Config
 divided c a d = changed c (putReg (putReg (c .state) RETURN1 (quotient a d)) RETURN2 (remainder a d))
 
 divide-is : (c : Config) (src : Operand) (a d : ℕ) → valueOf (c .state) src ≡ Word d → c .state .reg RETURN1 ≡ a → c .state .reg RETURN2 ≡ signs a
-    → evaluated (divide src c) ≡ cond (divisionFaults a d) (faulted c) (done (divided c a d))
-divide-is c src a d e l h = rw (e, h, l, divides-where a d) (by (divisionFaults a d))
+    → evaluated (divide src c) ≡ cond (divisible a d) (done (divided c a d)) (faulted c)
+divide-is c src a d e l h = rw (e, h, l, divides-where a d) (by (divisible a d))
   where
-    by : (b : Bool) → evaluated (cond (not b) (next (divided c a d)) (fault c)) ≡ cond b (faulted c) (done (divided c a d))
+    by : (b : Bool) → evaluated (cond b (next (divided c a d)) (fault c)) ≡ cond b (done (divided c a d)) (faulted c)
     by true = refl
     by false = refl
 
@@ -90,7 +93,7 @@ module _ (words : ℕ → ℕ) where
     divisor = held c y
 
     -- RETURN2 in TEMP, RETURN1 in the target, and a word in RETURN1
-    record Ready (d : Config) : Type 0 where
+    record Prepared (d : Config) : Type 0 where
       temp : held d TEMP ≡ held c RETURN2
       saved : held d t ≡ held c RETURN1
       first : held d RETURN1 ≡ dividend
@@ -105,13 +108,13 @@ module _ (words : ℕ → ℕ) where
 
     -- after the division
     abbrev Halfway : Evaluated → Type 0
-    Halfway (done d) = (divisionFaults dividend divisor ≡ false) × (held d RETURN1 ≡ quotient dividend divisor) × Middle (remainder dividend divisor) d
-    Halfway (faulted d) = (divisionFaults dividend divisor ≡ true) × Unchanged (Far t) c d
+    Halfway (done d) = (divisible dividend divisor ≡ true) × (held d RETURN1 ≡ quotient dividend divisor) × Middle (remainder dividend divisor) d
+    Halfway (faulted d) = (divisible dividend divisor ≡ false) × Unchanged (Far t) c d
 
     placed-far : {d : Config} → Unchanged (Far t) c d → Placed N d
     placed-far u = placed-keeps (omega (arith, f .above), omega arith, omega arith, omega arith) (u .kept) v
 
-    divisor-read : (d : Config) → Ready d → valueOf (d .state) (divisorAt y) ≡ Word divisor
+    divisor-read : (d : Config) → Prepared d → valueOf (d .state) (divisorAt y) ≡ Word divisor
     divisor-read d r = by (ltb y 16) refl (eqb y RETURN2) refl
       where
         far : y ≢ RETURN2 → held d y ≡ divisor
@@ -126,7 +129,7 @@ module _ (words : ℕ → ℕ) where
             spill-read (d .state) (placed-far (r .rest)) y m (k .below) ∙ ap Word (far (omega arith))
 
     -- what RETURN2 holds is no matter
-    ready-still : (d : Config) (w : ℕ) → Ready d → Ready (changed d (putReg (d .state) RETURN2 w))
+    ready-still : (d : Config) (w : ℕ) → Prepared d → Prepared (changed d (putReg (d .state) RETURN2 w))
     ready-still d w r =
         let p : Puts RETURN2 w d (changed d (putReg (d .state) RETURN2 w)) = put d RETURN2 w Absent (omega arith) in
         record {
@@ -136,7 +139,7 @@ module _ (words : ℕ → ℕ) where
           rest = unchanged-trans (r .rest) (unchanged-sub (λ l z. z .3) (p .1));
         }
 
-    divided-middle : (d : Config) → Ready d → (held (divided d dividend divisor) RETURN1 ≡ quotient dividend divisor) × Middle (remainder dividend divisor) (divided d dividend divisor)
+    divided-middle : (d : Config) → Prepared d → (held (divided d dividend divisor) RETURN1 ≡ quotient dividend divisor) × Middle (remainder dividend divisor) (divided d dividend divisor)
     divided-middle d r =
         let q : ℕ = quotient dividend divisor in
         let m : ℕ = remainder dividend divisor in
@@ -152,19 +155,19 @@ module _ (words : ℕ → ℕ) where
           },
         )
 
-    halfway : (d : Config) → Ready d → Comes words (divideBy base y) d Halfway
+    halfway : (d : Config) → Prepared d → Comes words (divideBy base y) d Halfway
     halfway d r =
         let low : d .state .reg RETURN1 ≡ dividend = sym (held-register (d .state .reg) (d .state .stk) RETURN1 (omega arith)) ∙ r .first in
         let s = ready-still d (signs dividend) r in
         record {
           outcome = rw (by-is d y dividend low ∙ divide-is (extended d dividend) (divisorAt y) dividend divisor (divisor-read (extended d dividend) s) low refl)
-              (by s (divisionFaults dividend divisor) refl);
+              (by s (divisible dividend divisor) refl);
         }
       where
-        by : Ready (extended d dividend) → (b : Bool) → divisionFaults dividend divisor ≡ b
-            → Halfway (cond b (faulted (extended d dividend)) (done (divided (extended d dividend) dividend divisor)))
-        by s true e = (e, s .rest)
-        by s false e = let m = divided-middle (extended d dividend) s in (e, m .0, m .1)
+        by : Prepared (extended d dividend) → (b : Bool) → divisible dividend divisor ≡ b
+            → Halfway (cond b (done (divided (extended d dividend) dividend divisor)) (faulted (extended d dividend)))
+        by s true e = let m = divided-middle (extended d dividend) s in (e, m .0, m .1)
+        by s false e = (e, s .rest)
 
     kept-halfway : Comes words (divideKept base t x y) c Halfway
     kept-halfway =
@@ -209,17 +212,18 @@ module _ (words : ℕ → ℕ) where
                 let k₂ = eqb-false l RETURN2 u in
                 puts-other p₃ l h k₂ ∙ puts-other p₂ l h (z .0) ∙ puts-other p₁ l h k₁ ∙ m .rest .kept .kept l h (z .0, z .1, k₁, k₂)
 
+    -- a tree leaves w in the target where the division has a result, and stops where it has none
+    abbrev pub Divides : Tree → ℕ → Type 0
+    Divides tree w = (divisible dividend divisor ≡ true → Does words tree c (Sets t w c)) × (divisible dividend divisor ≡ false → Stops words tree c t)
+
     -- a whole division: what follows its first half, where that is done
     whole : (tail : Tree) (w : ℕ) → ((d : Config) → held d RETURN1 ≡ quotient dividend divisor → Middle (remainder dividend divisor) d → Does words tail d (Sets t w c))
-        → (divisionFaults dividend divisor ≡ false → Does words (seq (divideKept base t x y) tail) c (Sets t w c))
-        × (divisionFaults dividend divisor ≡ true → Stops words (seq (divideKept base t x y) tail) c t)
+        → Divides (seq (divideKept base t x y) tail) w
     whole tail w k = by (evaluate words (divideKept base t x y) c) refl (kept-halfway .outcome)
       where
-        by : (o : Evaluated) → evaluate words (divideKept base t x y) c ≡ o → Halfway o
-            → (divisionFaults dividend divisor ≡ false → Does words (seq (divideKept base t x y) tail) c (Sets t w c))
-            × (divisionFaults dividend divisor ≡ true → Stops words (seq (divideKept base t x y) tail) c t)
-        by (done d) e h = (λ z. go e (k d (h .1) (h .2)), λ z. unlike (sym z ∙ h .0))
-        by (faulted d) e h = (λ z. unlike (sym (h .0) ∙ z), λ z. record { at = d; run = rw e; rest = h .1 })
+        by : (o : Evaluated) → evaluate words (divideKept base t x y) c ≡ o → Halfway o → Divides (seq (divideKept base t x y) tail) w
+        by (done d) e h = (λ z. go e (k d (h .1) (h .2)), λ z. unlike (sym (h .0) ∙ z))
+        by (faulted d) e h = (λ z. unlike (sym z ∙ h .0), λ z. record { at = d; run = rw e; rest = h .1 })
 
     quotient-does : (d : Config) → held d RETURN1 ≡ quotient dividend divisor → Middle (remainder dividend divisor) d
         → Does words (seq (leaf (MOV RETURN2 RETURN1) refl) (restored base t)) d (Sets t (quotient dividend divisor) c)
@@ -232,12 +236,8 @@ module _ (words : ℕ → ℕ) where
           rest = unchanged-trans (m .rest) (unchanged-sub (λ l z. z .3) (p .1));
         }))
 
-    pub division : Divides words c t x y
-    division =
-        let q = whole (seq (leaf (MOV RETURN2 RETURN1) refl) (restored base t)) (quotient dividend divisor) quotient-does in
-        let r = whole (restored base t) (remainder dividend divisor) (λ d e m. restored-does (remainder dividend divisor) d m) in
-        record { div = q .0; rem = r .0; div-faults = q .1; rem-faults = r .1 }
+    pub quotient-whole : Divides (arithmetic base Div t x y) (quotient dividend divisor)
+    quotient-whole = whole (seq (leaf (MOV RETURN2 RETURN1) refl) (restored base t)) (quotient dividend divisor) quotient-does
 
-pub divides-what-it-names : DividesWhatItNames
-unfolding DividesWhatItNames
-divides-what-it-names words N c v t x y f g k n = division words c v t x y (given t f) (given x g) (given y k) n
+    pub remainder-whole : Divides (arithmetic base Rem t x y) (remainder dividend divisor)
+    remainder-whole = whole (restored base t) (remainder dividend divisor) (λ d e m. restored-does (remainder dividend divisor) d m)

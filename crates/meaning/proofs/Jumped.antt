@@ -18,6 +18,8 @@ use Rattle.layout.specs.Positions.{operandOk}
 use Rattle.code.specs.declared.emitters.Condition.{Condition}
 use Rattle.code.specs.declared.emitters.Condition.the-variants.{Equal, NotEqual, Less, LessOrEqual, Greater, GreaterOrEqual}
 use Rattle.code.specs.Code.{jumpIf, compareWords, compareImmediate}
+use Rattle.code.specs.Sizes.{plain-compare, plain-compare-immediate}
+use Rattle.operations.specs.declared.operation.Operation.the-variants.{Label}
 use Rattle.operations.specs.Operations.{recordsOf}
 use Rattle.word.specs.Words.{choose}
 use Rattle.instructions.specs.declared.instruction.Compared.the-variants.{Of}
@@ -85,24 +87,6 @@ module _ (words : ℕ → ℕ) {N : ℕ} (c : Config) (v : Placed N c) where
       by true e = one (ap evaluated (compares c (register x) (immediate value) refl (register-read c x (ltb-true x 16 e)))) (refl, paired c _ _ (same c))
       by false e = one (ap evaluated (compares c (memory STACK (stackOffset base x)) (immediate value) refl (spill-read (c .state) v x (ltb-false x 16 e) (f .below)))) (refl, paired c _ _ (same c))
 
--- compares draw no label
-compare-unlabelled : (x y : ℕ) → labels (compareWords base x y) ≡ 0
-compare-unlabelled x y = by (ltb x 16) (ltb y 16)
-  where
-    by : (a b : Bool) → labels (cond a (cond b (leaf (CMP x y) refl) (leaf (CMPRM x STACK (stackOffset base y)) refl))
-        (cond b (leaf (CMPMR STACK (stackOffset base x) y) refl) (seq (leaf (MOVL TEMP STACK (stackOffset base x)) refl) (leaf (CMPRM TEMP STACK (stackOffset base y)) refl)))) ≡ 0
-    by true true = refl
-    by true false = refl
-    by false true = refl
-    by false false = refl
-
-immediate-unlabelled : (x value : ℕ) → labels (compareImmediate base x value) ≡ 0
-immediate-unlabelled x value = by (ltb x 16)
-  where
-    by : (a : Bool) → labels (cond a (leaf (CMPI x value) refl) (leaf (CMPIM STACK (stackOffset base x) value) refl)) ≡ 0
-    by true = refl
-    by false = refl
-
 -- a conditional jump goes by the relation of the words compared last
 jump-is : (words : ℕ → ℕ) (k : Condition) (label x y : ℕ) (d : Config) → d .pair ≡ Of x y
     → step words (jumpIf k label) d ≡ cond (relation k x y) (jump label (dropped d)) (next (dropped d))
@@ -156,11 +140,11 @@ module _ (words : ℕ → ℕ) (p : List Code) (label i j : ℕ) (c : Config) (f
       where
         words-go : (k : Condition) (x y : ℕ) → operandOk base x ≡ true → operandOk base y ≡ true
             → GoesIf (relation k (held c x) (held c y)) words p i j (flat (compareWords base x y) 0 ++ (jumpIf k label ∷ [])) c
-        words-go k x y a b = branch-goes (compareWords base x y) k (held c x) (held c y) (compare-unlabelled x y) (compare-does words c v x y (given x a) (given y b))
+        words-go k x y a b = branch-goes (compareWords base x y) k (held c x) (held c y) (plain-compare base x y .none) (compare-does words c v x y (given x a) (given y b))
 
         value-goes : (k : Condition) (x value : ℕ) → operandOk base x ≡ true
             → GoesIf (relation k (held c x) value) words p i j (flat (compareImmediate base x value) 0 ++ (jumpIf k label ∷ [])) c
-        value-goes k x value a = branch-goes (compareImmediate base x value) k (held c x) value (immediate-unlabelled x value) (immediate-does words c v x value (given x a))
+        value-goes k x value a = branch-goes (compareImmediate base x value) k (held c x) value (plain-compare-immediate base x value .none) (immediate-does words c v x value (given x a))
 
 pub jumps-where-it-names : JumpsWhereItNames
 unfolding JumpsWhereItNames
@@ -168,4 +152,7 @@ jumps-where-it-names words p label i j N c e v = jumps words p label i j c (ap t
 
 pub label-does-nothing : LabelDoesNothing
 unfolding LabelDoesNothing recordsOf
-label-does-nothing words p label i c rest e = record { at = dropped c; run = rw (add-one i) (mark-does words p i e c); rest = unpaired (same c) }
+label-does-nothing words p label i c rest e =
+    let records : List Code = recordsOf base (Label label) in
+    let r : Reaches words p (length records) i (i + length records) c (dropped c) = rw (add-one i) (mark-does words p i e c) in
+    record { at = dropped c; run = r; rest = unpaired (same c) }

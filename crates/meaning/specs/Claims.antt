@@ -1,34 +1,35 @@
--- What the crate promises: the records of code.rs's operations do on document 01's machine what they name, for every operand that a caller may give
--- (registers 4..15 and spills 1..255, the target equal to a source included) and STACK where the routine's setup leaves it.
--- An operand is a word, register r is r and spill p is 16 + p; `held c l` is the word at operand l. Words are any numbers: sums, differences and
--- products are taken modulo 2^64 whatever the operands hold.
-use Prim.Native.Nat.{ℕ, _+_, _-_, _^_, _≤_, _<_}
+-- What the crate promises: the bytes that code.rs's operations write do on document 01's machine what they name, for every operand that a caller may give
+-- (registers 4..15 and spills 1..255, the target equal to a source included), with STACK where the routine's setup leaves it; and jumps go where they name in every list of
+-- records. An operand is a word, register r is r and spill p is 16 + p; `held c l` is the word at operand l. Words are any numbers: sums, differences and products are
+-- taken modulo 2^64 whatever the operands hold.
+use Prim.Native.Nat.{ℕ, _+_, _^_, _≤_, _<_}
 use mathlib.Core.Path.{_≡_}
 use mathlib.Core.Logic.{_≢_}
-use mathlib.Core.Bool.{Bool, true, false, not, _&&_, _||_}
+use mathlib.Core.Bool.{Bool, true, false, not}
 use mathlib.Core.List.{List, [], _∷_, _++_}
 use lib.Dec.{eqb}
 use lib.ListN.{length, drop}
 use Rattle.records.specs.declared.code.Code.{Code}
+use Rattle.records.specs.declared.order.Operation.{Operation}
 use Rattle.records.specs.declared.order.Operation.the-variants.{Add, Sub, Mul, Div, Rem}
-use Rattle.trees.specs.Tree.{Tree}
-use Rattle.layout.specs.Config.{base, TEMP, RETURN1, RETURN2}
+use Rattle.records.specs.ReadBack.{joined, codeBytes}
+use Rattle.layout.specs.Config.{base, STACK, TEMP, RETURN1, RETURN2}
 use Rattle.layout.specs.Positions.{operandOk}
 use Rattle.code.specs.declared.emitters.Condition.{Condition}
 use Rattle.code.specs.declared.emitters.Condition.the-variants.{Equal, NotEqual, Less, LessOrEqual, Greater, GreaterOrEqual}
-use Rattle.code.specs.Code.{jumpIf, loadImmediate, moved, arithmetic}
+use Rattle.code.specs.Code.{jumpIf}
 use Rattle.operations.specs.declared.operation.Operation.the-variants.{Label, JumpLabel, JumpLabelFixed, JumpLabelIf, JumpLabelIfZero, LoadImmediate, Arithmetic, Mov, Compare, CompareImmediate}
 use Rattle.operations.specs.Operations.{recordsOf}
-use Rattle.word.specs.Words.{sum, difference, product, quotient, remainder, choose, less}
+use Rattle.word.specs.Words.{choose, less}
+use Rattle.word.specs.Results.{result, resultDefined}
 use Rattle.instructions.specs.declared.instruction.Compared.the-variants.{Absent}
 use Rattle.instructions.specs.View.{View}
+use Rattle.instructions.specs.Memory.{heapOk}
 use Rattle.instructions.specs.Step.{Config, config}
 use Rattle.machine.specs.declared.run.Answer.the-variants.{Ended, Fault}
-use Rattle.machine.specs.Run.{placesOf, done, started}
-use Rattle.structured.specs.Evaluation.{faulted, evaluate}
+use Rattle.machine.specs.Run.{placesOf, done, ran}
 use Rattle.structured.specs.Claims.{Reaches}
 use Rattle.positions.specs.Held.{stackWord, held, Keeps, Placed}
-use Rattle.positions.specs.Runs.{Does}
 
 -- from c to d nothing changed but operands outside P and the compare
 pub record Unchanged (P : ℕ → Type 0) (c d : Config) : Type 0 where
@@ -42,36 +43,6 @@ pub record Unchanged (P : ℕ → Type 0) (c d : Config) : Type 0 where
 abbrev pub Sets : ℕ → ℕ → Config → Config → Type 0
 Sets t w c d = (held d t ≡ w) × Unchanged (λ l. (l ≢ t) × (l ≢ TEMP)) c d
 
--- the operations that never fault, with the words that the sources held before
-pub record Computes (words : ℕ → ℕ) (c : Config) (t x y value : ℕ) : Type 0 where
-  pub load-immediate : Does words (loadImmediate base t value) c (Sets t value c)
-  pub mov : Does words (moved base t x) c (Sets t (held c x) c)
-  pub add : Does words (arithmetic base Add t x y) c (Sets t (sum (held c x) (held c y)) c)
-  pub sub : Does words (arithmetic base Sub t x y) c (Sets t (difference (held c x) (held c y)) c)
-  pub mul : Does words (arithmetic base Mul t x y) c (Sets t (product (held c x) (held c y)) c)
-
-unfoldable pub ComputesWhatItNames : Type 0
-ComputesWhatItNames =
-    (words : ℕ → ℕ) (blocks : ℕ) (c : Config) → Placed blocks c
-    → (t x y value : ℕ) → operandOk base t ≡ true → operandOk base x ≡ true → operandOk base y ≡ true → Computes words c t x y value
-
--- whether the division of word a by word d faults: by zero, or −2^63 by −1
-abbrev pub divisionFaults : ℕ → ℕ → Bool
-divisionFaults a d = eqb d 0 || (eqb a (2 ^ 63) && eqb d (2 ^ 64 - 1))
-
--- a division with target t faults, and only t, TEMP and registers 4 and 5 are then other than before
-pub record Stops (words : ℕ → ℕ) (tree : Tree) (c : Config) (t : ℕ) : Type 0 where
-  pub at : Config
-  pub run : evaluate words tree c ≡ faulted at
-  pub rest : Unchanged (λ l. (l ≢ t) × (l ≢ TEMP) × (l ≢ RETURN1) × (l ≢ RETURN2)) c at
-
--- signed quotient and remainder, truncated toward zero, of the words that the sources held before; or the fault
-pub record Divides (words : ℕ → ℕ) (c : Config) (t x y : ℕ) : Type 0 where
-  pub div : divisionFaults (held c x) (held c y) ≡ false → Does words (arithmetic base Div t x y) c (Sets t (quotient (held c x) (held c y)) c)
-  pub rem : divisionFaults (held c x) (held c y) ≡ false → Does words (arithmetic base Rem t x y) c (Sets t (remainder (held c x) (held c y)) c)
-  pub div-faults : divisionFaults (held c x) (held c y) ≡ true → Stops words (arithmetic base Div t x y) c t
-  pub rem-faults : divisionFaults (held c x) (held c y) ≡ true → Stops words (arithmetic base Rem t x y) c t
-
 -- the target differs from both sources and from registers 4 and 5, and the divisor is not register 4
 pub record DivisionOperands (t x y : ℕ) : Type 0 where
   pub not-dividend : t ≢ x
@@ -80,10 +51,13 @@ pub record DivisionOperands (t x y : ℕ) : Type 0 where
   pub not-remainder : t ≢ RETURN2
   pub divisor : y ≢ RETURN1
 
-unfoldable pub DividesWhatItNames : Type 0
-DividesWhatItNames =
-    (words : ℕ → ℕ) (blocks : ℕ) (c : Config) → Placed blocks c
-    → (t x y : ℕ) → operandOk base t ≡ true → operandOk base x ≡ true → operandOk base y ≡ true → DivisionOperands t x y → Divides words c t x y
+-- what an operation asks of its operands
+abbrev pub OperandsFor : Operation → ℕ → ℕ → ℕ → Type 0
+OperandsFor Add t x y = Unit {0}
+OperandsFor Sub t x y = Unit {0}
+OperandsFor Mul t x y = Unit {0}
+OperandsFor Div t x y = DivisionOperands t x y
+OperandsFor Rem t x y = DivisionOperands t x y
 
 -- the relation that a condition names, of words as signed numbers
 abbrev pub relation : Condition → ℕ → ℕ → Bool
@@ -121,7 +95,7 @@ pub record Jumps (words : ℕ → ℕ) (p : List Code) (label i j : ℕ) (c : Co
   pub compare-immediate : (k : Condition) (x value : ℕ) → operandOk base x ≡ true
       → GoesIf (relation k (held c x) value) words p i j (recordsOf base (CompareImmediate x value) ++ (jumpIf k label ∷ [])) c
 
--- in a list that holds the label once
+-- in a list that holds the label once; its bytes run as its records do (`written_is_read`, lists)
 unfoldable pub JumpsWhereItNames : Type 0
 JumpsWhereItNames =
     (words : ℕ → ℕ) (p : List Code) (label i j blocks : ℕ) (c : Config) → placesOf label p 0 ≡ j ∷ [] → Placed blocks c → Jumps words p label i j c
@@ -134,15 +108,20 @@ LabelDoesNothing = (words : ℕ → ℕ) (p : List Code) (label i : ℕ) (c : Co
 abbrev pub fresh : View → Config
 fresh v = config v Absent []
 
--- the records alone, from the first and with their number as step limit, run to the end
+-- a state that operations run in: STACK where the routine's setup leaves it, and a heap that the machine takes
+pub record Ready (v : View) : Type 0 where
+  pub stack : v .reg STACK ≡ 1099511625672
+  pub heap : heapOk (v .size) ≡ true
+
+-- the bytes of the records, run from the first with their number as step limit, come to the end
 pub record EndsWith (words : ℕ → ℕ) (records : List Code) (v : View) (Q : Config → Type 0) : Type 0 where
   pub steps : ℕ
   pub within : steps ≤ length records
   pub last : Config
-  pub run : started words records (length records) v ≡ done (Ended steps) last
+  pub run : ran words (joined codeBytes records) (length records) v ≡ done (Ended steps) last
   pub post : Q last
 
--- they run to a fault, at one of them; a division's, with target t
+-- they come to a fault, at one of them; a division's with target t, and only t, TEMP and registers 4 and 5 are then other than before
 pub record FaultsWith (words : ℕ → ℕ) (records : List Code) (v : View) (t : ℕ) : Type 0 where
   pub steps : ℕ
   pub within : steps < length records
@@ -150,24 +129,19 @@ pub record FaultsWith (words : ℕ → ℕ) (records : List Code) (v : View) (t 
   pub above : 0 < place
   pub below : place ≤ length records
   pub last : Config
-  pub run : started words records (length records) v ≡ done (Fault steps place) last
+  pub run : ran words (joined codeBytes records) (length records) v ≡ done (Fault steps place) last
   pub rest : Unchanged (λ l. (l ≢ t) × (l ≢ TEMP) × (l ≢ RETURN1) × (l ≢ RETURN2)) (fresh v) last
 
--- what the records that the operations write do when they are run
-pub record Runs (words : ℕ → ℕ) (v : View) (t x y value : ℕ) : Type 0 where
-  pub load-immediate : EndsWith words (recordsOf base (LoadImmediate t value)) v (Sets t value (fresh v))
+-- what the records that the operations without jumps write do when they are run, by the words that the sources held before
+pub record Runs (words : ℕ → ℕ) (v : View) (t x y : ℕ) : Type 0 where
+  pub load-immediate : (value : ℕ) → value < 2 ^ 64 → EndsWith words (recordsOf base (LoadImmediate t value)) v (Sets t value (fresh v))
   pub mov : EndsWith words (recordsOf base (Mov t x)) v (Sets t (held (fresh v) x) (fresh v))
-  pub add : EndsWith words (recordsOf base (Arithmetic Add t x y)) v (Sets t (sum (held (fresh v) x) (held (fresh v) y)) (fresh v))
-  pub sub : EndsWith words (recordsOf base (Arithmetic Sub t x y)) v (Sets t (difference (held (fresh v) x) (held (fresh v) y)) (fresh v))
-  pub mul : EndsWith words (recordsOf base (Arithmetic Mul t x y)) v (Sets t (product (held (fresh v) x) (held (fresh v) y)) (fresh v))
-  pub div : DivisionOperands t x y → divisionFaults (held (fresh v) x) (held (fresh v) y) ≡ false
-      → EndsWith words (recordsOf base (Arithmetic Div t x y)) v (Sets t (quotient (held (fresh v) x) (held (fresh v) y)) (fresh v))
-  pub rem : DivisionOperands t x y → divisionFaults (held (fresh v) x) (held (fresh v) y) ≡ false
-      → EndsWith words (recordsOf base (Arithmetic Rem t x y)) v (Sets t (remainder (held (fresh v) x) (held (fresh v) y)) (fresh v))
-  pub div-faults : DivisionOperands t x y → divisionFaults (held (fresh v) x) (held (fresh v) y) ≡ true → FaultsWith words (recordsOf base (Arithmetic Div t x y)) v t
-  pub rem-faults : DivisionOperands t x y → divisionFaults (held (fresh v) x) (held (fresh v) y) ≡ true → FaultsWith words (recordsOf base (Arithmetic Rem t x y)) v t
+  pub arithmetic : (o : Operation) → OperandsFor o t x y → resultDefined o (held (fresh v) x) (held (fresh v) y) ≡ true
+      → EndsWith words (recordsOf base (Arithmetic o t x y)) v (Sets t (result o (held (fresh v) x) (held (fresh v) y)) (fresh v))
+  pub faults : (o : Operation) → OperandsFor o t x y → resultDefined o (held (fresh v) x) (held (fresh v) y) ≡ false
+      → FaultsWith words (recordsOf base (Arithmetic o t x y)) v t
 
 unfoldable pub RunsAsItNames : Type 0
 RunsAsItNames =
-    (words : ℕ → ℕ) (blocks : ℕ) (v : View) → Placed blocks (fresh v)
-    → (t x y value : ℕ) → operandOk base t ≡ true → operandOk base x ≡ true → operandOk base y ≡ true → Runs words v t x y value
+    (words : ℕ → ℕ) (v : View) → Ready v
+    → (t x y : ℕ) → operandOk base t ≡ true → operandOk base x ≡ true → operandOk base y ≡ true → Runs words v t x y

@@ -1,15 +1,12 @@
 -- The plain machine that never frees, fed the orders that were accepted. From document 01, 'Plain machine of demand 3'.
-use Prim.Native.Nat.{ℕ, _-_, _^_}
+use Prim.Native.Nat.{ℕ, _-_}
 use mathlib.Core.Path.{_≡_}
-use mathlib.Core.Bool.{Bool, true, not, _&&_}
+use mathlib.Core.Bool.{true}
 use mathlib.Core.List.{List}
-use lib.Dec.{eqb}
-use Rattle.records.specs.declared.order.Operation.{Operation}
-use Rattle.records.specs.declared.order.Operation.the-variants.{Add, Sub, Mul, Div, Rem}
 use Rattle.records.specs.declared.order.Order.{Order}
 use Rattle.records.specs.declared.order.Order.the-variants.{Put, Compute, Copy, Drop, Store, Load, Print}
 use Rattle.records.specs.Contexts.{extAt}
-use Rattle.word.specs.Words.{sum, difference, product, quotient, remainder}
+use Rattle.word.specs.Results.{result, resultDefined}
 use Rattle.heap.specs.Orders.{listOf}
 use Rattle.heap.specs.Values.{Value, integer, object, Values, nil, cons, countOf, joined, firstOf, restOf, valueAt, copies, KindsFrom}
 
@@ -17,25 +14,6 @@ use Rattle.heap.specs.Values.{Value, integer, object, Values, nil, cons, countO
 abbrev pub integerOf : Value → ℕ
 integerOf (integer w) = w
 integerOf (object tag vs) = 0
-
--- wrapped at 2^64; quotients and remainders are signed and truncate toward zero
-abbrev pub result : Operation → ℕ → ℕ → ℕ
-result Add x y = sum x y
-result Sub x y = difference x y
-result Mul x y = product x y
-result Div x y = quotient x y
-result Rem x y = remainder x y
-
--- no division by zero, nor of −2^63 by −1
-abbrev pub divisible : ℕ → ℕ → Bool
-divisible x y = not (eqb y 0) && not (eqb x (2 ^ 63) && eqb y (2 ^ 64 - 1))
-
-abbrev pub resultDefined : Operation → ℕ → ℕ → Bool
-resultDefined Add x y = true
-resultDefined Sub x y = true
-resultDefined Mul x y = true
-resultDefined Div x y = divisible x y
-resultDefined Rem x y = divisible x y
 
 unfoldable pub plainly : Order → Values → Values
 plainly (Put value) vs = joined vs (cons (integer value) nil)

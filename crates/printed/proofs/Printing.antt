@@ -10,6 +10,7 @@ use lib.Dec.{ltb}
 use lib.ListN.{length}
 use borrow.Author.Tests.{ltb-true, ltb-false}
 use Rattle.records.specs.declared.code.Code.the-variants.{MOV, MOVL, CALL}
+use Rattle.records.specs.declared.check.Checked.the-variants.{Good}
 use Rattle.records.specs.Contexts.{extAt}
 use Rattle.trees.specs.Tree.{nop, leaf, seq}
 use Rattle.layout.specs.Config.{base, STACK, TEMP, stackOffset}
@@ -17,15 +18,16 @@ use Rattle.layout.specs.Positions.{location}
 use Rattle.word.specs.Words.{choose}
 use Rattle.printing.specs.Registers.{registersToSave, firstBackup, backupsUsed}
 use Rattle.printing.specs.Sizes.{registers-most}
-use Rattle.printing.specs.Print.{saveRegisters, restoreRegisters, printName, printI64}
-use Rattle.instructions.specs.declared.instruction.Compared.the-variants.{Absent}
+use Rattle.printing.specs.Print.{saveRegisters, restoreRegisters, printName, printI64, printRecords}
 use Rattle.instructions.specs.View.{View}
-use Rattle.instructions.specs.Step.{Call, Config, config}
+use Rattle.instructions.specs.Step.{Call, Config}
 use Rattle.positions.specs.Held.{stackWord, held, withRegister, Placed}
 use Rattle.positions.specs.HeldLemmas.{upd-other, held-register, held-spill, location-low, location-high, location-fits}
 use Rattle.positions.specs.RecordLemmas.{spill-MOVL}
 use Rattle.positions.specs.Runs.{Does, go, so}
-use Rattle.meaning.proofs.Ran.{ends}
+use Rattle.written.proofs.Trees.{print-readable}
+use Rattle.meaning.specs.Claims.{fresh}
+use Rattle.meaning.proofs.Ran.{placed, ends}
 use Rattle.heap.specs.Blocks.{Cell, cell}
 use Rattle.bridge.specs.Variables.{variable, variables}
 use Rattle.bridge.specs.Shown.{heapOf}
@@ -164,5 +166,6 @@ print-does words ext newline c k a v h b x =
 
 pub print-keeps-all-variables : PrintKeepsAllVariables
 unfolding PrintKeepsAllVariables
-print-keeps-all-variables words N v s n p newline h q l k =
-    rw q (ends words v (printI64 base newline (location p) (extAt s) n) (position-printed words (extAt s) newline (config v Absent []) n h p l k))
+print-keeps-all-variables words v s n p newline h q l k =
+    rw q (ends words v h (printRecords base newline (location p) s (Good n)) (print-readable newline (location p) s n) (printI64 base newline (location p) (extAt s) n) refl
+    (position-printed words (extAt s) newline (fresh v) n (placed v h) p l k))

@@ -10,11 +10,10 @@ use Rattle.records.specs.Contexts.{checkedContext, extAt}
 use Rattle.layout.specs.Config.{base, STACK, HEAP, FREE}
 use Rattle.layout.specs.Positions.{location, positions}
 use Rattle.printing.specs.Print.{printName, printRecords}
-use Rattle.instructions.specs.declared.instruction.Compared.the-variants.{Absent}
 use Rattle.instructions.specs.View.{View}
-use Rattle.instructions.specs.Step.{Config, config}
-use Rattle.positions.specs.Held.{held, Placed}
-use Rattle.meaning.specs.Claims.{EndsWith}
+use Rattle.instructions.specs.Step.{Config}
+use Rattle.positions.specs.Held.{held}
+use Rattle.meaning.specs.Claims.{fresh, Ready, EndsWith}
 
 -- from c to d a word was printed, and the n variables of these kinds and the heap are as they were
 pub record Prints (newline : Bool) (word : ℕ) (ext : ℕ → Bool) (n : ℕ) (c d : Config) : Type 0 where
@@ -30,10 +29,10 @@ pub record Prints (newline : Bool) (word : ℕ) (ext : ℕ → Bool) (n : ℕ) (
   pub heap-kept : d .state .mem ≡ c .state .mem
   pub size-kept : d .state .size ≡ c .state .size
 
--- print_i64 of any position of a context of n variables
+-- the bytes that print_i64 writes for any position of a context of n variables, run in a state that operations run in
 unfoldable pub PrintKeepsAllVariables : Type 0
 PrintKeepsAllVariables =
-    (words : ℕ → ℕ) (blocks : ℕ) (v : View) (context : List ℕ) (n p : ℕ) (newline : Bool) → Placed blocks (config v Absent [])
+    (words : ℕ → ℕ) (v : View) (context : List ℕ) (n p : ℕ) (newline : Bool) → Ready v
     → checkedContext context ≡ Good n → p < 2 * n → p < positions base
     → EndsWith words (printRecords base newline (location p) context (checkedContext context)) v
-    (Prints newline (held (config v Absent []) (location p)) (extAt context) n (config v Absent []))
+    (Prints newline (held (fresh v) (location p)) (extAt context) n (fresh v))

@@ -1,15 +1,15 @@
 -- A word into the Snd of the variable past the last: put and compute perform a put of the abstract heap.
-use mathlib.Core.Bool.{Bool, true, false, not, _&&_, _||_}
+use mathlib.Core.Bool.{Bool, true, false}
 use mathlib.Core.List.{[], _∷_, _++_}
-use mathlib.Core.Path.{_≡_, refl, sym, _∙_}
-use Prim.Native.Nat.{ℕ, suc, _+_, _-_, _*_, _^_, _≤_, _<_}
+use mathlib.Core.Path.{_≡_, sym, _∙_}
+use Prim.Native.Nat.{ℕ, suc, _+_, _*_, _≤_, _<_}
 use native.Mathlib.Nat.{zero-add}
 use native.Mathlib.Decide.{decLt}
 use native.Mathlib.Omega.{arith}
-use lib.Dec.{eqb}
 use borrow.Author.Tests.{lt-ltb}
 use Rattle.records.specs.declared.order.Operation.{Operation}
 use Rattle.records.specs.declared.order.Operation.the-variants.{Add, Sub, Mul, Div, Rem}
+use Rattle.word.specs.Results.{result, resultDefined}
 use Rattle.layout.specs.Config.{base}
 use Rattle.layout.specs.Positions.{location, operandOk}
 use Rattle.layout.proofs.Placing.{register, spilled}
@@ -21,14 +21,12 @@ use Rattle.heap.specs.Orders.{Order, put, Performs, puts}
 use Rattle.positions.specs.Held.{held, Placed}
 use Rattle.positions.specs.HeldLemmas.{keeps-register, placed-keeps, location-low, location-high, location-grows, location-fits}
 use Rattle.positions.specs.Runs.{Does, so}
-use Rattle.meaning.specs.Claims.{Sets, Computes, Divides, DivisionOperands, divisionFaults}
+use Rattle.meaning.specs.Claims.{Sets, DivisionOperands, OperandsFor}
 use Rattle.meaning.proofs.Puts.{Given, given, puts-sets}
 use Rattle.meaning.proofs.Records.{immediate-does}
-use Rattle.meaning.proofs.Computed.{computed}
-use Rattle.meaning.proofs.Divided.{division}
+use Rattle.meaning.proofs.Operated.{arithmetic-does, arithmetic-stops}
 use Rattle.bridge.specs.Shown.{L, heapOf}
 use Rattle.bridge.specs.Sizes.{objectSizes}
-use Rattle.orders.specs.Plain.{result, divisible, resultDefined}
 use Rattle.bridge.specs.Variables.{variable, variables, variables-snoc, variables-kept, variables-kinds}
 
 -- what an order that changes something leaves: the abstract order performed, STACK and the heap's size as they were, no call
@@ -100,58 +98,23 @@ module _ {N : ℕ} (ext ext′ : ℕ → Bool) (c : Config) (k : ℕ) (v : Place
             by (yes l) = omega (arith, location-low p l)
             by (no l) = omega (arith, location-high p (omega arith))
 
-    -- no fault where the plain machine has none
-    no-fault : (x y : ℕ) → divisible x y ≡ true → divisionFaults x y ≡ false
-    no-fault x y = by (eqb y 0) (eqb x (2 ^ 63)) (eqb y (2 ^ 64 - 1))
-      where
-        by : (p q r : Bool) → not p && not (q && r) ≡ true → p || (q && r) ≡ false
-        by false false r e = refl
-        by false true false e = refl
-        by false true true e = let z : _≡_ {A = ℕ} 0 1 = cc in absurd (omega arith)
-        by true q r e = let z : _≡_ {A = ℕ} 0 1 = cc in absurd (omega arith)
+    apart-for : (o : Operation) → OperandsFor o T A B
+    apart-for Add = tt
+    apart-for Sub = tt
+    apart-for Mul = tt
+    apart-for Div = apart
+    apart-for Rem = apart
+
+    ok : (p : ℕ) → p < 267 → Given (location p)
+    ok p l = given (location p) (position-ok p l)
 
     pub compute-does : (o : Operation) → resultDefined o (held c A) (held c B) ≡ true
         → Does words (arithmetic base o T A B) c (Performed N c (put (result o (held c A) (held c B))) ext ext′ k (suc k))
-    compute-does o e = by o e
-      where
-        ok : (p : ℕ) → p < 267 → Given (location p)
-        ok p l = given (location p) (position-ok p l)
-
-        all : Computes words c T A B 0
-        all = computed words c v T A B (ok (2 * k + 1) (omega arith)) (ok (2 * a + 1) (omega arith)) (ok (2 * b + 1) (omega arith)) 0
-
-        parts : Divides words c T A B
-        parts = division words c v T A B (ok (2 * k + 1) (omega arith)) (ok (2 * a + 1) (omega arith)) (ok (2 * b + 1) (omega arith)) apart
-
-        by : (o : Operation) → resultDefined o (held c A) (held c B) ≡ true → Does words (arithmetic base o T A B) c (Performed N c (put (result o (held c A) (held c B))) ext ext′ k (suc k))
-        by Add e = so (all .add) (appended (result Add (held c A) (held c B)))
-        by Sub e = so (all .sub) (appended (result Sub (held c A) (held c B)))
-        by Mul e = so (all .mul) (appended (result Mul (held c A) (held c B)))
-        by Div e = so (parts .div (no-fault (held c A) (held c B) e)) (appended (result Div (held c A) (held c B)))
-        by Rem e = so (parts .rem (no-fault (held c A) (held c B) e)) (appended (result Rem (held c A) (held c B)))
-
-    -- and a fault where it has one
-    faults-where : (x y : ℕ) → divisible x y ≡ false → divisionFaults x y ≡ true
-    faults-where x y = by (eqb y 0) (eqb x (2 ^ 63)) (eqb y (2 ^ 64 - 1))
-      where
-        by : (p q r : Bool) → not p && not (q && r) ≡ false → p || (q && r) ≡ true
-        by false false r e = let z : _≡_ {A = ℕ} 0 1 = cc in absurd (omega arith)
-        by false true false e = let z : _≡_ {A = ℕ} 0 1 = cc in absurd (omega arith)
-        by false true true e = refl
-        by true q r e = refl
+    compute-does o e =
+        so (arithmetic-does words c v T A B (ok (2 * k + 1) (omega arith)) (ok (2 * a + 1) (omega arith)) (ok (2 * b + 1) (omega arith)) o (apart-for o) e)
+        (appended (result o (held c A) (held c B)))
 
     pub compute-stops : (o : Operation) → resultDefined o (held c A) (held c B) ≡ false → (d : Config) × (evaluate words (arithmetic base o T A B) c ≡ faulted d)
-    compute-stops o e = by o e
-      where
-        ok : (p : ℕ) → p < 267 → Given (location p)
-        ok p l = given (location p) (position-ok p l)
-
-        parts : Divides words c T A B
-        parts = division words c v T A B (ok (2 * k + 1) (omega arith)) (ok (2 * a + 1) (omega arith)) (ok (2 * b + 1) (omega arith)) apart
-
-        by : (o : Operation) → resultDefined o (held c A) (held c B) ≡ false → (d : Config) × (evaluate words (arithmetic base o T A B) c ≡ faulted d)
-        by Add e = let z : _≡_ {A = ℕ} 0 1 = cc in absurd (omega arith)
-        by Sub e = let z : _≡_ {A = ℕ} 0 1 = cc in absurd (omega arith)
-        by Mul e = let z : _≡_ {A = ℕ} 0 1 = cc in absurd (omega arith)
-        by Div e = let p = parts .div-faults (faults-where (held c A) (held c B) e) in (p .at, p .run)
-        by Rem e = let p = parts .rem-faults (faults-where (held c A) (held c B) e) in (p .at, p .run)
+    compute-stops o e =
+        let p = arithmetic-stops words c v T A B (ok (2 * k + 1) (omega arith)) (ok (2 * a + 1) (omega arith)) (ok (2 * b + 1) (omega arith)) o (apart-for o) e in
+        (p .at, p .run)

@@ -27,7 +27,8 @@ use Rattle.bridge.specs.Shown.{L, heapOf}
 use Rattle.bridge.specs.Sizes.{objectSizes}
 use Rattle.bridge.specs.Variables.{variables}
 use Rattle.orders.specs.Answered.{placesIn}
-use Rattle.orders.specs.Plain.{integerOf, result, plainly, AsStored, OwedKinds}
+use Rattle.word.specs.Results.{result}
+use Rattle.orders.specs.Plain.{integerOf, plainly, AsStored, OwedKinds}
 use Rattle.playing.specs.Playing.{Channel}
 use Rattle.soundness.specs.Claims.{stateOf, acquires, changes, Owed}
 use Rattle.soundness.specs.Ending.{start}

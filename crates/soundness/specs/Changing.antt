@@ -37,7 +37,8 @@ use Rattle.bridge.specs.Variables.{variable, variables, variables-length}
 use Rattle.contexts.specs.Bindings.{good-length}
 use Rattle.contexts.specs.Kinds.{ext-left, ext-right, ext-take, ext-made, ext-made-all, kind-at, ext-in, ext-in-whole}
 use Rattle.contexts.specs.ValueKinds.{count-joined, count-first, count-copies, integer-at, kinds-moved}
-use Rattle.orders.specs.Plain.{integerOf, result, resultDefined, plainly, AsStored, OwedKinds, OwedResult}
+use Rattle.word.specs.Results.{result, resultDefined}
+use Rattle.orders.specs.Plain.{integerOf, plainly, AsStored, OwedKinds, OwedResult}
 use Rattle.orders.specs.Writes.{made, madeAll, kindAt, treeOf, contextAfter, present, kindsOk, asked}
 use Rattle.playing.specs.Playing.{Channel}
 use Rattle.soundness.specs.Claims.{changes, Owed}

@@ -45,9 +45,13 @@ quotient x d = signed (differ (negative x) (negative d)) (magnitude x / magnitud
 unfoldable pub remainder : ℕ → ℕ → ℕ
 remainder x d = signed (negative x) (magnitude x % magnitude d)
 
--- the high word is what CQO makes of the low one, the divisor is not zero, and it is not −2^63 by −1
+-- no division by zero, nor of −2^63 by −1
+abbrev pub divisible : ℕ → ℕ → Bool
+divisible x d = not (eqb d 0) && not (eqb x (2 ^ 63) && eqb d (2 ^ 64 - 1))
+
+-- IDIV does not fault: the high word is what CQO makes of the low one, which the divisor divides
 unfoldable pub divides : ℕ → ℕ → ℕ → Bool
-divides high low d = eqb high (signs low) && (not (eqb d 0) && not (eqb low (2 ^ 63) && eqb d (2 ^ 64 - 1)))
+divides high low d = eqb high (signs low) && divisible low d
 
 -- signed order: −2^63 first, so the order of the words with 2^63 added
 unfoldable pub less : ℕ → ℕ → Bool

@@ -1,0 +1,34 @@
+-- The five operations do what they name: one lemma over the operation, and one for where it has no result.
+use Prim.Native.Nat.{ℕ}
+use mathlib.Core.Path.{_≡_}
+use mathlib.Core.Bool.{true, false}
+use native.Mathlib.Omega.{arith}
+use Rattle.records.specs.declared.order.Operation.{Operation}
+use Rattle.records.specs.declared.order.Operation.the-variants.{Add, Sub, Mul, Div, Rem}
+use Rattle.layout.specs.Config.{base}
+use Rattle.code.specs.Code.{arithmetic}
+use Rattle.word.specs.Results.{result, resultDefined}
+use Rattle.instructions.specs.Step.{Config}
+use Rattle.positions.specs.Held.{held, Placed}
+use Rattle.positions.specs.Runs.{Does}
+use Rattle.meaning.specs.Claims.{Sets, OperandsFor}
+use Rattle.meaning.proofs.Puts.{Given}
+use Rattle.meaning.proofs.Records.{plus, times}
+use Rattle.meaning.proofs.Computed.{sum-comm, product-comm, commutative-does, subtraction-does}
+use Rattle.meaning.proofs.Divided.{Stops, quotient-whole, remainder-whole}
+
+module _ (words : ℕ → ℕ) {N : ℕ} (c : Config) (v : Placed N c) (t x y : ℕ) (f : Given t) (g : Given x) (k : Given y) where
+  pub arithmetic-does : (o : Operation) → OperandsFor o t x y → resultDefined o (held c x) (held c y) ≡ true
+      → Does words (arithmetic base o t x y) c (Sets t (result o (held c x) (held c y)) c)
+  arithmetic-does Add n e = commutative-does words c v t x y f g k plus (sum-comm (held c x) (held c y))
+  arithmetic-does Sub n e = subtraction-does words c v t x y f g k
+  arithmetic-does Mul n e = commutative-does words c v t x y f g k times (product-comm (held c x) (held c y))
+  arithmetic-does Div n e = quotient-whole words c v t x y f g k n .0 e
+  arithmetic-does Rem n e = remainder-whole words c v t x y f g k n .0 e
+
+  pub arithmetic-stops : (o : Operation) → OperandsFor o t x y → resultDefined o (held c x) (held c y) ≡ false → Stops words (arithmetic base o t x y) c t
+  arithmetic-stops Add n e = let z : _≡_ {A = ℕ} 0 1 = cc in absurd (omega arith)
+  arithmetic-stops Sub n e = let z : _≡_ {A = ℕ} 0 1 = cc in absurd (omega arith)
+  arithmetic-stops Mul n e = let z : _≡_ {A = ℕ} 0 1 = cc in absurd (omega arith)
+  arithmetic-stops Div n e = quotient-whole words c v t x y f g k n .1 e
+  arithmetic-stops Rem n e = remainder-whole words c v t x y f g k n .1 e
