@@ -172,10 +172,10 @@ module _ (words : ℕ → ℕ) (n : ℕ) (body : List Code) (v : View) where
         by [] e = rw (at-drop p (16 + n) e)
         by (c ∷ cs) e = rw (at-drop p (16 + n) e)
 
-    module _ (most : ℕ) (b : Config) (g : Reaches words p most (16 + n) (16 + n + length body) (x .to) b) where
-      enters : Reaches words p (16 + n) 0 (16 + n) (fresh v) (x .to)
-      enters = record { steps = 16 + n; within = omega arith; run = to-body }
+    enters : Reaches words p (16 + n) 0 (16 + n) (fresh v) (x .to)
+    enters = record { steps = 16 + n; within = omega arith; run = to-body }
 
+    module _ (most : ℕ) (b : Config) (g : Reaches words p most (16 + n) (16 + n + length body) (x .to) b) where
       to-cleanup : Reaches words p (16 + n + most) 0 (16 + n + length body) (fresh v) b
       to-cleanup = after words p (16 + n) most 0 (16 + n) (16 + n + length body) (done b) enters g (omega arith) (16 + n + most) (omega arith)
 
@@ -197,6 +197,7 @@ module _ (words : ℕ → ℕ) (n k : ℕ) (body : List ℕ) (v : View) (x : Ent
   framed-whole =
       record {
         entered = x .to;
+        enters = enters words n (codesOf k body) v x;
         starts = bytes (16 + n) ∙ stopped words n (codesOf k body) v x;
         state = x .state;
         returns = λ most b g a c limit h.

@@ -82,11 +82,12 @@ pub record Returns (words : ℕ → ℕ) (bytes : List ℕ) (limit : ℕ) (v : V
 
 -- such a routine, entered in the state v
 pub record Frames (words : ℕ → ℕ) (n k : ℕ) (body : List ℕ) (v : View) : Type 0 where
-  -- the configuration that the body starts from: a run of the routine's bytes comes to it in 16 + n steps
+  -- the configuration that the body starts from, at place 16 + n: a run of the routine's bytes comes to it in 16 + n steps
   pub entered : Config
+  pub enters : Reaches words (routine n k body) (16 + n) 0 (16 + n) (fresh v) entered
   pub starts : ran words (routineBytes base n body) (16 + n) v ≡ done (Limit (16 + n)) entered
   pub state : SetUp n v entered
-  -- if the body, from place 16 + n, comes to the cleanup's place, by its end or by a jump, with STACK and the saved words as they were
+  -- if the body comes to the cleanup's place, by its end or by a jump, with STACK and the saved words as they were
   pub returns : (most : ℕ) (b : Config) → Reaches words (routine n k body) most (16 + n) (16 + n + k) entered b
       → b .state .reg STACK ≡ 1099511625672 → SavedIn (b .state .stk) (v .reg)
       → (limit : ℕ) → 16 + n + most + 9 ≤ limit → Returns words (routineBytes base n body) limit v b
