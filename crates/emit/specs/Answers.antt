@@ -6,6 +6,7 @@ use mathlib.Core.Path.{_≡_}
 use mathlib.Core.List.{List, [], _∷_}
 use lib.Dec.{ltb}
 use lib.Seq.{sets}
+use Rattle.records.specs.Causes.{ACCEPTED, CONTEXT, MALFORMED, OPERAND, MISSING, ARGUMENTS, COUNT, POSITION, LABELS, ROOM}
 use Rattle.records.specs.declared.code.Code.{Code}
 use Rattle.records.specs.ReadBack.{joined, codeBytes}
 use Rattle.emit.specs.declared.answer.Answer.{Answer}
@@ -13,16 +14,16 @@ use Rattle.emit.specs.declared.answer.Answer.the-variants.{Written, Cont
 
 -- document 01's number and values for each answer: 0, with the records and the counter after them, where they are written
 abbrev pub causeOf : Answer → List ℕ
-causeOf (Written n counter) = 0 ∷ n ∷ counter ∷ []
-causeOf Context = 1 ∷ []
-causeOf (Body place) = 2 ∷ place ∷ []
-causeOf Operand = 3 ∷ []
-causeOf Missing = 4 ∷ []
-causeOf Arguments = 6 ∷ []
-causeOf Count = 7 ∷ []
-causeOf Position = 8 ∷ []
-causeOf Labels = 9 ∷ []
-causeOf (Room bytes) = 10 ∷ bytes ∷ []
+causeOf (Written n counter) = ACCEPTED ∷ n ∷ counter ∷ []
+causeOf Context = CONTEXT ∷ []
+causeOf (Body place) = MALFORMED ∷ place ∷ []
+causeOf Operand = OPERAND ∷ []
+causeOf Missing = MISSING ∷ []
+causeOf Arguments = ARGUMENTS ∷ []
+causeOf Count = COUNT ∷ []
+causeOf Position = POSITION ∷ []
+causeOf Labels = LABELS ∷ []
+causeOf (Room bytes) = ROOM ∷ bytes ∷ []
 
 -- the answer for records of so many bytes that draw n labels
 unfoldable pub granted : ℕ → ℕ → ℕ → ℕ → Answer

@@ -6,6 +6,7 @@ use mathlib.Core.Bool.{Bool, _&&_, _||_, cond}
 use mathlib.Core.List.{List, [], _∷_}
 use lib.Dec.{leb, ltb}
 use lib.ListN.{getD}
+use Rattle.records.specs.Causes.{ACCEPTED, CONTEXT, MISSING, POSITION}
 use Rattle.layout.specs.declared.utils.Temporary.{Temporary}
 use Rattle.layout.specs.declared.utils.Temporary.the-variants.{Operand, Malformed, Missing, OutOfTemporaries}
 use Rattle.layout.specs.Config.{Config}
@@ -32,7 +33,7 @@ positionAnswer g p = cond (ltb p (positions g)) (Operand (location p)) OutOfTemp
 
 -- document 01's number for each answer: 0, with the operand, where there is one
 abbrev pub temporaryCause : Temporary → List ℕ
-temporaryCause (Operand w) = 0 ∷ w ∷ []
-temporaryCause Malformed = 1 ∷ []
-temporaryCause Missing = 4 ∷ []
-temporaryCause OutOfTemporaries = 8 ∷ []
+temporaryCause (Operand w) = ACCEPTED ∷ w ∷ []
+temporaryCause Malformed = CONTEXT ∷ []
+temporaryCause Missing = MISSING ∷ []
+temporaryCause OutOfTemporaries = POSITION ∷ []

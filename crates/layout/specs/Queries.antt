@@ -5,6 +5,7 @@ use mathlib.Core.Bool.{_&&_, cond}
 use mathlib.Core.List.{List, [], _∷_}
 use lib.Dec.{ltb, eqb}
 use lib.ListN.{drop}
+use Rattle.records.specs.Causes.{ACCEPTED, OPERAND}
 use Rattle.records.specs.declared.check.Checked.{Checked}
 use Rattle.records.specs.declared.check.Checked.the-variants.{Good, Malformed}
 use Rattle.records.specs.Contexts.{bindingIn, checkedContext}
@@ -52,5 +53,5 @@ fieldOffset g number i = cond (ltb i (g .fields)) (At (wordOffset number i)) Ope
 
 -- document 01's number for each answer: 0, with the offset, where there is one
 abbrev pub offsetCause : Offset → List ℕ
-offsetCause (At bytes) = 0 ∷ bytes ∷ []
-offsetCause Operand = 3 ∷ []
+offsetCause (At bytes) = ACCEPTED ∷ bytes ∷ []
+offsetCause Operand = OPERAND ∷ []

@@ -5,6 +5,7 @@ use mathlib.Core.Bool.{cond}
 use mathlib.Core.List.{List, [], _∷_, _++_}
 use lib.Dec.{leb}
 use lib.ListN.{length, getD, drop}
+use Rattle.records.specs.Causes.{ACCEPTED, MALFORMED, ROOM}
 use Rattle.records.specs.declared.check.Checked.{Checked}
 use Rattle.records.specs.declared.check.Checked.the-variants.{Good, Malformed as Bad}
 use Rattle.records.specs.declared.code.Fields.{Fields}
@@ -57,9 +58,9 @@ listed names s room = answerOf names s room (checkedList s)
 
 -- document 01's number and values for each answer: 0, with the bytes of the listing, where it is written
 abbrev pub causeOf : Listed → List ℕ
-causeOf (Text size) = 0 ∷ size ∷ []
-causeOf (Malformed place) = 2 ∷ place ∷ []
-causeOf (Short needed) = 10 ∷ needed ∷ []
+causeOf (Text size) = ACCEPTED ∷ size ∷ []
+causeOf (Malformed place) = MALFORMED ∷ place ∷ []
+causeOf (Short needed) = ROOM ∷ needed ∷ []
 
 -- numbers on one line
 abbrev pub row : List ℕ → List ℕ

@@ -5,6 +5,7 @@ use mathlib.Core.Bool.{Bool, cond}
 use mathlib.Core.List.{List, [], _∷_}
 use mathlib.Core.Option.{Option, none, some}
 use lib.ListN.{getElem?}
+use Rattle.records.specs.Causes.{ACCEPTED, MALFORMED, FAULT, LIMIT}
 use Rattle.records.specs.declared.check.Checked.{Checked}
 use Rattle.records.specs.declared.check.Checked.the-variants as checked
 use Rattle.records.specs.declared.code.Code.{Code}
@@ -89,10 +90,10 @@ ran words s limit v =
 
 -- document 01's number and values for each answer: 0, with the steps, where the run ended
 abbrev pub causeOf : Answer → List ℕ
-causeOf (Ended steps) = 0 ∷ steps ∷ []
-causeOf (Malformed place) = 2 ∷ place ∷ []
-causeOf (Fault steps place) = 11 ∷ steps ∷ place ∷ []
-causeOf (Limit limit) = 12 ∷ limit ∷ []
+causeOf (Ended steps) = ACCEPTED ∷ steps ∷ []
+causeOf (Malformed place) = MALFORMED ∷ place ∷ []
+causeOf (Fault steps place) = FAULT ∷ steps ∷ place ∷ []
+causeOf (Limit limit) = LIMIT ∷ limit ∷ []
 
 -- an answer a beside a state and a heap seen as v, as a run leaves them
 pub record Leaves (a : Answer) (v : View) (d : Done) : Type 0 where

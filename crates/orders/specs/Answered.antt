@@ -5,6 +5,7 @@ use mathlib.Core.List.{List, [], _∷_}
 use lib.Dec.{ltb, leb, eqb}
 use lib.ListN.{length, getD}
 use lib.Seq.{sets}
+use Rattle.records.specs.Causes.{ACCEPTED, CONTEXT, MALFORMED, MISSING, KIND, COUNT, POSITION, LABELS, ROOM}
 use Rattle.records.specs.declared.check.Checked.{Checked}
 use Rattle.records.specs.declared.check.Checked.the-variants as checked
 use Rattle.records.specs.declared.order.Order.{Order}
@@ -21,15 +22,15 @@ use Rattle.orders.specs.Writes.{wanted, countOk, treeOf, contextAfter, p
 
 -- document 01's number and values for each answer: 0, with the records, the bindings and the counter after them, where the order is accepted
 abbrev pub causeOf : Answer → List ℕ
-causeOf (Accepted records counter bindings) = 0 ∷ records ∷ bindings ∷ counter ∷ []
-causeOf Context = 1 ∷ []
-causeOf (Malformed place) = 2 ∷ place ∷ []
-causeOf Missing = 4 ∷ []
-causeOf Kind = 5 ∷ []
-causeOf Count = 7 ∷ []
-causeOf Position = 8 ∷ []
-causeOf Labels = 9 ∷ []
-causeOf (Room bytes) = 10 ∷ bytes ∷ []
+causeOf (Accepted records counter bindings) = ACCEPTED ∷ records ∷ bindings ∷ counter ∷ []
+causeOf Context = CONTEXT ∷ []
+causeOf (Malformed place) = MALFORMED ∷ place ∷ []
+causeOf Missing = MISSING ∷ []
+causeOf Kind = KIND ∷ []
+causeOf Count = COUNT ∷ []
+causeOf Position = POSITION ∷ []
+causeOf Labels = LABELS ∷ []
+causeOf (Room bytes) = ROOM ∷ bytes ∷ []
 
 -- the counter after an answer, the last of the accepted order's numbers: a refusal has none, and keeps it
 abbrev pub counterAfter : ℕ → Answer → ℕ

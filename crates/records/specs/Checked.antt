@@ -5,6 +5,7 @@ use mathlib.Core.Bool.{Bool, _&&_, cond}
 use mathlib.Core.List.{List, [], _∷_}
 use lib.Dec.{ltb}
 use lib.ListN.{length, drop}
+use Rattle.records.specs.Causes.{ACCEPTED, MALFORMED}
 use Rattle.records.specs.declared.check.Checked.{Checked}
 use Rattle.records.specs.declared.check.Checked.the-variants.{Good, Malformed}
 
@@ -24,5 +25,5 @@ checked ok size limit s = firstBad ok size limit s 0 (places size s)
 
 -- document 01's number and values for each answer: 0 where the list is accepted
 abbrev pub causeOf : Checked → List ℕ
-causeOf (Good n) = 0 ∷ []
-causeOf (Malformed place) = 2 ∷ place ∷ []
+causeOf (Good n) = ACCEPTED ∷ []
+causeOf (Malformed place) = MALFORMED ∷ place ∷ []

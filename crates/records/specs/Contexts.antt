@@ -4,6 +4,7 @@ use mathlib.Core.Bool.{Bool, _&&_, cond}
 use mathlib.Core.List.{List, [], _∷_}
 use lib.Dec.{leb, eqb}
 use lib.ListN.{length, getD}
+use Rattle.records.specs.Causes.{ACCEPTED, CONTEXT}
 use Rattle.records.specs.declared.check.Checked.{Checked}
 use Rattle.records.specs.declared.check.Checked.the-variants.{Good, Malformed}
 use Rattle.records.specs.declared.binding.Kind.{Kind}
@@ -46,5 +47,5 @@ checkedContext s = checked bindingStarts 8 4096 s
 
 -- document 01's number for each answer: 0 where the context is accepted; number 1 returns no place
 abbrev pub contextCause : Checked → List ℕ
-contextCause (Good n) = 0 ∷ []
-contextCause (Malformed place) = 1 ∷ []
+contextCause (Good n) = ACCEPTED ∷ []
+contextCause (Malformed place) = CONTEXT ∷ []

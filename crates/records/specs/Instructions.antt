@@ -4,6 +4,7 @@ use mathlib.Core.Bool.{Bool, true, not, _&&_, _||_, cond}
 use mathlib.Core.List.{List, [], _∷_, _++_}
 use lib.Dec.{leb, ltb, eqb}
 use lib.ListN.{length, getD, drop}
+use Rattle.records.specs.Causes.{ACCEPTED, MALFORMED}
 use Rattle.records.specs.declared.check.Checked.{Checked}
 use Rattle.records.specs.declared.code.Fields.{Fields}
 use Rattle.records.specs.declared.code.CodeRead.{CodeRead}
@@ -73,5 +74,5 @@ codeAt s k = cond (codeStarts (drop (24 * k) s)) (Record (codeOf (fieldsIn (drop
 
 -- document 01's number and place for the answer on record k, 0 where it is read
 abbrev pub codeCause : ℕ → CodeRead → List ℕ
-codeCause k (Record c) = 0 ∷ []
-codeCause k Malformed = 2 ∷ suc k ∷ []
+codeCause k (Record c) = ACCEPTED ∷ []
+codeCause k Malformed = MALFORMED ∷ suc k ∷ []

@@ -1,5 +1,6 @@
 -- What the contracts of `records` cite, from document 01. Lemmas stand in `proofs`.
 pub mod Bytes  -- little-endian numbers, and bytes stored in an output
+pub mod Causes  -- the causes and their numbers
 pub mod Answers  -- what a function ensures whose answer is an enum
 pub mod Checked  -- the first bad or surplus record of a list, for records of any kind
 pub mod Contexts  -- binding records and contexts

@@ -4,6 +4,7 @@ use mathlib.Core.Bool.{Bool, true, false, _&&_, cond}
 use mathlib.Core.List.{List, [], _∷_, _++_}
 use lib.Dec.{leb, ltb, eqb}
 use lib.ListN.{length, getD}
+use Rattle.records.specs.Causes.{ACCEPTED, MALFORMED}
 use Rattle.records.specs.declared.order.Operation.{Operation}
 use Rattle.records.specs.declared.order.Operation.the-variants.{Add, Sub, Mul, Div, Rem}
 use Rattle.records.specs.declared.order.Order.{Order}
@@ -106,5 +107,5 @@ orderRead s =
 
 -- document 01's number and values for each answer: 0 where the order is whole
 abbrev pub orderCause : OrderRead → List ℕ
-orderCause (Whole order) = 0 ∷ []
-orderCause (Malformed place) = 2 ∷ place ∷ []
+orderCause (Whole order) = ACCEPTED ∷ []
+orderCause (Malformed place) = MALFORMED ∷ place ∷ []

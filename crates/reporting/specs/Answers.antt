@@ -4,6 +4,7 @@ use Prim.Native.Nat.{ℕ, _-_}
 use mathlib.Core.Bool.{cond}
 use mathlib.Core.List.{List, [], _∷_, _++_}
 use lib.Dec.{eqb}
+use Rattle.records.specs.Causes.{CONTEXT, MALFORMED, MISSING, KIND, COUNT, POSITION, LABELS, ROOM}
 use Rattle.records.specs.declared.order.Order.{Order}
 use Rattle.records.specs.declared.order.Order.the-variants.{Put, Compute, Copy, Drop, Store, Load, Print}
 use Rattle.records.specs.declared.order.OrderRead.{OrderRead}
@@ -36,18 +37,18 @@ start number order = decimal number ++ ascii " " ++ readName (orderRead order) +
 -- what to look at, for each number that an order is refused with
 unfoldable pub causeWords : ℕ → List ℕ
 causeWords n =
-    cond (eqb n 1) (ascii "malformed context or bindings")
-    (cond (eqb n 2) (ascii "malformed order, or not its number of bindings")
-    (cond (eqb n 4) (ascii "a place that is not in the context, or too few variables")
-    (cond (eqb n 5) (ascii "a variable of the wrong kind for the order")
-    (cond (eqb n 7) (ascii "a copy's count above 2147483647")
-    (cond (eqb n 8) (ascii "too many variables, a position above 266 needed")
-    (cond (eqb n 9) (ascii "labels above 2147483647 needed, let the counter start afresh")
-    (cond (eqb n 10) (ascii "an output is too short") [])))))))
+    cond (eqb n CONTEXT) (ascii "malformed context or bindings")
+    (cond (eqb n MALFORMED) (ascii "malformed order, or not its number of bindings")
+    (cond (eqb n MISSING) (ascii "a place that is not in the context, or too few variables")
+    (cond (eqb n KIND) (ascii "a variable of the wrong kind for the order")
+    (cond (eqb n COUNT) (ascii "a copy's count above 2147483647")
+    (cond (eqb n POSITION) (ascii "too many variables, a position above 266 needed")
+    (cond (eqb n LABELS) (ascii "labels above 2147483647 needed, let the counter start afresh")
+    (cond (eqb n ROOM) (ascii "an output is too short") [])))))))
 
 -- the value beside a number: the record's place for 2, the bytes needed for 10
 unfoldable pub causeValue : ℕ → ℕ → List ℕ
-causeValue n value = cond (eqb n 2) (counted " at place " value) (counted ", " value ++ ascii " bytes needed")
+causeValue n value = cond (eqb n MALFORMED) (counted " at place " value) (counted ", " value ++ ascii " bytes needed")
 
 -- a refusal, by its number and values
 unfoldable pub refusal : List ℕ → List ℕ

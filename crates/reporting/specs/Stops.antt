@@ -4,6 +4,7 @@ use Prim.Native.Nat.{ℕ}
 use mathlib.Core.Bool.{cond}
 use mathlib.Core.List.{List, [], _∷_, _++_}
 use lib.Dec.{eqb}
+use Rattle.records.specs.Causes.{ACCEPTED, LIMIT}
 use Rattle.text.specs.Text.{ascii}
 use Rattle.machine.specs.declared.run.Answer.{Answer}
 use Rattle.machine.specs.Run.{causeOf}
@@ -14,14 +15,14 @@ use Rattle.reporting.specs.Answers.{start}
 unfoldable pub stopWords : ℕ → List ℕ → List ℕ
 stopWords n [] = []
 stopWords n (value ∷ []) =
-    cond (eqb n 12) (counted "step limit " n ++ counted " after " value ++ ascii " steps")
+    cond (eqb n LIMIT) (counted "step limit " n ++ counted " after " value ++ ascii " steps")
     (counted "run refused " n ++ counted " at place " value ++ ascii ", malformed record, or at place 0 the heap's size")
 stopWords n (steps ∷ place ∷ more) = counted "machine fault " n ++ counted " after " steps ++ counted " steps at record " place
 
 -- nothing where the number is 0: the run ended
 unfoldable pub stopped : List ℕ → List ℕ → List ℕ
 stopped head [] = []
-stopped head (n ∷ values) = cond (eqb n 0) [] (head ++ stopWords n values ++ ascii ", the channel stops here\n")
+stopped head (n ∷ values) = cond (eqb n ACCEPTED) [] (head ++ stopWords n values ++ ascii ", the channel stops here\n")
 
 unfoldable pub stopLine : ℕ → List ℕ → Answer → List ℕ
 stopLine number order ran = stopped (start number order) (causeOf ran)
