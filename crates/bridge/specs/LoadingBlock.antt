@@ -18,7 +18,7 @@ use Rattle.instructions.specs.View.{upd}
 use Rattle.memory.specs.Objects.{loadLink, capacity, restore, loadValues, loadBody, loadBlock}
 use Rattle.heap.specs.Blocks.{pointers}
 use Rattle.heap.specs.WordLemmas.{cells-agree}
-use Rattle.positions.specs.Held.{held, withRegister, withSpill, withHeap, Keeps, Placed, blockAddress}
+use Rattle.positions.specs.Held.{stackWord, held, withRegister, withSpill, withHeap, Keeps, Placed, blockAddress}
 use Rattle.positions.specs.HeldLemmas.{upd-other, held-register, register-other, register-same, spill-other, spill-same, keeps-refl, keeps-trans, keeps-sub, keeps-put, keeps-register, placed-keeps, location-low, location-high, location-fits, location-apart, location-free, position-low, position-high}
 use Rattle.positions.specs.RecordLemmas.{register-MOV, block-MOVS, spill-MOVL, spill-MOVS}
 use Rattle.positions.specs.Runs.{Does, one, then, go, so}
@@ -140,7 +140,7 @@ module _ (words : ℕ → ℕ) (ext : ℕ → Bool) where
                 vals = variables-kept ext u (restored true u) v k vk (λ x a b. omega (arith, location-high x (omega arith))) (off4 u) ∙ d .vals;
                 went = d .went;
                 link = λ o. register-other (u .state .reg) (u .state .stk) 4 (held u 16) (location (2 * (v + k))) (omega (arith, location-high (2 * (v + k)) (omega arith))) ∙ d .link o;
-                keeps = record { size-kept = d .keeps .size-kept; calls-kept = d .keeps .calls-kept; kept = λ l b y. by l b y sixteen (ℕ-discrete l 4) };
+                keeps = record { size-kept = d .keeps .size-kept; calls-kept = d .keeps .calls-kept; kept = λ l b y. by l b y sixteen (ℕ-discrete l 4); beside-kept = d .keeps .beside-kept };
               },
             )
           where
@@ -178,7 +178,7 @@ module _ (words : ℕ → ℕ) (ext : ℕ → Bool) where
               vals = d .vals;
               went = d .went;
               link = d .link;
-              keeps = keeps-trans (record { size-kept = refl; calls-kept = refl; kept = λ l i y. saved l i (y .1) q (ℕ-discrete l 4) }) (d .keeps);
+              keeps = keeps-trans (record { size-kept = refl; calls-kept = refl; kept = λ l i y. saved l i (y .1) q (ℕ-discrete l 4); beside-kept = λ i n. upd-other (s .state .stk) (stackWord 16) (s .state .reg 4) i (n 16 (omega arith) (omega arith)) }) (d .keeps);
             }))
           where
             saved : (l : ℕ) → l < 272 → l ≢ 16 → held (withSpill s 16 (s .state .reg 4)) 16 ≡ s .state .reg 4 → Dec (l ≡ 4) → held (restored true (withSpill s 16 (s .state .reg 4))) l ≡ held s l

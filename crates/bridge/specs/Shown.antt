@@ -24,9 +24,9 @@ L = layout 3
 abbrev pub heapOf : Config → Memory
 heapOf c = memoryOf 3 (c .state .mem) (c .state .reg 2) (c .state .reg 3)
 
--- the words of all blocks' fields are the same
+-- the words of all blocks but their first are the same, so their fields are
 abbrev pub SameFields : (ℕ → ℕ) → (ℕ → ℕ) → Type 0
-SameFields m m′ = (x w : ℕ) → 2 ≤ w → w < 8 → m′ (8 * x + w) ≡ m (8 * x + w)
+SameFields m m′ = (x w : ℕ) → 1 ≤ w → w < 8 → m′ (8 * x + w) ≡ m (8 * x + w)
 
 -- the first word of block j is written
 module _ (m : ℕ → ℕ) (j v : ℕ) where

@@ -89,7 +89,7 @@ module _ (fieldCount : ℕ) (words words′ : ℕ → ℕ) where
   header-off j f = by-address-off fieldCount (λ (j : ℕ). words (stride fieldCount * j + 0)) (λ (j : ℕ). words′ (stride fieldCount * j + 0)) 0 j f
 
   -- the fields' words of all blocks are the same; of all blocks but j
-  pub fields-all : ((x w : ℕ) → 2 ≤ w → w < stride fieldCount → words′ (stride fieldCount * x + w) ≡ words (stride fieldCount * x + w)) → blockFields fieldCount words′ ≡ blockFields fieldCount words
+  pub fields-all : ((x w : ℕ) → 1 ≤ w → w < stride fieldCount → words′ (stride fieldCount * x + w) ≡ words (stride fieldCount * x + w)) → blockFields fieldCount words′ ≡ blockFields fieldCount words
   unfolding blockFields
   fields-all f = ap (λ (of : ℕ → List Cell). byAddress fieldCount of []) (fun-ext (λ x. cells-agree x 0 fieldCount (λ w a b. f x w (omega arith) (omega arith))))
 

@@ -38,7 +38,7 @@ pub record Stops (words : ℕ → ℕ) (tree : Tree) (c : Config) (t : ℕ) : Ty
 
 -- with what is known of more operands
 wider : {P Q : ℕ → Type 0} {c d : Config} → Unchanged P c d → ((l : ℕ) → l < 272 → Q l → held d l ≡ held c l) → Unchanged Q c d
-wider u f = record { kept = record { size-kept = u .kept .size-kept; calls-kept = u .kept .calls-kept; kept = f }; stack = u .stack; heap = u .heap }
+wider u f = record { kept = record { size-kept = u .kept .size-kept; calls-kept = u .kept .calls-kept; kept = f; beside-kept = u .kept .beside-kept }; heap = u .heap }
 
 unlike : {A : Type 0} → true ≡ false → A
 unlike e = let z : _≡_ {A = ℕ} 0 1 = cc in absurd (omega arith)

@@ -48,14 +48,14 @@ abbrev Compares : ℕ → ℕ → Config → Config → Type 0
 Compares x y c d = (d .pair ≡ Of x y) × Same c d
 
 same : (c : Config) → Same c c
-same c = record { kept = keeps-refl; stack = λ i f. refl; heap = refl }
+same c = record { kept = keeps-refl; heap = refl }
 
 -- whatever the compare is after it
 paired : {c : Config} (d : Config) (x y : ℕ) → Same c d → Same c (withPair d x y)
-paired d x y u = record { kept = u .kept; stack = u .stack; heap = u .heap }
+paired d x y u = record { kept = u .kept; heap = u .heap }
 
 unpaired : {c d : Config} → Same c d → Same c (dropped d)
-unpaired u = record { kept = u .kept; stack = u .stack; heap = u .heap }
+unpaired u = record { kept = u .kept; heap = u .heap }
 
 module _ (words : ℕ → ℕ) {N : ℕ} (c : Config) (v : Placed N c) where
   compare-does : (x y : ℕ) → Given x → Given y → Does words (compareWords base x y) c (Compares (held c x) (held c y) c)

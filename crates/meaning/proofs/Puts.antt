@@ -11,7 +11,7 @@ use Rattle.layout.specs.Positions.{operandOk}
 use Rattle.instructions.specs.declared.instruction.Compared.{Compared}
 use Rattle.instructions.specs.View.{putReg, putStk}
 use Rattle.instructions.specs.Step.{Config, config}
-use Rattle.positions.specs.Held.{stackWord, held, withOperand, Placed}
+use Rattle.positions.specs.Held.{stackWord, NoSpill, held, withOperand, Placed}
 use Rattle.positions.specs.HeldLemmas.{upd-other, operand-same, operand-other, operand-heap, keeps-trans, keeps-sub, placed-keeps}
 use Rattle.meaning.specs.Claims.{Unchanged, Sets}
 
@@ -31,10 +31,10 @@ given w e = by (leb 4 w) refl (ltb w 272) refl (ltb w 16 || ltb 16 w) e
 
 module _ {P : ℕ → Type 0} {c d : Config} where
   pub unchanged-trans : {e : Config} → Unchanged P c d → Unchanged P d e → Unchanged P c e
-  unchanged-trans a b = record { kept = keeps-trans (a .kept) (b .kept); stack = λ i f. b .stack i f ∙ a .stack i f; heap = b .heap ∙ a .heap }
+  unchanged-trans a b = record { kept = keeps-trans (a .kept) (b .kept); heap = b .heap ∙ a .heap }
 
   pub unchanged-sub : {Q : ℕ → Type 0} → ((l : ℕ) → Q l → P l) → Unchanged P c d → Unchanged Q c d
-  unchanged-sub f a = record { kept = keeps-sub f (a .kept); stack = a .stack; heap = a .heap }
+  unchanged-sub f a = record { kept = keeps-sub f (a .kept); heap = a .heap }
 
 -- operand t holds w, and every other holds what it held, TEMP too
 abbrev pub Puts : ℕ → ℕ → Config → Config → Type 0
@@ -44,13 +44,12 @@ pub put : (c : Config) (t w : ℕ) (q : Compared) → t < 272 → Puts t w c (co
 put c t w q h = (
   operand-same (c .state) t w h,
   record {
-    kept = record { size-kept = operand-heap (c .state) t w .1; calls-kept = refl; kept = λ l k n. operand-other (c .state) t w h l k n };
-    stack = λ i f. by i f (ltb t 16) refl;
+    kept = record { size-kept = operand-heap (c .state) t w .1; calls-kept = refl; kept = λ l k n. operand-other (c .state) t w h l k n; beside-kept = λ i f. by i f (ltb t 16) refl };
     heap = operand-heap (c .state) t w .0;
   },
 )
   where
-    by : (i : ℕ) → ((l : ℕ) → 16 ≤ l → l < 272 → i ≢ stackWord l) → (b : Bool) → ltb t 16 ≡ b
+    by : (i : ℕ) → NoSpill i → (b : Bool) → ltb t 16 ≡ b
         → cond b (putReg (c .state) t w) (putStk (c .state) (stackWord t) w) .stk i ≡ c .state .stk i
     by i f true e = refl
     by i f false e = upd-other (c .state .stk) (stackWord t) w i (f t (ltb-false t 16 e) h)

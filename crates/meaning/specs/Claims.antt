@@ -29,14 +29,12 @@ use Rattle.instructions.specs.Step.{Config, config}
 use Rattle.machine.specs.declared.run.Answer.the-variants.{Ended, Fault}
 use Rattle.machine.specs.Run.{placesOf, done, ran}
 use Rattle.structured.specs.Claims.{Reaches}
-use Rattle.positions.specs.Held.{stackWord, held, Keeps, Placed}
+use Rattle.positions.specs.Held.{held, Keeps, Placed}
 
 -- from c to d nothing changed but operands outside P and the compare
 pub record Unchanged (P : ℕ → Type 0) (c d : Config) : Type 0 where
-  -- the operands of P, registers 0..15 and spills 0..255; the number of heap words; the calls
+  -- the operands of P, registers 0..15 and spills 0..255; the stack's words that are no spill; the number of heap words; the calls
   pub kept : Keeps P c d
-  -- the stack's words that are no spill
-  pub stack : (i : ℕ) → ((l : ℕ) → 16 ≤ l → l < 272 → i ≢ stackWord l) → d .state .stk i ≡ c .state .stk i
   pub heap : d .state .mem ≡ c .state .mem
 
 -- operand t holds w, and every other but TEMP holds what it held: STACK, HEAP, FREE and spill 0 too

@@ -2,6 +2,7 @@
 -- From document 01: an operand below 16 is a register, spill p is 16 + p; after setup STACK is at word 57 of the stack, and spill p at 2048 − 8(p+1) from it.
 -- Every definition that stays shut is over the parts of a configuration, so that a change of another part computes away.
 use mathlib.Core.Path.{_≡_}
+use mathlib.Core.Logic.{_≢_}
 use mathlib.Core.Bool.{cond}
 use mathlib.Core.List.{List}
 use Prim.Native.Nat.{ℕ, _+_, _-_, _*_, _≤_, _<_}
@@ -45,11 +46,16 @@ withPair c x y = config (c .state) (Of x y) (c .calls)
 abbrev pub withOperand : View → ℕ → ℕ → View
 withOperand s l w = cond (ltb l 16) (putReg s l w) (putStk s (stackWord l) w)
 
--- the same at the operands of P, the same number of heap words, and the same calls
+-- a word of the stack that is no spill
+abbrev pub NoSpill : ℕ → Type 0
+NoSpill i = (l : ℕ) → 16 ≤ l → l < 272 → i ≢ stackWord l
+
+-- the same at the operands of P and at the stack's words that are no spill, the same number of heap words, and the same calls
 pub record Kept (P : ℕ → Type 0) (registers stack : ℕ → ℕ) (size : ℕ) (calls : List Call) (registers′ stack′ : ℕ → ℕ) (size′ : ℕ) (calls′ : List Call) : Type 0 where
   pub size-kept : size′ ≡ size
   pub calls-kept : calls′ ≡ calls
   pub kept : (l : ℕ) → l < 272 → P l → heldIn registers′ stack′ l ≡ heldIn registers stack l
+  pub beside-kept : (i : ℕ) → NoSpill i → stack′ i ≡ stack i
 
 abbrev pub Keeps : (ℕ → Type 0) → Config → Config → Type 0
 Keeps P c d = Kept P (c .state .reg) (c .state .stk) (c .state .size) (c .calls) (d .state .reg) (d .state .stk) (d .state .size) (d .calls)

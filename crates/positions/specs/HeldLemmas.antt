@@ -79,21 +79,21 @@ operand-heap s l w = by (ltb l 16)
 
 module _ {P : ℕ → Type 0} {g k : ℕ → ℕ} {z : ℕ} {c : List Call} where
   pub keeps-refl : Kept P g k z c g k z c
-  keeps-refl = record { size-kept = refl; calls-kept = refl; kept = λ l h p. refl }
+  keeps-refl = record { size-kept = refl; calls-kept = refl; kept = λ l h p. refl; beside-kept = λ i f. refl }
 
   module _ {g₁ k₁ : ℕ → ℕ} {z₁ : ℕ} {c₁ : List Call} where
     pub keeps-trans : {g₂ k₂ : ℕ → ℕ} {z₂ : ℕ} {c₂ : List Call} → Kept P g k z c g₁ k₁ z₁ c₁ → Kept P g₁ k₁ z₁ c₁ g₂ k₂ z₂ c₂ → Kept P g k z c g₂ k₂ z₂ c₂
-    keeps-trans a b = record { size-kept = b .size-kept ∙ a .size-kept; calls-kept = b .calls-kept ∙ a .calls-kept; kept = λ l h p. b .kept l h p ∙ a .kept l h p }
+    keeps-trans a b = record { size-kept = b .size-kept ∙ a .size-kept; calls-kept = b .calls-kept ∙ a .calls-kept; kept = λ l h p. b .kept l h p ∙ a .kept l h p; beside-kept = λ i f. b .beside-kept i f ∙ a .beside-kept i f }
 
     -- fewer operands
     pub keeps-sub : {Q : ℕ → Type 0} → ((l : ℕ) → Q l → P l) → Kept P g k z c g₁ k₁ z₁ c₁ → Kept Q g k z c g₁ k₁ z₁ c₁
-    keeps-sub f a = record { size-kept = a .size-kept; calls-kept = a .calls-kept; kept = λ l h p. a .kept l h (f l p) }
+    keeps-sub f a = record { size-kept = a .size-kept; calls-kept = a .calls-kept; kept = λ l h p. a .kept l h (f l p); beside-kept = a .beside-kept }
 
     pub keeps-put : (a w : ℕ) → ((l : ℕ) → P l → l ≢ a) → Kept P g k z c g₁ k₁ z₁ c₁ → Kept P g k z c (upd g₁ a w) k₁ z₁ c₁
-    keeps-put a w f b = record { size-kept = b .size-kept; calls-kept = b .calls-kept; kept = λ l h p. register-other g₁ k₁ a w l (f l p) ∙ b .kept l h p }
+    keeps-put a w f b = record { size-kept = b .size-kept; calls-kept = b .calls-kept; kept = λ l h p. register-other g₁ k₁ a w l (f l p) ∙ b .kept l h p; beside-kept = b .beside-kept }
 
     pub keeps-spill : (m w : ℕ) → 16 ≤ m → m < 272 → ((l : ℕ) → P l → l ≢ m) → Kept P g k z c g₁ k₁ z₁ c₁ → Kept P g k z c g₁ (upd k₁ (stackWord m) w) z₁ c₁
-    keeps-spill m w h₁ h₂ f b = record { size-kept = b .size-kept; calls-kept = b .calls-kept; kept = λ l h p. spill-other g₁ k₁ m w l h₁ h₂ h (f l p) ∙ b .kept l h p }
+    keeps-spill m w h₁ h₂ f b = record { size-kept = b .size-kept; calls-kept = b .calls-kept; kept = λ l h p. spill-other g₁ k₁ m w l h₁ h₂ h (f l p) ∙ b .kept l h p; beside-kept = λ i q. upd-other k₁ (stackWord m) w i (q m h₁ h₂) ∙ b .beside-kept i q }
 
     -- a register among the operands kept
     pub keeps-register : Kept P g k z c g₁ k₁ z₁ c₁ → (a : ℕ) → a < 16 → P a → g₁ a ≡ g a

@@ -1,6 +1,5 @@
 -- Lists of at most 65,536 well-formed records are read back; the records of trees that draw labels below 2^31 are such, and so are short lists put together from them.
 use Prim.Native.Nat.{ℕ, _+_, _≤_, _<_}
-use mathlib.Core.Path.{_≡_}
 use mathlib.Core.Bool.{cond}
 use mathlib.Core.List.{List, [], _∷_, _++_}
 use native.Mathlib.Decide.{decLt}
