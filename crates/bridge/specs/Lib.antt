@@ -18,5 +18,3 @@ pub mod LoadingOthers  -- the blocks before the last
 pub mod LoadingObject  -- all blocks of an object
 pub mod LoadedObject  -- a load of one value or more
 pub mod LoadOrder  -- a load of any number of values performs the order
-pub mod Claims  -- what is promised: store, load, erase and share do what they name
-pub mod Named  -- the promise, from the lemmas

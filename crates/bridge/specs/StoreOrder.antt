@@ -55,12 +55,12 @@ module _ (words : ℕ → ℕ) where
           one (spill-MOVIM words s v l h b 0) (spill-same (s .state .reg) (s .state .stk) l 0 h, refl, keeps-spill l 0 h b (λ y d. d) keeps-refl)
 
   module _ {N : ℕ} (ext : ℕ → Bool) (s : Config) (r : ℕ) (en : Placed N s) where
-    store-none : r ≤ 133 → Does words (storeObject base ext r 0) s (λ u. StoredFrom ext s r 0 u × (heapOf u ≡ heapOf s))
+    pub store-none : r ≤ 133 → Does words (storeObject base ext r 0) s (λ u. StoredFrom ext s r 0 u × (heapOf u ≡ heapOf s) × (held u (location (2 * r)) ≡ 0))
     store-none h =
         let f = location-fits (2 * r) (omega arith) in
         so (zero-does s (location (2 * r)) en (f .0) (f .1)) (λ u x.
         let z : r + 0 ≡ r = omega arith in
-        (((λ tag. rw (x .0, x .1, z) (stores-none (variables ext s 0 r) tag)), keeps-sub (λ l y. omega (arith, y .1)) (x .2)), x .1))
+        (((λ tag. rw (x .0, x .1, z) (stores-none (variables ext s 0 r) tag)), keeps-sub (λ l y. omega (arith, y .1)) (x .2)), x .1, x .0))
 
     -- the room that a store wants: for the blocks reachable before it and those that it acquires
     abbrev Roomy : ℕ → Type 0
@@ -100,7 +100,7 @@ module _ (words : ℕ → ℕ) where
     store-performs n h room lt rep = so (surely (λ o. o room lt) (store-tries n h (omega arith) rep)) (λ u x. x .0)
 
   -- the tag written, the variables are those before and the new one
-  tagged : (ext ext′ : ℕ → Bool) (s u z : Config) (r tag : ℕ) → r < 133 → ((x : ℕ) → x < r → ext′ x ≡ ext x) → ext′ r ≡ false → Keeps (λ x. Low x × (x < location (2 * r))) s u
+  pub tagged : (ext ext′ : ℕ → Bool) (s u z : Config) (r tag : ℕ) → r < 133 → ((x : ℕ) → x < r → ext′ x ≡ ext x) → ext′ r ≡ false → Keeps (λ x. Low x × (x < location (2 * r))) s u
       → held z (location (2 * r + 1)) ≡ tag → Keeps (λ x. (x ≢ 1) × (x ≢ location (2 * r + 1))) u z
       → variables ext′ z 0 (suc r) ≡ variables ext s 0 r ++ (cell (held u (location (2 * r))) tag ∷ [])
   tagged ext ext′ s u z r tag h agree linked ks t kz =

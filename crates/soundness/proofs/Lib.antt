@@ -1,2 +1,3 @@
 -- Lemmas of the proofs.
 pub mod Counting  -- the walks over first words come to the lists of a sound heap
+pub mod Printing  -- what is put for an order is what its calls write

@@ -13,11 +13,13 @@ use Rattle.records.specs.Contexts.{checkedContext, extAt}
 use Rattle.instructions.specs.Step.{Config}
 use Rattle.memory.specs.Answered.{variablesIn}
 use Rattle.heap.specs.Blocks.{pointers}
-use Rattle.heap.specs.Claims.{Reaches}
+use Rattle.heap.specs.Claims.{AbstractHeapStaysSound, HeapAfter, Reaches}
 use Rattle.heap.specs.GrowthLemmas.{Bounded, represents-bounded, store-reaches}
 use Rattle.heap.specs.Reachability.{ReachableCount}
 use Rattle.heap.specs.Invariant.{Represents}
 use Rattle.heap.specs.OrderLemmas.{storedBy}
+use Rattle.heap.specs.RunLemmas.{abstract-heap-stays-sound}
+use Rattle.heap.specs.SoundLemmas.{sound, frontier-unique}
 use Rattle.heap.specs.Orders as abstract
 use Rattle.heap.specs.Orders.{State, Run, plain, Legal, listOf}
 use Rattle.heap.specs.Values.{integer, object, Value, Values, countOf, joined, firstOf, valueAt, KindsFrom}
@@ -30,7 +32,7 @@ use Rattle.orders.specs.Answered.{placesIn}
 use Rattle.word.specs.Results.{result}
 use Rattle.orders.specs.Plain.{integerOf, plainly, AsStored, OwedKinds}
 use Rattle.playing.specs.Playing.{Channel}
-use Rattle.soundness.specs.Claims.{stateOf, acquires, changes, Owed}
+use Rattle.soundness.specs.Claims.{stateOf, SoundAt, acquires, changes, Owed}
 use Rattle.soundness.specs.Ending.{start}
 use Rattle.soundness.specs.Appending.{Performed}
 use Rattle.soundness.specs.Rooms.{represents-within}
@@ -45,6 +47,20 @@ pub record Carried (blocks bound : ℕ) (past : List State) (ch : Channel) (vs :
   pub low : frontier < bound
   pub represents : Represents objectSizes L (heapOf (start (ch .view))) frontier (variables (extAt (ch .context)) (start (ch .view)) 0 (countOf vs)) vs
   pub run : Run objectSizes L past (stateOf ch vs)
+
+-- what is carried is what is claimed of the channel, where the bound is within the heap
+pub heap-after : {blocks bound : ℕ} {past : List State} {ch : Channel} {vs : Values} (f : Carried blocks bound past ch vs) → (s : HeapAfter objectSizes L past (stateOf ch vs)) × (s .frontier < bound)
+unfolding AbstractHeapStaysSound
+heap-after {past} {ch} {vs} f =
+    let s : HeapAfter objectSizes L past (stateOf ch vs) = abstract-heap-stays-sound objectSizes L past (stateOf ch vs) refl (f .run) in
+    let e = frontier-unique (s .sound) (sound (f .represents .consistent)) in
+    let low = f .low in
+    (s, omega arith)
+
+pub sound-at : {blocks bound : ℕ} {past : List State} {ch : Channel} {vs : Values} → Carried blocks bound past ch vs → bound ≤ blocks → SoundAt blocks past ch vs
+sound-at f fits =
+    let s = heap-after f in
+    record { places = f .places; kinds = f .kinds; heap = s .0; frontier-there = omega (arith, s .1); whole = f .placed .words; stack-there = f .placed .stack }
 
 -- the abstract heap's order; compute puts its result
 abbrev pub abstractly : Order → Values → abstract.Order

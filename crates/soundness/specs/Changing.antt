@@ -21,12 +21,12 @@ use Rattle.memory.specs.Objects.{extIn, loadObject}
 use Rattle.instructions.specs.Step.{Config}
 use Rattle.structured.specs.Evaluation.{done, evaluate}
 use Rattle.heap.specs.ValueLemmas.{hold-at}
-use Rattle.heap.specs.Blocks.{pointers}
+use Rattle.heap.specs.Blocks.{Cell, pointers}
 use Rattle.heap.specs.Reachability.{ReachableCount}
-use Rattle.heap.specs.Values.{Value, integer, object, Values, nil, cons, countOf, joined, firstOf, restOf, copies, valueAt, Holds}
+use Rattle.heap.specs.Values.{Value, integer, object, Values, nil, cons, countOf, joined, firstOf, restOf, copies, valueAt, Holds, HoldAll, KindsFrom}
 use Rattle.heap.specs.Orders as abstract
 use Rattle.heap.specs.Orders.{State, listOf}
-use Rattle.positions.specs.Held.{held}
+use Rattle.positions.specs.Held.{held, Keeps}
 use Rattle.positions.specs.Runs.{Does, so}
 use Rattle.bridge.specs.Acquiring.{Within}
 use Rattle.bridge.specs.Attempting.{Attempts, apart, does, attempt-weaken, attempt-why}
@@ -46,8 +46,18 @@ use Rattle.soundness.specs.Ending.{start}
 use Rattle.soundness.specs.Appending.{Performed, put-does, compute-does, compute-stops}
 use Rattle.soundness.specs.Copying.{among, copy-does}
 use Rattle.soundness.specs.Dropping.{drop-does, store-tries}
-use Rattle.soundness.specs.Loading.{load-does}
+use Rattle.soundness.specs.Loading.{Below, load-does}
 use Rattle.soundness.specs.Carried.{Carried, Room, abstractly}
+
+-- an integer variable's Snd is the plain machine's integer
+pub integer-there : (fields : ℕ → List Cell) (linked : ℕ → ℕ) (ext : ℕ → Bool) (c : Config) (vs : Values) → HoldAll objectSizes fields linked vs (variables ext c 0 (countOf vs)) → KindsFrom ext 0 vs
+    → (a : ℕ) → a < countOf vs → ext a ≡ true → held c (location (2 * a + 1)) ≡ integerOf (valueAt a vs)
+integer-there fields linked ext c vs holds kinds a h e =
+    let z : 0 + a ≡ a = omega arith in
+    let i = integer-at ext 0 vs a kinds h (rw z e) in
+    let q = hold-at objectSizes fields linked (variables ext c 0 a) (variable ext c a) (variables ext c (suc a) (countOf vs - suc a)) vs (rw (among ext c a (countOf vs) h) at holds) in
+    let p : Holds objectSizes fields linked (integer (i .0)) (variable ext c a) = rw (variables-length ext c 0 a, i .1) at q in
+    rw (i .1) (p .1)
 
 -- as many variables as the plain machine has values after the order
 recounted : {words : ℕ → ℕ} {blocks : ℕ} {c : Config} {o : _} {ext ext′ : ℕ → Bool} {k j n : ℕ} {t : _} → n ≡ j → Does words t c (Performed blocks c o ext ext′ k j) → Does words t c (Performed blocks c o ext ext′ k n)
@@ -58,6 +68,9 @@ attempted e d = rw e d
 
 reattempted : {words : ℕ → ℕ} {blocks : ℕ} {c : Config} {o : _} {ext ext′ : ℕ → Bool} {k j n : ℕ} {t : _} {W : Config → Type 0} (F : ℕ → Type 0) → k ≡ n → Attempts words t c (F k) (λ d. Performed blocks c o ext ext′ k j d × W d) → Attempts words t c (F n) (λ d. Performed blocks c o ext ext′ n j d × W d)
 reattempted F e d = rw (← e) d
+
+recounted-kept : {words : ℕ → ℕ} {blocks : ℕ} {c : Config} {o : _} {ext ext′ : ℕ → Bool} {k j n : ℕ} {t : _} {W : Config → Type 0} → n ≡ j → Does words t c (λ d. Performed blocks c o ext ext′ k j d × W d) → Does words t c (λ d. Performed blocks c o ext ext′ k n d × W d)
+recounted-kept e d = rw e d
 
 module _ (words : ℕ → ℕ) {blocks bound : ℕ} {past : List State} {ch : Channel} {vs : Values} (f : Carried blocks bound past ch vs) (bindings : List ℕ) where
   abbrev K : ℕ
@@ -78,14 +91,8 @@ module _ (words : ℕ → ℕ) {blocks bound : ℕ} {past : List State} {ch : Ch
   long : length (ch .context) ≡ 8 * K
   long = good-length (ch .context) (f .places) .0
 
-  -- an integer variable's Snd is the plain machine's integer
   pub integer-held : (a : ℕ) → a < K → E a ≡ true → held C (location (2 * a + 1)) ≡ integerOf (valueAt a vs)
-  integer-held a h e =
-      let z : 0 + a ≡ a = omega arith in
-      let i = integer-at E 0 vs a (f .kinds) h (rw z e) in
-      let q = hold-at objectSizes (heapOf C .fields) (f .represents .linked) (variables E C 0 a) (variable E C a) (variables E C (suc a) (K - suc a)) vs (rw (among E C a K h) at (f .represents .holds)) in
-      let p : Holds objectSizes (heapOf C .fields) (f .represents .linked) (integer (i .0)) (variable E C a) = rw (variables-length E C 0 a, i .1) at q in
-      rw (i .1) (p .1)
+  integer-held a h e = integer-there (heapOf C .fields) (f .represents .linked) E C vs (f .represents .holds) (f .kinds) a h e
 
   -- one more integer variable
   one-more : (w : ℕ) → countOf (joined vs (cons (integer w) nil)) ≡ suc K
@@ -189,9 +196,11 @@ module _ (words : ℕ → ℕ) {blocks bound : ℕ} {past : List State} {ch : Ch
         plus-one : (m : ℕ) → m + 1 ≡ suc m
         plus-one m = omega arith
 
-    load-order : (n e : ℕ) → K ≡ suc e → E e ≡ false → e + n ≤ 133 → OwedKinds bindings (Load n) vs → Goal (Load n)
+    -- what is below the last variable stays
+    pub load-keeps : (n e : ℕ) → K ≡ suc e → E e ≡ false → e + n ≤ 133 → OwedKinds bindings (Load n) vs
+        → Does words (treeOf base (ch .context) K bindings (Load n)) C (λ d. Performed blocks C (abstract.load n) E (E′ (Load n)) K (countOf (plainly (Load n) vs)) d × Keeps (Below (K - 1)) C d)
     unfolding treeOf contextAfter plainly
-    load-order n e q linked most owed = by (valueAt (K - 1) vs) refl owed
+    load-keeps n e q linked most owed = by (valueAt (K - 1) vs) refl owed
       where
         z : K - 1 ≡ e
         z = omega arith
@@ -203,7 +212,7 @@ module _ (words : ℕ → ℕ) {blocks bound : ℕ} {past : List State} {ch : Ch
         whole = length-take-le (8 * e) (ch .context) (omega (arith, long))
 
         by : (v : Value) → valueAt (K - 1) vs ≡ v → AsStored bindings n v
-            → Does words (loadObject base (extIn bindings (K - 1)) (K - 1) n) C (Performed blocks C (abstract.load n) E (extAt (take (8 * (K - 1)) (ch .context) ++ bindings)) K (countOf (joined (firstOf (K - 1) vs) (listOf (valueAt (K - 1) vs)))))
+            → Does words (loadObject base (extIn bindings (K - 1)) (K - 1) n) C (λ d. Performed blocks C (abstract.load n) E (extAt (take (8 * (K - 1)) (ch .context) ++ bindings)) K (countOf (joined (firstOf (K - 1) vs) (listOf (valueAt (K - 1) vs)))) d × Keeps (Below (K - 1)) C d)
         by (integer w) is a = absurd a
         by (object tag ws) is a =
             let few = f .few in
@@ -215,7 +224,10 @@ module _ (words : ℕ → ℕ) {blocks bound : ℕ} {past : List State} {ch : Ch
             (ap (λ (m : ℕ). valueAt m vs) (sym z) ∙ is)
             (kinds-moved (extAt bindings) (extAt (front ++ bindings)) 0 e ws (λ x l. let y : 0 + x ≡ x = omega arith in rw y (ext-right front bindings e whole x)) (a .1))
             (rw q at (f .represents)) in
-            recounted c (rw (z, q, ← (a .0)) d)
+            recounted-kept c (rw (z, q, ← (a .0)) d)
+
+    load-order : (n e : ℕ) → K ≡ suc e → E e ≡ false → e + n ≤ 133 → OwedKinds bindings (Load n) vs → Goal (Load n)
+    load-order n e q linked most owed = so (load-keeps n e q linked most owed) (λ d x. x .0)
 
     -- an order that stores nothing
     quietly : (o : Order) → storedBy (abstractly o vs) ≡ 0 → Goal o → Attempt o

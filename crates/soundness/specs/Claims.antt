@@ -12,7 +12,7 @@ use Rattle.records.specs.declared.order.Order.{Order}
 use Rattle.records.specs.declared.order.Order.the-variants.{Put, Compute, Copy, Drop, Store, Load, Print}
 use Rattle.records.specs.Contexts.{checkedContext, extAt}
 use Rattle.records.specs.ReadBack.{Bytes}
-use Rattle.layout.specs.Config.{HEAP, FREE}
+use Rattle.layout.specs.Config.{base, STACK, HEAP, FREE}
 use Rattle.printing.specs.Print.{printName}
 use Rattle.instructions.specs.Step.{Call}
 use Rattle.machine.specs.declared.run.Answer.the-variants.{Ended}
@@ -24,7 +24,7 @@ use Rattle.heap.specs.Orders.{State}
 use Rattle.heap.specs.Claims.{HeapAfter, Reaches}
 use Rattle.bridge.specs.Sizes.{objectSizes}
 use Rattle.bridge.specs.Variables.{variablesIn}
-use Rattle.orders.specs.Answered.{Asked, orderIs, placesIn}
+use Rattle.orders.specs.Answered.{Asked, orderIs, placesIn, answerTo, recordsOutput, contextOutput, counterAfter}
 use Rattle.orders.specs.Plain.{integerOf, plainly, OwedKinds, OwedResult}
 use Rattle.playing.specs.Playing.{Channel, fresh}
 use Rattle.playing.specs.Playing as play
@@ -99,6 +99,29 @@ stateOf ch vs =
       values = vs;
     }
 
+-- what holds of a channel beside the plain machine's values, on a heap of so many blocks, with the states before
+pub record SoundAt (blocks : ℕ) (past : List State) (ch : Channel) (vs : Values) : Type 0 where
+  -- the context has the values' kinds, in sequence
+  pub places : checkedContext (ch .context) ≡ Good (countOf vs)
+  pub kinds : KindsFrom (extAt (ch .context)) 0 vs
+  -- every variable holds its value; each block below the frontier is in exactly one of linear list, lazy list and held; held is what pointers reach;
+  -- a held block's count is its pointers less one; the frontier ends FREE's chain and is the first block never held or on HEAP's list
+  pub heap : HeapAfter objectSizes (layout 3) past (stateOf ch vs)
+  -- and there is such a block
+  pub frontier-there : heap .frontier < blocks
+  -- the lent heap is those blocks
+  pub whole : ch .view .size ≡ 8 * blocks
+  -- STACK is where the setup left it, so that spill p is at 2048 − 8(p+1) from it
+  pub stack-there : ch .view .reg STACK ≡ fresh blocks .view .reg STACK
+
+-- A refused order leaves the channel, its two outputs, whatever they held, and the counter as they were: by the definitions that the contracts of
+-- `playing::channel::play`, of the order function and of the library's order cite.
+pub record Refused (ch : Channel) (it : Item) : Type 0 where
+  pub channel-kept : next ch it ≡ ch
+  pub records-kept : (o : List ℕ) → recordsOutput base (ch .context) (it .asked) o ≡ o
+  pub context-kept : (o : List ℕ) → contextOutput base (ch .context) (it .asked) o ≡ o
+  pub counter-kept : counterAfter (it .asked .counter) (answerTo base (ch .context) (it .asked)) ≡ it .asked .counter
+
 -- lists of items have the newest first
 module _ (blocks : ℕ) where
   -- the channel after a list
@@ -137,32 +160,29 @@ module _ (blocks : ℕ) where
   statesBefore (it ∷ its) = cond (isAccepted (reached its) it && changes (orderIs (it .asked))) (stateAfter its ∷ statesBefore its) (statesBefore its)
 
   -- what holds of the channel after a list
-  pub record SoundChannel (its : List Item) : Type 0 where
-    -- the context has the values' kinds, in sequence
-    pub places : checkedContext (reached its .context) ≡ Good (countOf (values its))
-    pub kinds : KindsFrom (extAt (reached its .context)) 0 (values its)
-    -- every variable holds its value; each block below the frontier is in exactly one of linear list, lazy list and held; held is what pointers reach;
-    -- a held block's count is its pointers less one; the frontier ends FREE's chain and is the first block never held or on HEAP's list
-    pub heap : HeapAfter objectSizes (layout 3) (statesBefore its) (stateAfter its)
-    -- and there is such a block
-    pub frontier-there : heap .frontier < blocks
-    -- the lent heap is those blocks
-    pub whole : reached its .view .size ≡ 8 * blocks
+  abbrev pub SoundChannel : List Item → Type 0
+  SoundChannel its = SoundAt blocks (statesBefore its) (reached its) (values its)
 
-  -- the last item's run, if it was accepted
-  abbrev pub LastRan : List Item → Type 0
-  LastRan [] = Unit {0}
-  LastRan (it ∷ its) = isAccepted (reached its) it ≡ true → Ran (reached its) (values its) it
+  -- and after every beginning of it
+  abbrev pub SoundBefore : List Item → Type 0
+  SoundBefore [] = Unit {0}
+  SoundBefore (it ∷ its) = SoundChannel its × SoundBefore its
 
-  -- and that it changed nothing, if it was refused
-  abbrev pub LastRefused : List Item → Type 0
-  LastRefused [] = Unit {0}
-  LastRefused (it ∷ its) = isAccepted (reached its) it ≡ false → reached (it ∷ its) ≡ reached its
+  -- each accepted order's run
+  abbrev pub AllRan : List Item → Type 0
+  AllRan [] = Unit {0}
+  AllRan (it ∷ its) = (isAccepted (reached its) it ≡ true → Ran (reached its) (values its) it) × AllRan its
+
+  -- each refused order changed nothing
+  abbrev pub AllRefused : List Item → Type 0
+  AllRefused [] = Unit {0}
+  AllRefused (it ∷ its) = (isAccepted (reached its) it ≡ false → Refused (reached its) it) × AllRefused its
 
   pub record After (its : List Item) : Type 0 where
     pub sound : SoundChannel its
-    pub ran-on : LastRan its
-    pub refused-kept : LastRefused its
+    pub sound-before : SoundBefore its
+    pub ran : AllRan its
+    pub refused : AllRefused its
 
 -- after every list of items, on at least two blocks more than the peak
 unfoldable pub HeapStaysSound : Type 0

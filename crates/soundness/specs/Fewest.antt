@@ -1,6 +1,5 @@
 -- The peak against the blocks acquired: a list that acquires three blocks and stays sound on three; and that one block fewer than the peak's two more is too few.
 -- put 7, and three times: store 1 with tag 5, load.
-use mathlib.Core.Bool.{true}
 use mathlib.Core.List.{List, [], _∷_}
 use mathlib.Core.Logic.{_≢_}
 use mathlib.Core.Path.{_≡_, refl, sym, _∙_, ap}
@@ -24,8 +23,8 @@ use Rattle.bridge.specs.Sizes.{objectSizes}
 use Rattle.orders.specs.Answered.{answerTo}
 use Rattle.orders.specs.Plain.{plainly}
 use Rattle.orders.specs.Writes.{treeOf, contextAfter, present, kindsOk, asked}
-use Rattle.soundness.specs.Claims.{Item, runOf, isAccepted, reached, values, acquired, AllOwed, PeakWithin, stateAfter, LastRan, After, HeapStaysSound}
-use Rattle.soundness.specs.Peak.{Unfaulted, OneFewerIsTooFew}
+use Rattle.soundness.specs.Claims.{Item, runOf, reached, values, acquired, AllOwed, PeakWithin, stateAfter, Ran, AllRan, After, HeapStaysSound}
+use Rattle.soundness.specs.Peak.{NoFault, Unfaulted, OneFewerIsTooFew}
 use Rattle.soundness.specs.Example.{putSeven, storeOne, loadReleased}
 use Rattle.soundness.specs.Induction.{heap-stays-sound, left-by-runs}
 
@@ -81,15 +80,19 @@ short-values : values 2 short ≡ cons (object 5 (cons (integer 7) nil)) nil
 unfolding answerTo orderBytes le number checked firstBad bindingStarts bindingBytes orderIn orderOf orderReaders orderOk orderOperandsOk usedByOrder orderStarts treeOf contextAfter present kindsOk asked plainly location stackOffset putSeven storeOne
 short-values = refl
 
--- a run that ended has met no fault
-no-fault : (blocks : ℕ) (it : Item) (its : List Item) → LastRan blocks (it ∷ its) → isAccepted (reached blocks its) it ≡ true → (steps place : ℕ) → runOf (reached blocks its) it .answer ≢ Fault steps place
-no-fault blocks it its r e steps place f = let s = r e in let z : _≡_ {A = ℕ} 0 1 = ap kind (sym (s .ended) ∙ f) in absurd (omega arith)
+-- runs that ended have met no fault
+no-fault : (blocks : ℕ) (its : List Item) → AllRan blocks its → NoFault blocks its
+no-fault blocks [] r = tt
+no-fault blocks (it ∷ its) r = ((λ e. ended (r .0 e)), no-fault blocks its (r .1))
   where
     kind : Answer → ℕ
     kind (Ended k) = 0
     kind (Malformed p) = 2
     kind (Fault k p) = 1
     kind (Limit k) = 2
+
+    ended : Ran (reached blocks its) (values blocks its) it → (steps place : ℕ) → runOf (reached blocks its) it .answer ≢ Fault steps place
+    ended s steps place f = let z : _≡_ {A = ℕ} 0 1 = ap kind (sym (s .ended) ∙ f) in absurd (omega arith)
 
 -- an object of one has a block
 one-block : (fields : ℕ → List Cell) (linked : ℕ → ℕ) (p : ℕ) (chunks : List (List Cell)) → Object fields linked p chunks → lengths chunks ≡ 1 ∷ [] → p ≢ 0
@@ -101,12 +104,11 @@ pub one-fewer-is-too-few : OneFewerIsTooFew
 unfolding OneFewerIsTooFew
 one-fewer-is-too-few claim =
     let a = claim 2 1 short short-within (omega arith) (omega arith) (omega arith) short-owed in
-    let b = claim 2 1 (putSeven ∷ []) (short-within .1) (omega arith) (omega arith) (omega arith) (short-owed .1) in
     let u : Unfaulted 2 short
     = record {
       two = omega arith;
       most = omega arith;
-      no-fault = (no-fault 2 storeOne (putSeven ∷ []) (a .ran-on), (no-fault 2 putSeven [] (b .ran-on), tt));
+      no-fault = no-fault 2 short (a .ran);
       loads = ((λ e. short-owed .0 e .0), ((λ e. short-owed .1 .0 e .0), tt));
     } in
     let l = left-by-runs 2 short u in

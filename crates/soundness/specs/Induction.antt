@@ -9,17 +9,17 @@ use native.Mathlib.Nat.{zero-add}
 use native.Mathlib.Omega.{arith}
 use lib.Dec.{eqb}
 use lib.ListN.{replicate, length-replicate}
+use Rattle.records.specs.declared.order.Order.{Order}
 use Rattle.records.specs.Contexts.{extAt}
 use Rattle.instructions.specs.View.{wordsOf}
 use Rattle.heap.specs.Blocks.{pointers}
-use Rattle.heap.specs.Claims.{AbstractHeapStaysSound, HeapAfter, ReachesAtMost, AbstractFrontierIsPeak}
+use Rattle.heap.specs.Claims.{Reaches, ReachesAtMost, AbstractFrontierIsPeak}
 use Rattle.heap.specs.GrowthLemmas.{nothing-led, reachable-below}
 use Rattle.heap.specs.OrderLemmas.{represents-fresh}
 use Rattle.heap.specs.Orders as abstract
 use Rattle.heap.specs.Orders.{Run, Fresh, Every}
 use Rattle.heap.specs.Reachability.{ReachableCount}
-use Rattle.heap.specs.RunLemmas.{met-within, abstract-heap-stays-sound, abstract-frontier-is-peak}
-use Rattle.heap.specs.SoundLemmas.{sound, frontier-unique}
+use Rattle.heap.specs.RunLemmas.{met-within, abstract-frontier-is-peak}
 use Rattle.heap.specs.Values.{nil, countOf}
 use Rattle.heap.specs.Words.{byAddress, headers, addressOf, numberOf}
 use Rattle.layout.specs.Config.{base}
@@ -33,14 +33,16 @@ use Rattle.bridge.specs.Shown.{L, heapOf}
 use Rattle.bridge.specs.Sizes.{objectSizes}
 use Rattle.bridge.specs.Variables.{variables}
 use Rattle.contexts.specs.Bindings.{good-none}
-use Rattle.orders.specs.Answered.{orderIs, placesIn}
+use Rattle.orders.specs.declared.answer.Answer.{Answer}
+use Rattle.orders.specs.declared.answer.Answer.the-variants as answers
+use Rattle.orders.specs.Answered.{accepted, orderIs, placesIn, answerTo, counterAfter}
 use Rattle.orders.specs.Plain.{OwedKinds}
-use Rattle.playing.specs.Playing.{fresh}
-use Rattle.soundness.specs.Claims.{Item, isAccepted, runOf, reached, values, acquired, changes, PeakWithin, AllOwed, stateAfter, statesBefore, SoundChannel, LastRan, LastRefused, After, HeapStaysSound, HeapStaysSoundOnAcquired, acquires, Owed}
+use Rattle.playing.specs.Playing.{Channel, fresh}
+use Rattle.soundness.specs.Claims.{Item, isAccepted, runOf, reached, values, acquired, changes, PeakWithin, AllOwed, stateAfter, statesBefore, SoundChannel, SoundBefore, AllRan, Refused, AllRefused, After, HeapStaysSound, HeapStaysSoundOnAcquired, acquires, Owed}
 use Rattle.soundness.specs.Peak.{NoFault, LoadsOwed, ReachesWithin, HeapAfterList, PeakOf, Unfaulted, FrontierWithinPeakOfLists, FrontierIsPeak}
 use Rattle.orders.proofs.Accepting.{Taken, taken}
 use Rattle.soundness.specs.Ending.{start}
-use Rattle.soundness.specs.Carried.{Carried, Room, bounded-by-room, bounded-by-run, places-are}
+use Rattle.soundness.specs.Carried.{Carried, heap-after, sound-at, Room, bounded-by-room, bounded-by-run, places-are}
 use Rattle.soundness.specs.Changing.{changing-tries, result-by-run}
 use Rattle.soundness.specs.Stepping.{SteppedAt, Way, runAt, not-faulted, stepped}
 
@@ -57,6 +59,25 @@ zeroed n b = by (eqb (addressOf 3 (numberOf 3 b)) b)
     by : (q : Bool) → cond q (wordsOf (replicate n 0) (8 * numberOf 3 b + 0)) 0 ≡ 0
     by true = zeros n (8 * numberOf 3 b + 0)
     by false = refl
+
+-- a refused order
+refused : (ch : Channel) (it : Item) → isAccepted ch it ≡ false → Refused ch it
+refused ch it e = record { channel-kept = rw e; records-kept = λ o. rw e; context-kept = λ o. rw e; counter-kept = by (answerTo base (ch .context) (it .asked)) e }
+  where
+    by : (r : Answer) → accepted r ≡ false → counterAfter (it .asked .counter) r ≡ it .asked .counter
+    by (answers.Accepted records after bindings) e = let z : _≡_ {A = ℕ} 0 1 = cc in absurd (omega arith)
+    by answers.Context e = refl
+    by (answers.Malformed place) e = refl
+    by answers.Missing e = refl
+    by answers.Kind e = refl
+    by answers.Count e = refl
+    by answers.Position e = refl
+    by answers.Labels e = refl
+    by (answers.Room bytes) e = refl
+
+all-refused : (blocks : ℕ) (its : List Item) → AllRefused blocks its
+all-refused blocks [] = tt
+all-refused blocks (it ∷ its) = (refused (reached blocks its) it, all-refused blocks its)
 
 -- an accepted item's step, from a bound of the frontier to another
 abbrev pub StepOn : (blocks bound bound′ : ℕ) → Item → List Item → Type 0
@@ -121,32 +142,27 @@ module _ (blocks : ℕ) (most : blocks ≤ 1048576) where
         by true e f = rw e (step it its e h f .carried)
         by false e f = rw (e, g .refused it its e) f
 
-    heap-after : (its : List Item) → CarriedAt (g .bound its) its → (s : HeapAfter objectSizes L (statesBefore blocks its) (stateAfter blocks its)) × (s .frontier < g .bound its)
-    unfolding AbstractHeapStaysSound
-    heap-after its f =
-        let s : HeapAfter objectSizes L (statesBefore blocks its) (stateAfter blocks its) = abstract-heap-stays-sound objectSizes L (statesBefore blocks its) (stateAfter blocks its) refl (f .run) in
-        let e = frontier-unique (s .sound) (sound (f .represents .consistent)) in
-        let low = f .low in
-        (s, omega arith)
-
     sound-channel : (its : List Item) → g .granted its → g .bound its ≤ blocks → SoundChannel blocks its
-    sound-channel its h fits =
-        let f = carried its h in
-        let s = heap-after its f in
-        record { places = f .places; kinds = f .kinds; heap = s .0; frontier-there = omega (arith, s .1); whole = f .placed .words }
+    sound-channel its h fits = sound-at (carried its h) fits
 
-    last-ran : (its : List Item) → g .granted its → LastRan blocks its
-    last-ran [] h = tt
-    last-ran (it ∷ its) h = λ e.
-        let s = step it its e h (carried its (g .before it its h)) in
-        record { steps = s .steps; within = s .within; ended = s .ended; calls = s .calls }
+    sound-before : (its : List Item) → g .granted its → g .bound its ≤ blocks → SoundBefore blocks its
+    sound-before [] h fits = tt
+    sound-before (it ∷ its) h fits =
+        let h′ = g .before it its h in
+        let fits′ : g .bound its ≤ blocks = omega (arith, g .grows it its) in
+        (sound-channel its h′ fits′, sound-before its h′ fits′)
 
-    last-refused : (its : List Item) → LastRefused blocks its
-    last-refused [] = tt
-    last-refused (it ∷ its) = λ e. rw e
+    all-ran : (its : List Item) → g .granted its → AllRan blocks its
+    all-ran [] h = tt
+    all-ran (it ∷ its) h = (
+      (λ e.
+          let s = step it its e h (carried its (g .before it its h)) in
+          record { steps = s .steps; within = s .within; ended = s .ended; calls = s .calls }),
+      all-ran its (g .before it its h),
+    )
 
     after : (its : List Item) → g .granted its → g .bound its ≤ blocks → After blocks its
-    after its h fits = record { sound = sound-channel its h fits; ran-on = last-ran its h; refused-kept = last-refused its }
+    after its h fits = record { sound = sound-channel its h fits; sound-before = sound-before its h fits; ran = all-ran its h; refused = all-refused blocks its }
 
   -- with room for what is reachable and what is acquired
   roomed : (bound bound′ : ℕ) (it : Item) (its : List Item) → bound ≤ bound′ → bound′ ≤ blocks → TakenAt it its → OwedAt it its → (f : CarriedAt bound its) → Room (reached blocks its) (values blocks its) (orderIs (it .asked)) bound′
@@ -172,6 +188,15 @@ module _ (blocks : ℕ) (most : blocks ≤ 1048576) where
         (λ count k. rw e (let low = f .low in omega (arith, reachable-below (f .represents .consistent) k)));
   }
 
+  -- room within the peak: a store of some has it by the premise, and any other order wants none
+  pub peak-room : (peak : ℕ) (o : Order) (its : List Item) → 2 + peak ≤ blocks → (acquires o ≢ 0 → (count : ℕ) → Reaches count (stateAfter blocks its) → count + acquires o ≤ peak) → CarriedAt blocks its
+      → Room (reached blocks its) (values blocks its) o blocks
+  peak-room peak o its enough h f count k = by (ℕ-discrete (acquires o) 0)
+    where
+      by : Dec (acquires o ≡ 0) → suc (count + acquires o) < blocks
+      by (yes z) = let low = f .low in omega (arith, reachable-below (f .represents .consistent) k)
+      by (no z) = omega (arith, h z count (rw (places-are (reached blocks its .context) (countOf (values blocks its)) (f .places)) k))
+
   -- two more than the peak
   by-peak : (peak : ℕ) → 2 + peak ≤ blocks → Grants
   by-peak peak enough = record {
@@ -183,17 +208,8 @@ module _ (blocks : ℕ) (most : blocks ≤ 1048576) where
     grows = λ it its. omega arith;
     refused = λ it its e. refl;
     owed = λ it its h e t f. h .1 .0 e;
-    way = λ it its h e t f. roomed blocks blocks it its (omega arith) (omega arith) t (h .1 .0 e) f (room it its h e f);
+    way = λ it its h e t f. roomed blocks blocks it its (omega arith) (omega arith) t (h .1 .0 e) f (peak-room peak (orderIs (it .asked)) its enough (h .0 .0 e) f);
   }
-    where
-      -- a store of some has the premise's, and any other order wants none
-      room : (it : Item) (its : List Item) → PeakWithin blocks peak (it ∷ its) × AllOwed blocks (it ∷ its) → isAccepted (reached blocks its) it ≡ true → (f : CarriedAt blocks its)
-          → Room (reached blocks its) (values blocks its) (orderIs (it .asked)) blocks
-      room it its h e f count k = by (ℕ-discrete (acquires (orderIs (it .asked))) 0)
-        where
-          by : Dec (acquires (orderIs (it .asked)) ≡ 0) → suc (count + acquires (orderIs (it .asked))) < blocks
-          by (yes z) = let low = f .low in omega (arith, reachable-below (f .represents .consistent) k)
-          by (no z) = omega (arith, h .0 .0 e z count (rw (places-are (reached blocks its .context) (countOf (values blocks its)) (f .places)) k))
 
   -- by runs that meet no fault
   tree-done : (it : Item) (its : List Item) → 2 ≤ blocks → ((steps place : ℕ) → runOf (reached blocks its) it .answer ≢ Fault steps place) → TakenAt it its → (f : CarriedAt (suc blocks) its)
@@ -242,6 +258,17 @@ module _ (blocks : ℕ) (most : blocks ≤ 1048576) where
       by true e = e
       by false e = e .1
 
+-- what is carried after a list, under the premises of either claim
+pub carried-within-peak : (blocks peak : ℕ) (its : List Item) → PeakWithin blocks peak its → 2 + peak ≤ blocks → blocks ≤ 1048576 → AllOwed blocks its
+    → Carried blocks blocks (statesBefore blocks its) (reached blocks its) (values blocks its)
+unfolding by-peak
+carried-within-peak blocks peak its h enough most w = carried blocks most (by-peak blocks most peak enough) its (h, w)
+
+pub carried-on-acquired : (blocks : ℕ) (its : List Item) → 2 + acquired blocks its ≤ blocks → blocks ≤ 1048576 → AllOwed blocks its
+    → Carried blocks (2 + acquired blocks its) (statesBefore blocks its) (reached blocks its) (values blocks its)
+unfolding by-acquired
+carried-on-acquired blocks its h most w = carried blocks most (by-acquired blocks most) its (h, w)
+
 pub heap-stays-sound : HeapStaysSound
 unfolding HeapStaysSound by-peak
 heap-stays-sound blocks peak its h enough most w = after blocks most (by-peak blocks most peak enough) its (h, w) (omega arith)
@@ -281,7 +308,7 @@ module _ (blocks : ℕ) where
   unfolding AbstractFrontierIsPeak by-runs
   left-by-runs its u =
       let f = carried-by-runs its u in
-      let s = heap-after blocks (u .most) (by-runs blocks (u .most) (u .two)) its f in
+      let s = heap-after f in
       let p = abstract-frontier-is-peak objectSizes L (statesBefore blocks its) (stateAfter blocks its) (s .0 .frontier) refl (f .run) (s .0 .sound) in
       record { heap = s .0; within = omega (arith, s .1); peak = p .0; is-peak = p .1; past-peak = p .2; whole = f .placed .words }
 

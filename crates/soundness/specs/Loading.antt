@@ -1,17 +1,19 @@
 -- The last variable's object loaded: the order performs what the abstract heap names.
 use mathlib.Core.Bool.{Bool, true, false}
 use mathlib.Core.List.{[], _∷_, _++_}
+use mathlib.Core.Logic.{_≢_}
 use mathlib.Core.Path.{_≡_, refl, _∙_}
 use Prim.Native.Nat.{ℕ, zero, suc, _+_, _-_, _*_, _≤_, _<_}
 use native.Mathlib.Nat.{zero-add}
 use native.Mathlib.Omega.{arith}
 use Rattle.layout.specs.Config.{base}
+use Rattle.layout.specs.Positions.{location}
 use Rattle.instructions.specs.Step.{Config}
 use Rattle.memory.specs.Objects.{fst, chunks, capacity, freed, loadValues, loadBlock, loadOthers, loadSome, loadObject}
 use Rattle.heap.specs.Invariant.{Represents}
 use Rattle.heap.specs.Orders.{load}
 use Rattle.heap.specs.Values.{object, Values, countOf, valueAt, KindsFrom}
-use Rattle.positions.specs.Held.{Placed}
+use Rattle.positions.specs.Held.{Keeps, Placed}
 use Rattle.positions.specs.HeldLemmas.{placed-keeps, location-fits}
 use Rattle.positions.specs.Runs.{Does, so}
 use Rattle.bridge.specs.LoadOrder.{load-order}
@@ -45,14 +47,18 @@ module _ (f g : ℕ → Bool) where
   pub load-same : (v n : ℕ) → Alike v n → loadObject base f v n ≡ loadObject base g v n
   load-same v n a = rw (some-same true v n a, some-same false v n a)
 
+-- what lies below variable v, registers and spills that a load uses left out
+abbrev pub Below : ℕ → ℕ → Type 0
+Below v x = (x ≢ 1) × (x ≢ 2) × (x ≢ 16) × (x < location (2 * v))
+
 module _ (words : ℕ → ℕ) {N m : ℕ} {values : Values} (ext ext′ : ℕ → Bool) (c : Config) (v : Placed N c) where
   -- the variable e is the last, and loads as `own` says
   pub load-does : (own : ℕ → Bool) (e tag : ℕ) (ws : Values) → m ≤ N → e < 133 → e + countOf ws ≤ 133 → ((x : ℕ) → x < e → ext′ x ≡ ext x) → ext e ≡ false
       → ((x : ℕ) → e ≤ x → x < e + countOf ws → own x ≡ ext′ x) → valueAt e values ≡ object tag ws → KindsFrom ext′ e ws
       → Represents objectSizes L (heapOf c) m (variables ext c 0 (suc e)) values
-      → Does words (loadObject base own e (countOf ws)) c (Performed N c (load (countOf ws)) ext ext′ (suc e) (e + countOf ws))
+      → Does words (loadObject base own e (countOf ws)) c (λ d. Performed N c (load (countOf ws)) ext ext′ (suc e) (e + countOf ws) d × Keeps (Below e) c d)
   load-does own e tag ws mN h most agree linked alike is kinds rep =
       let snoc : variables ext c 0 (suc e) ≡ variables ext c 0 e ++ (variable ext c e ∷ []) = variables-snoc ext c 0 e ∙ rw (zero-add e) in
       rw (load-same own ext′ e (countOf ws) alike)
       (so (load-order words ext ext′ c e tag v mN h agree linked (rw snoc at rep) ws most is kinds) (λ d x.
-      record { performs = rw snoc (x .0); placed = placed-keeps (omega (arith, location-fits (2 * e) (omega arith) .0)) (x .1) v; quiet = x .1 .calls-kept }))
+      (record { performs = rw snoc (x .0); placed = placed-keeps (omega (arith, location-fits (2 * e) (omega arith) .0)) (x .1) v; quiet = x .1 .calls-kept }, x .1)))

@@ -1,8 +1,11 @@
 // Demand 3: the heap stays sound for every list of orders; and how much heap to fit. The claims are in specs/Claims.antt and specs/Peak.antt; their proofs cite the theorems.
 ghost use Rattle.soundness.specs.Claims.{HeapStaysSound, HeapStaysSoundOnAcquired};
+ghost use Rattle.soundness.specs.Operations.{OperationsDoWhatTheyName, OperationsDoWhatTheyNameOnAcquired};
+ghost use Rattle.soundness.specs.Prints.{PrintedIsCalled};
 ghost use Rattle.soundness.specs.Peak.{FrontierWithinPeakOfLists, FrontierIsPeak, PeakIsEnough, OneFewerIsTooFew};
 ghost use Rattle.soundness.specs.Counts.{CountsAreTrue, FitIsForPeak};
 ghost use Rattle.soundness.specs.Example.{WorkedListIsSound};
+ghost use Rattle.soundness.specs.Operated.{WorkedOperations};
 ghost use Rattle.soundness.specs.Fewest.{SeasonIsSound};
 
 pub fn heap_stays_sound()
@@ -12,6 +15,15 @@ pub fn heap_stays_sound()
 // by the blocks that are acquired, whatever is reachable
 pub fn heap_stays_sound_on_acquired()
     ensures { λ r. ⌜ HeapStaysSoundOnAcquired ⌝ }
+{}
+
+// store, load, share_block_n and erase_block on the context of a channel that a list has reached
+pub fn operations_do_what_they_name()
+    ensures { λ r. ⌜ OperationsDoWhatTheyName ⌝ }
+{}
+
+pub fn operations_do_what_they_name_on_acquired()
+    ensures { λ r. ⌜ OperationsDoWhatTheyNameOnAcquired ⌝ }
 {}
 
 // by runs that met no fault, on however many blocks
@@ -37,8 +49,17 @@ pub fn worked_list_is_sound()
     ensures { λ r. ⌜ WorkedListIsSound ⌝ }
 {}
 
+pub fn worked_operations()
+    ensures { λ r. ⌜ WorkedOperations ⌝ }
+{}
+
 pub fn season_is_sound()
     ensures { λ r. ⌜ SeasonIsSound ⌝ }
+{}
+
+// what `channel` prints of it
+pub fn printed_is_called()
+    ensures { λ r. ⌜ PrintedIsCalled ⌝ }
 {}
 
 // what `chains::count_blocks` counts of it

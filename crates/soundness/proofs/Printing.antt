@@ -1,0 +1,73 @@
+-- What is put for an order is what its calls write.
+use Prim.Native.Nat.{ℕ, _+_, _*_, _≤_, _<_}
+use mathlib.Core.Bool.{Bool, true, false, cond}
+use mathlib.Core.List.{List, [], _∷_, _++_, append-nil}
+use mathlib.Core.Path.{_≡_, refl, sym, _∙_, ap}
+use native.Mathlib.Omega.{arith}
+use borrow.Author.Tests.{ltb-true, lt-ltb}
+use Rattle.records.specs.declared.order.Order.{Order}
+use Rattle.records.specs.declared.order.Order.the-variants.{Put, Compute, Copy, Drop, Store, Load, Print}
+use Rattle.records.specs.Contexts.{extAt}
+use Rattle.records.specs.Orders.{orderRead}
+use Rattle.printing.specs.Print.{printName}
+use Rattle.heap.specs.Orders.{State}
+use Rattle.heap.specs.Values.{Values, countOf, valueAt}
+use Rattle.bridge.specs.Shown.{heapOf}
+use Rattle.orders.specs.Answered.{orderIs, placesIn}
+use Rattle.orders.specs.Plain.{integerOf}
+use Rattle.orders.specs.Writes.{present, kindsOk, asked}
+use Rattle.playing.specs.Playing.{Channel}
+use Rattle.orders.proofs.Accepting.{Taken, taken}
+use Rattle.showing.specs.Prints.{printedText, wordOf, printsOf, prints}
+use Rattle.soundness.specs.Claims.{Item, isAccepted, runOf, reached, values, callsOf, Ran, SoundAt, SoundChannel, SoundBefore, AllRan}
+use Rattle.soundness.specs.Ending.{start}
+use Rattle.soundness.specs.Carried.{places-are}
+use Rattle.soundness.specs.Changing.{integer-there}
+use Rattle.soundness.specs.Prints.{callTexts, putFor, calledFor, putIn, calledIn, PrintedIsCalled}
+
+-- an accepted order on a sound channel
+module _ {blocks : ℕ} {past : List State} {ch : Channel} {vs : Values} (it : Item) (s : SoundAt blocks past ch vs) (t : Taken (ch .context) (it .asked) (countOf vs)) where
+  abbrev put : Order → List ℕ
+  put o = printsOf (ch .view .reg) (ch .view .stk) o
+
+  put-is : prints (ch .view .reg) (ch .view .stk) (orderRead (it .asked .order)) ≡ put (orderIs (it .asked))
+  unfolding prints orderRead
+  put-is = rw (t .starts, t .alone)
+
+  called-is : (o : Order) → orderIs (it .asked) ≡ o → put o ≡ callTexts (callsOf o vs)
+  unfolding printsOf wordOf present kindsOk asked
+  called-is (Put value) e = refl
+  called-is (Compute operation a b) e = refl
+  called-is (Copy a n) e = refl
+  called-is Drop e = refl
+  called-is (Store n tag) e = refl
+  called-is (Load n) e = refl
+  called-is (Print newline a) e =
+      let k : placesIn (ch .context) ≡ countOf vs = places-are (ch .context) (countOf vs) (s .places) in
+      let h : a < countOf vs = ltb-true a (countOf vs) (rw e at (t .there)) in
+      let x : extAt (ch .context) a ≡ true = rw e at (t .of-kind) in
+      let p : 2 * a + 2 ≤ 267 = rw e at (t .placed) in
+      let w : wordOf (ch .view .reg) (ch .view .stk) a ≡ integerOf (valueAt a vs) = integer-there (heapOf (start (ch .view)) .fields) (s .heap .linked) (extAt (ch .context)) (start (ch .view)) vs (rw k at (s .heap .holds)) (s .kinds) a h x in
+      rw (lt-ltb a 133 (omega arith), w) (texts newline (integerOf (valueAt a vs)))
+    where
+      texts : (newline : Bool) (number : ℕ) → printedText newline number ≡ callTexts (record { name = printName newline; number = number } ∷ [])
+      texts true number = sym (append-nil (printedText true number))
+      texts false number = sym (append-nil (printedText false number))
+
+pub printed-is-called : PrintedIsCalled
+unfolding PrintedIsCalled
+printed-is-called blocks its a = along its (a .sound-before) (a .ran)
+  where
+    same : (it : Item) (its : List Item) → SoundChannel blocks its → (isAccepted (reached blocks its) it ≡ true → Ran (reached blocks its) (values blocks its) it) → putFor (reached blocks its) it ≡ calledFor (reached blocks its) it
+    same it its s r = by (isAccepted (reached blocks its) it) refl
+      where
+        by : (q : Bool) → isAccepted (reached blocks its) it ≡ q
+            → cond q (prints (reached blocks its .view .reg) (reached blocks its .view .stk) (orderRead (it .asked .order))) [] ≡ cond q (callTexts (runOf (reached blocks its) it .last .calls)) []
+        by false e = refl
+        by true e =
+            let t = taken (reached blocks its .context) (it .asked) (countOf (values blocks its)) (s .places) e in
+            put-is it s t ∙ called-is it s t (orderIs (it .asked)) refl ∙ ap callTexts (sym (r e .calls))
+
+    along : (its : List Item) → SoundBefore blocks its → AllRan blocks its → putIn blocks its ≡ calledIn blocks its
+    along [] s r = refl
+    along (it ∷ its) s r = ap (λ (x : List ℕ). x ++ putFor (reached blocks its) it) (along its (s .1) (r .1)) ∙ ap (λ (x : List ℕ). calledIn blocks its ++ x) (same it its (s .0) (r .0))

@@ -1,0 +1,42 @@
+-- What `channel` prints under `printed` is what the print calls of the runs were given. `prints` is what the contract of `showing::prints::put_print` cites: the program
+-- puts it for each accepted order, one after the other, from the registers and the stack before the order.
+use Prim.Native.Nat.{ℕ}
+use mathlib.Core.Path.{_≡_}
+use mathlib.Core.Bool.{true, cond}
+use mathlib.Core.List.{List, [], _∷_, _++_}
+use lib.Dec.{eqb}
+use Rattle.records.specs.Orders.{orderRead}
+use Rattle.printing.specs.Print.{printName}
+use Rattle.instructions.specs.Step.{Call}
+use Rattle.playing.specs.Playing.{Channel}
+use Rattle.showing.specs.Prints.{printedText, prints}
+use Rattle.soundness.specs.Claims.{Item, isAccepted, runOf, reached, After}
+
+-- what a call writes: the word in register 7, and a newline if its name asks for one
+abbrev pub callText : Call → List ℕ
+callText c = printedText (eqb (c .name) (printName true)) (c .number)
+
+abbrev pub callTexts : List Call → List ℕ
+callTexts [] = []
+callTexts (c ∷ cs) = callText c ++ callTexts cs
+
+-- what the program puts for an item, and what the calls of its run write
+abbrev pub putFor : Channel → Item → List ℕ
+putFor ch it = cond (isAccepted ch it) (prints (ch .view .reg) (ch .view .stk) (orderRead (it .asked .order))) []
+
+abbrev pub calledFor : Channel → Item → List ℕ
+calledFor ch it = cond (isAccepted ch it) (callTexts (runOf ch it .last .calls)) []
+
+-- after a list, the newest item's last
+module _ (blocks : ℕ) where
+  abbrev pub putIn : List Item → List ℕ
+  putIn [] = []
+  putIn (it ∷ its) = putIn its ++ putFor (reached blocks its) it
+
+  abbrev pub calledIn : List Item → List ℕ
+  calledIn [] = []
+  calledIn (it ∷ its) = calledIn its ++ calledFor (reached blocks its) it
+
+-- wherever the heap stays sound
+unfoldable pub PrintedIsCalled : Type 0
+PrintedIsCalled = (blocks : ℕ) (its : List Item) → After blocks its → putIn blocks its ≡ calledIn blocks its
