@@ -49,7 +49,7 @@ pub record HeapAfter (sizes : ℕ → List ℕ) (L : Layout) (past : List State)
   pub frontier : ℕ
   pub sound : SoundState L frontier now
   pub first-never-used : FirstNeverUsed L (now ∷ past) frontier
-  -- the blocks that a link of an object names: each has one pointer at most
+  -- the blocks that a link of an object names: each has one pointer at most. Which they are is the proof's to say; to say more would only ask for more
   pub linked : ℕ → ℕ
   pub one-pointer : (b : ℕ) → b ≢ 0 → linked b ≢ 0
       → occ b (pointers (now .variables)) + refs (children (now .memory .fields)) b (sound .lazy) + refs (children (now .memory .fields)) b (sound .held) ≤ 1

@@ -12,7 +12,7 @@ use Rattle.records.specs.declared.order.Order.the-variants.{Store, Load}
 use Rattle.records.specs.Contexts.{extAt}
 use Rattle.records.specs.ReadBack.{joined, codeBytes}
 use Rattle.trees.specs.Tree.{Tree, size, flat}
-use Rattle.layout.specs.Config.{base, TEMP, HEAP, FREE}
+use Rattle.layout.specs.Config.{base, TEMP, HEAP, FREE, spill}
 use Rattle.layout.specs.Positions.{location, positions}
 use Rattle.emit.specs.Answers.{accepted}
 use Rattle.memory.specs.Answered.{eraseAnswer, shareAnswer, storeTree, storeAnswer}
@@ -28,7 +28,7 @@ use Rattle.heap.specs.Operations.{Elsewhere, Erase}
 use Rattle.heap.specs.Orders.{State}
 use Rattle.heap.specs.Values as values
 use Rattle.heap.specs.Values.{Values, countOf, firstOf, restOf, valueAt, copies, HoldAll}
-use Rattle.heap.specs.Words.{memoryOf}
+use Rattle.heap.specs.Words.{stride, memoryOf}
 use Rattle.heap.specs.WordLemmas.{layout}
 use Rattle.positions.specs.Held.{heldIn, NoSpill}
 use Rattle.bridge.specs.Sizes.{objectSizes}
@@ -57,11 +57,11 @@ abbrev pub wordAt : View → ℕ → ℕ
 wordAt v p = heldIn (v .reg) (v .stk) (location p)
 
 abbrev pub heapIn : View → Memory
-heapIn v = memoryOf 3 (v .mem) (v .reg HEAP) (v .reg FREE)
+heapIn v = memoryOf (base .fields) (v .mem) (v .reg HEAP) (v .reg FREE)
 
 -- from one state to another: the registers and spills of P, the stack's other words and the number of heap words are as they were
 pub record Stay (P : ℕ → Type 0) (v v′ : View) : Type 0 where
-  pub operands : (l : ℕ) → l < 272 → P l → heldIn (v′ .reg) (v′ .stk) l ≡ heldIn (v .reg) (v .stk) l
+  pub operands : (l : ℕ) → l < spill (base .spills) → P l → heldIn (v′ .reg) (v′ .stk) l ≡ heldIn (v .reg) (v .stk) l
   pub stack : (i : ℕ) → NoSpill i → v′ .stk i ≡ v .stk i
   pub size : v′ .size ≡ v .size
 
@@ -71,13 +71,14 @@ FirstVariables k l = (p : ℕ) × (p < 2 * k) × (l ≡ location p)
 
 -- the heap's words but the first of each block
 abbrev pub FieldsStay : View → View → Type 0
-FieldsStay v v′ = (block word : ℕ) → 0 < word → word < 8 → v′ .mem (8 * block + word) ≡ v .mem (8 * block + word)
+FieldsStay v v′ =
+    (block word : ℕ) → 0 < word → word < stride (base .fields) → v′ .mem (stride (base .fields) * block + word) ≡ v .mem (stride (base .fields) * block + word)
 
 -- a heap that is sound for these variables, which hold their values; its frontier is a block of the heap, and a link's block has one pointer at most
 pub record SoundFor (blocks : ℕ) (M : Memory) (variables : List Cell) (vs : Values) : Type 0 where
   pub frontier : ℕ
   pub frontier-there : frontier < blocks
-  pub sound : Sound (layout 3) M frontier (pointers variables)
+  pub sound : Sound (layout (base .fields)) M frontier (pointers variables)
   pub linked : ℕ → ℕ
   pub one-pointer : (b : ℕ) → b ≢ 0 → linked b ≢ 0 → occ b (pointers variables) + refs (children (M .fields)) b (sound .lazy) + refs (children (M .fields)) b (sound .held) ≤ 1
   pub holds : HoldAll objectSizes (M .fields) linked vs variables
