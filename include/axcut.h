@@ -345,7 +345,8 @@ static inline void axcut_write_order(uint8_t *at, uint8_t code, uint8_t flag, ui
 
 /*
  * The word that a variable holds between two runs: its Snd (an Ext's integer, a linked variable's tag) or its Fst. 0 where the
- * place has no position, or STACK is not in the stack. A print order's integer is read so before its run.
+ * place has no position, or STACK is not in the stack. A print order's integer is read so before its run. Between the orders of
+ * a sound channel STACK is where the setup left it (proved: heap_stays_sound).
  */
 static inline uint64_t axcut_word(const uint64_t *registers, const uint64_t *stack, uint32_t place, bool second)
 {

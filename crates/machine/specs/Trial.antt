@@ -2,6 +2,7 @@
 use Prim.Native.Nat.{ℕ}
 use mathlib.Core.Bool.{cond}
 use mathlib.Core.List.{List, [], _∷_}
+use Rattle.records.specs.Causes.{ACCEPTED, MALFORMED, FAULT}
 use Rattle.records.specs.declared.code.Code.{Code}
 use Rattle.records.specs.Codes.{fieldsOf}
 use Rattle.records.specs.Instructions.{fieldsOk}
@@ -26,8 +27,8 @@ trialOf (Malformed place) s q calls = refused place (config s q calls)
 
 -- document 01's number and values: 0 where the instruction is performed; a fault comes after no step, at place 1
 abbrev pub causeOf : Trial → List ℕ
-causeOf (took (next c)) = 0 ∷ []
-causeOf (took (jump label c)) = 0 ∷ []
-causeOf (took (end c)) = 0 ∷ []
-causeOf (took (fault c)) = 11 ∷ 0 ∷ 1 ∷ []
-causeOf (refused place c) = 2 ∷ place ∷ []
+causeOf (took (next c)) = ACCEPTED ∷ []
+causeOf (took (jump label c)) = ACCEPTED ∷ []
+causeOf (took (end c)) = ACCEPTED ∷ []
+causeOf (took (fault c)) = FAULT ∷ 0 ∷ 1 ∷ []
+causeOf (refused place c) = MALFORMED ∷ place ∷ []

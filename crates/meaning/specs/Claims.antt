@@ -23,11 +23,12 @@ use Rattle.operations.specs.Operations.{recordsOf}
 use Rattle.word.specs.Words.{choose, less}
 use Rattle.word.specs.Results.{result, resultDefined}
 use Rattle.instructions.specs.declared.instruction.Compared.the-variants.{Absent}
-use Rattle.instructions.specs.View.{View}
+use Rattle.instructions.specs.View.{View, wordsOf}
 use Rattle.instructions.specs.Memory.{heapOk}
 use Rattle.instructions.specs.Step.{Config, config}
 use Rattle.machine.specs.declared.run.Answer.the-variants.{Ended, Fault}
 use Rattle.machine.specs.Run.{placesOf, done, ran}
+use Rattle.machine.specs.State.{freshState}
 use Rattle.structured.specs.Claims.{Reaches}
 use Rattle.positions.specs.Held.{held, Keeps, Placed}
 
@@ -108,7 +109,7 @@ fresh v = config v Absent []
 
 -- a state that operations run in: STACK where the routine's setup leaves it, and a heap that the machine takes
 pub record Ready (v : View) : Type 0 where
-  pub stack : v .reg STACK ≡ 1099511625672
+  pub stack : v .reg STACK ≡ wordsOf (freshState .registers) STACK
   pub heap : heapOk (v .size) ≡ true
 
 -- the bytes of the records, run from the first with their number as step limit, come to the end

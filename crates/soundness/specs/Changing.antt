@@ -72,6 +72,11 @@ reattempted F e d = rw (← e) d
 recounted-kept : {words : ℕ → ℕ} {blocks : ℕ} {c : Config} {o : _} {ext ext′ : ℕ → Bool} {k j n : ℕ} {t : _} {W : Config → Type 0} → n ≡ j → Does words t c (λ d. Performed blocks c o ext ext′ k j d × W d) → Does words t c (λ d. Performed blocks c o ext ext′ k n d × W d)
 recounted-kept e d = rw e d
 
+-- the variables that a load leaves have positions
+pub loaded-most : (v n : ℕ) → v ≤ 133 → cond (eqb n 0) 0 (2 * (v + n)) ≤ 267 → v + n ≤ 133
+loaded-most v zero h a = omega arith
+loaded-most v (suc n) h a = let b = rw (ne-eqb (suc n) 0 (λ z. omega arith)) at a in omega arith
+
 module _ (words : ℕ → ℕ) {blocks bound : ℕ} {past : List State} {ch : Channel} {vs : Values} (f : Carried blocks bound past ch vs) (bindings : List ℕ) where
   abbrev K : ℕ
   K = countOf vs
@@ -253,13 +258,9 @@ module _ (words : ℕ → ℕ) {blocks bound : ℕ} {past : List State} {ch : Ch
         stored (suc n) l a = omega (arith, f .few)
     changing-tries (Load n) c p e a w =
         let h = ltb-true 0 K p in
-        quietly (Load n) refl (load-order n (K - 1) (omega arith) (turned (E (K - 1)) e) (loaded n a h) (w .0))
+        quietly (Load n) refl (load-order n (K - 1) (omega arith) (turned (E (K - 1)) e) (loaded-most (K - 1) n (omega (arith, f .few)) a) (w .0))
       where
         turned : (b : Bool) → not b ≡ true → b ≡ false
         turned false e = refl
         turned true e = let z : _≡_ {A = ℕ} 0 1 = cc in absurd (omega arith)
-
-        loaded : (n : ℕ) → cond (eqb n 0) 0 (2 * (K - 1 + n)) ≤ 267 → 0 < K → K - 1 + n ≤ 133
-        loaded zero a h = omega (arith, f .few)
-        loaded (suc n) a h = let b = rw (ne-eqb (suc n) 0 (λ z. omega arith)) at a in omega arith
     changing-tries (Print newline x) c p e a w = let z : _≡_ {A = ℕ} 0 1 = cc in absurd (omega arith)

@@ -61,7 +61,7 @@ use Rattle.soundness.specs.Claims.{acquired, stateOf, SoundAt}
 use Rattle.soundness.specs.Appending.{Performed}
 use Rattle.soundness.specs.Ending.{start, heap-ok, ends}
 use Rattle.soundness.specs.Carried.{Carried, sound-at, places-are, Room, bounded-by-room, carried-on}
-use Rattle.soundness.specs.Changing.{load-keeps}
+use Rattle.soundness.specs.Changing.{loaded-most, load-keeps}
 use Rattle.soundness.specs.Copying.{among}
 use Rattle.formed.specs.Granting.{erase-granted, share-granted, store-granted, load-granted}
 use Rattle.soundness.specs.Induction.{carried-within-peak, carried-on-acquired, peak-room}
@@ -281,10 +281,6 @@ module _ (words : ℕ → ℕ) {blocks bound : ℕ} {past : List State} {ch : Ch
     where
       by : ltb (2 * (v + suc n) - 1) 267 ≡ true → 2 * (v + suc n) ≤ 267
       by q = omega (arith, ltb-true (2 * (v + suc n) - 1) 267 q)
-
-  loaded-most : (v n : ℕ) → v ≤ 133 → cond (eqb n 0) 0 (2 * (v + n)) ≤ 267 → v + n ≤ 133
-  loaded-most v zero h a = omega arith
-  loaded-most v (suc n) h a = let b = rw (ne-eqb (suc n) 0 (λ z. omega arith)) at a in omega arith
 
   module _ (bindings : List ℕ) (good : checkedContext bindings ≡ Good (placesIn bindings)) (fitting : loadFits base (K - 1) (placesIn bindings) ≡ true)
       (owed : AsStored bindings (placesIn bindings) (valueAt (K - 1) vs)) where
