@@ -16,7 +16,7 @@ use Rattle.records.specs.Contexts.{checkedContext}
 use Rattle.records.specs.Orders.{orderIn, orderOk, orderStarts}
 use Rattle.records.proofs.Conditions.{and-left}
 use Rattle.trees.specs.Tree.{size}
-use Rattle.layout.specs.Config.{base}
+use Rattle.layout.specs.declared.config.Shape.{Shape}
 use Rattle.memory.specs.Answered.{variablesIn}
 use Rattle.orders.specs.declared.answer.Answer.{Answer}
 use Rattle.orders.specs.declared.answer.Answer.the-variants.{Context, Malformed}
@@ -35,53 +35,53 @@ order-whole s e =
     leb-true 24 (length s) (and-left b₀ b₁ (and-left (b₀ && b₁) b₂ (and-left (b₀ && b₁ && b₂) (orderOk (orderIn s)) e)))
 
 -- a refusal leaves both outputs
-pub unanswered : {o a : List ℕ} {r : Answer} (c : List ℕ) (q : Asked) → r ≡ answerTo base c q → accepted r ≡ false → AnswersOrder c q r o o a a
-unanswered c q e f = record { answer = e; cause = ap causeOf e; records = rw (← e, f); after = rw (← e, f) }
+pub unanswered : {o a : List ℕ} {r : Answer} (G : Shape) (c : List ℕ) (q : Asked) → r ≡ answerTo G c q → accepted r ≡ false → AnswersOrder G c q r o o a a
+unanswered G c q e f = record { answer = e; cause = ap causeOf e; records = rw (← e, f); after = rw (← e, f) }
 
-module _ (c : List ℕ) (q : Asked) where
-  pub context-bad : (place : ℕ) → checkedContext c ≡ checked.Malformed place → Context ≡ answerTo base c q
+module _ (G : Shape) (c : List ℕ) (q : Asked) where
+  pub context-bad : (place : ℕ) → checkedContext c ≡ checked.Malformed place → Context ≡ answerTo G c q
   unfolding answerTo
   context-bad place e = rw e
 
   module _ (k : ℕ) (h : checkedContext c ≡ Good k) where
-    pub bindings-bad : (place : ℕ) → checkedContext (q .bindings) ≡ checked.Malformed place → Context ≡ answerTo base c q
+    pub bindings-bad : (place : ℕ) → checkedContext (q .bindings) ≡ checked.Malformed place → Context ≡ answerTo G c q
     unfolding answerTo
     bindings-bad place e = rw (h, e)
 
     module _ (m : ℕ) (g : checkedContext (q .bindings) ≡ Good m) where
-      pub order-bad : orderStarts (q .order) ≡ false → Malformed 1 ≡ answerTo base c q
+      pub order-bad : orderStarts (q .order) ≡ false → Malformed 1 ≡ answerTo G c q
       unfolding answerTo
       order-bad e = rw (h, g, e)
 
       module _ (s : orderStarts (q .order) ≡ true) {o : Order} (e : o ≡ orderIs q) where
-        pub number-bad : (m ≡ wanted o → ⊥) → Malformed 1 ≡ answerTo base c q
+        pub number-bad : (m ≡ wanted o → ⊥) → Malformed 1 ≡ answerTo G c q
         unfolding answerTo
         number-bad n = rw (h, g, s, ne-eqb m (wanted (orderIs q)) (λ z. n (z ∙ ap wanted (sym e))))
 
         module _ (w : m ≡ wanted o) where
-          pub surplus : (length (q .order) ≡ 24 → ⊥) → Malformed 2 ≡ answerTo base c q
+          pub surplus : (length (q .order) ≡ 24 → ⊥) → Malformed 2 ≡ answerTo G c q
           unfolding answerTo
           surplus n = rw (h, g, s, eq-eqb m (wanted (orderIs q)) (w ∙ ap wanted e), ne-eqb (length (q .order)) 24 n)
 
           module _ (l : length (q .order) ≡ 24) where
-            all-read : decided base c k q ≡ answerTo base c q
+            all-read : decided G c k q ≡ answerTo G c q
             unfolding answerTo
             all-read = rw (h, g, s, eq-eqb m (wanted (orderIs q)) (w ∙ ap wanted e), eq-eqb (length (q .order)) 24 l)
 
-            same-judged : judged c k (q .bindings) (orderIs q) (q .counter) (q .recordsRoom) (q .contextRoom) ≡ decided base c k q
+            same-judged : judged G c k (q .bindings) (orderIs q) (q .counter) (q .recordsRoom) (q .contextRoom) ≡ decided G c k q
             unfolding judged fitting
             same-judged =
-                let d : 24 * size (treeOf base c k (q .bindings) (orderIs q)) / 24 ≡ size (treeOf base c k (q .bindings) (orderIs q)) = omega arith in
+                let d : 24 * size (treeOf G c k (q .bindings) (orderIs q)) / 24 ≡ size (treeOf G c k (q .bindings) (orderIs q)) = omega arith in
                 rw d
 
-            as-judged : judged c k (q .bindings) o (q .counter) (q .recordsRoom) (q .contextRoom) ≡ answerTo base c q
+            as-judged : judged G c k (q .bindings) o (q .counter) (q .recordsRoom) (q .contextRoom) ≡ answerTo G c q
             as-judged =
-                ap (λ (x : Order). judged c k (q .bindings) x (q .counter) (q .recordsRoom) (q .contextRoom)) e ∙ same-judged ∙ all-read
+                ap (λ (x : Order). judged G c k (q .bindings) x (q .counter) (q .recordsRoom) (q .contextRoom)) e ∙ same-judged ∙ all-read
 
-            same-records : written c k (q .bindings) o (q .counter) ≡ recordsOf base c q
+            same-records : written G c k (q .bindings) o (q .counter) ≡ recordsOf G c q
             same-records =
-                ap (λ (x : Order). written c k (q .bindings) x (q .counter)) e
-                ∙ ap (λ (z : Checked). written c (variablesIn z) (q .bindings) (orderIs q) (q .counter)) (sym h)
+                ap (λ (x : Order). written G c k (q .bindings) x (q .counter)) e
+                ∙ ap (λ (z : Checked). written G c (variablesIn z) (q .bindings) (orderIs q) (q .counter)) (sym h)
 
             same-context : contextAfter c k (q .bindings) o ≡ orderContext c q
             same-context =
@@ -92,13 +92,13 @@ module _ (c : List ℕ) (q : Asked) where
             output x o w = cond (accepted x) (sets o 0 w) o
 
             pub answered : {r : Answer} {o₁ o₂ c₁ c₂ : List ℕ}
-                → Leaves r (judged c k (q .bindings) o (q .counter) (q .recordsRoom) (q .contextRoom)) o₁ o₂ (written c k (q .bindings) o (q .counter)) c₁ c₂ (contextAfter c k (q .bindings) o)
-                → AnswersOrder c q r o₁ o₂ c₁ c₂
+                → Leaves r (judged G c k (q .bindings) o (q .counter) (q .recordsRoom) (q .contextRoom)) o₁ o₂ (written G c k (q .bindings) o (q .counter)) c₁ c₂ (contextAfter c k (q .bindings) o)
+                → AnswersOrder G c q r o₁ o₂ c₁ c₂
             unfolding output
             answered {o₁ = o₁} {c₁ = c₁} d =
                 record {
                   answer = d .answer ∙ as-judged;
                   cause = ap causeOf (d .answer ∙ as-judged);
-                  records = d .records ∙ ap (λ (x : Answer). output x o₁ (written c k (q .bindings) o (q .counter))) as-judged ∙ ap (output (answerTo base c q) o₁) same-records;
-                  after = d .context ∙ ap (λ (x : Answer). output x c₁ (contextAfter c k (q .bindings) o)) as-judged ∙ ap (output (answerTo base c q) c₁) same-context;
+                  records = d .records ∙ ap (λ (x : Answer). output x o₁ (written G c k (q .bindings) o (q .counter))) as-judged ∙ ap (output (answerTo G c q) o₁) same-records;
+                  after = d .context ∙ ap (λ (x : Answer). output x c₁ (contextAfter c k (q .bindings) o)) as-judged ∙ ap (output (answerTo G c q) c₁) same-context;
                 }

@@ -15,6 +15,8 @@ use Rattle.trees.specs.Flat.{length-flat}
 use Rattle.emit.specs.declared.cursor.Cursor.{Cursor}
 use Rattle.emit.specs.Emitted.{Emits}
 use Rattle.emit.specs.Wrote.{written-whole}
+use Rattle.layout.specs.declared.config.Shape.{Shape}
+use Rattle.layout.specs.Config.{positions}
 use Rattle.orders.specs.declared.answer.Answer.{Answer}
 use Rattle.orders.specs.declared.answer.Answer.the-variants.{Accepted, Missing, Kind, Count, Position, Labels, Room}
 use Rattle.orders.specs.Writes.{countOk, present, kindsOk, asked}
@@ -64,8 +66,8 @@ all-granted counter room contextRoom bytes drawn count h r c =
 pub left-alone : {o c w a : List ℕ} {r expected : Answer} → r ≡ expected → accepted r ≡ false → Leaves r expected o o w c c a
 left-alone e f = record { answer = e; records = rw (← e, f); context = rw (← e, f) }
 
-pub leaves-as : {o o′ w c c′ a : List ℕ} {r e e′ : Answer} → Leaves r e o o′ w c c′ a → e ≡ e′ → Leaves r e′ o o′ w c c′ a
-leaves-as {o} {o′} {w} {c} {c′} {a} {r} d p = subst (λ (x : Answer). Leaves r x o o′ w c c′ a) p d
+pub leaves-as : {o o′ w c c′ a : List ℕ} {r e e′ : Answer} → e ≡ e′ → Leaves r e o o′ w c c′ a → Leaves r e′ o o′ w c c′ a
+leaves-as {o} {o′} {w} {c} {c′} {a} {r} p d = subst (λ (x : Answer). Leaves r x o o′ w c c′ a) p d
 
 -- a first pass on another output tells the size, and the count of bindings their bytes; then both are written
 module _ {o₀ o₁ : List ℕ} {p need : Cursor} (t : Tree) (after : List ℕ) (counter count : ℕ) (d : Emits o₀ p o₁ need t) (a : p .at ≡ 0) (z : p .counter ≡ 0) (m : length after ≡ 8 * count) where
@@ -99,26 +101,26 @@ module _ {o₀ o₁ : List ℕ} {p need : Cursor} (t : Tree) (after : List ℕ) 
       }
 
 -- the checks from 4 to 8
-module _ (c : List ℕ) (k : ℕ) (b : List ℕ) (o : Order) (counter room contextRoom : ℕ) where
-  pub missing : present c k b o ≡ false → Missing ≡ judged c k b o counter room contextRoom
+module _ (g : Shape) (c : List ℕ) (k : ℕ) (b : List ℕ) (o : Order) (counter room contextRoom : ℕ) where
+  pub missing : present c k b o ≡ false → Missing ≡ judged g c k b o counter room contextRoom
   unfolding judged
   missing e = rw e
 
   module _ (p : present c k b o ≡ true) where
-    pub wrong-kind : kindsOk c k b o ≡ false → Kind ≡ judged c k b o counter room contextRoom
+    pub wrong-kind : kindsOk c k b o ≡ false → Kind ≡ judged g c k b o counter room contextRoom
     unfolding judged
     wrong-kind e = rw (p, e)
 
     module _ (s : kindsOk c k b o ≡ true) where
-      pub too-often : countOk o ≡ false → Count ≡ judged c k b o counter room contextRoom
+      pub too-often : countOk o ≡ false → Count ≡ judged g c k b o counter room contextRoom
       unfolding judged
       too-often e = rw (p, s, e)
 
       module _ (n : countOk o ≡ true) where
-        pub no-position : 267 < asked c k b o → Position ≡ judged c k b o counter room contextRoom
+        pub no-position : positions g < asked c k b o → Position ≡ judged g c k b o counter room contextRoom
         unfolding judged
-        no-position h = rw (p, s, n, lt-leb (asked c k b o) 267 h)
+        no-position h = rw (p, s, n, lt-leb (asked c k b o) (positions g) h)
 
-        pub all-judged : asked c k b o ≤ 267 → fits c k b o counter room contextRoom ≡ judged c k b o counter room contextRoom
+        pub all-judged : asked c k b o ≤ positions g → fits g c k b o counter room contextRoom ≡ judged g c k b o counter room contextRoom
         unfolding judged
-        all-judged h = rw (p, s, n, le-leb (asked c k b o) 267 h)
+        all-judged h = rw (p, s, n, le-leb (asked c k b o) (positions g) h)

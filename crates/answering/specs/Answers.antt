@@ -3,7 +3,7 @@ use Prim.Native.Nat.{ℕ}
 use mathlib.Core.Path.{_≡_}
 use mathlib.Core.List.{List}
 use lib.ListN.{length}
-use Rattle.layout.specs.Config.{base}
+use Rattle.layout.specs.declared.config.Shape.{Shape}
 use Rattle.orders.specs.declared.answer.Answer.{Answer}
 use Rattle.orders.specs.Answered.{Asked, causeOf, answerTo, recordsOutput, contextOutput}
 
@@ -13,8 +13,8 @@ asking order bindings counter records after =
     record { order = order; bindings = bindings; counter = counter; recordsRoom = length records; contextRoom = length after }
 
 -- the answer r and what the outputs o and a become are what document 01 says of the context and of what goes in
-pub record AnswersOrder (context : List ℕ) (q : Asked) (r : Answer) (o o′ a a′ : List ℕ) : Type 0 where
-  pub answer : r ≡ answerTo base context q
-  pub cause : causeOf r ≡ causeOf (answerTo base context q)
-  pub records : o′ ≡ recordsOutput base context q o
-  pub after : a′ ≡ contextOutput base context q a
+pub record AnswersOrder (g : Shape) (context : List ℕ) (q : Asked) (r : Answer) (o o′ a a′ : List ℕ) : Type 0 where
+  pub answer : r ≡ answerTo g context q
+  pub cause : causeOf r ≡ causeOf (answerTo g context q)
+  pub records : o′ ≡ recordsOutput g context q o
+  pub after : a′ ≡ contextOutput g context q a

@@ -9,7 +9,8 @@ use lib.ListN.{length}
 use Rattle.records.specs.declared.order.Order.{Order}
 use Rattle.records.specs.ReadBack.{joined, codeBytes}
 use Rattle.trees.specs.Tree.{labels, size, flat}
-use Rattle.layout.specs.Config.{base}
+use Rattle.layout.specs.declared.config.Shape.{Shape}
+use Rattle.layout.specs.Config.{positions}
 use Rattle.orders.specs.declared.answer.Answer.{Answer}
 use Rattle.orders.specs.declared.answer.Answer.the-variants.{Accepted, Missing, Kind, Count, Position, Labels, Room}
 use Rattle.orders.specs.Writes.{countOk, treeOf, contextAfter, present, kindsOk, asked}
@@ -22,22 +23,22 @@ fitting counter room contextRoom bytes drawn after =
     (cond (ltb room bytes) (Room bytes)
     (cond (ltb contextRoom after) (Room after) (Accepted (bytes / 24) (counter + drawn) (after / 8))))
 
-module _ (context : List ℕ) (k : ℕ) (bindings : List ℕ) (order : Order) (counter : ℕ) where
+module _ (g : Shape) (context : List ℕ) (k : ℕ) (bindings : List ℕ) (order : Order) (counter : ℕ) where
   -- an order's records and the bytes of the context after it
   abbrev pub written : List ℕ
-  written = joined codeBytes (flat (treeOf base context k bindings order) counter)
+  written = joined codeBytes (flat (treeOf g context k bindings order) counter)
 
   module _ (room contextRoom : ℕ) where
     abbrev pub fits : Answer
     fits =
-        fitting counter room contextRoom (24 * size (treeOf base context k bindings order)) (labels (treeOf base context k bindings order)) (length (contextAfter context k bindings order))
+        fitting counter room contextRoom (24 * size (treeOf g context k bindings order)) (labels (treeOf g context k bindings order)) (length (contextAfter context k bindings order))
 
     unfoldable pub judged : Answer
     judged =
         cond (present context k bindings order)
         (cond (kindsOk context k bindings order)
         (cond (countOk order)
-        (cond (leb (asked context k bindings order) 267) fits
+        (cond (leb (asked context k bindings order) (positions g)) fits
         Position) Count) Kind) Missing
 
 -- an answer r that is the one expected, and two outputs: what is written from their start where it is accepted, else as they were

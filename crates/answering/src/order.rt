@@ -5,6 +5,7 @@ ghost use Prim.Native.Nat.{_+_, _*_, _<_, _≤_, _^_};
 ghost use lib.ListN.{length};
 ghost use Rattle.records.specs.declared.check.Checked.the-variants.{Good};
 ghost use Rattle.records.specs.Contexts.{checkedContext};
+ghost use Rattle.layout.specs.Config.{Supported, base, positions};
 ghost use Rattle.orders.specs.Answered.{accepted};
 ghost use Rattle.orders.specs.Writes.{wanted, contextAfter, present, asked};
 ghost use Rattle.answering.specs.Answers.{asking, AnswersOrder};
@@ -12,6 +13,7 @@ ghost use Rattle.answering.specs.Decided.{fitting, written, fits, judged
 use emit::cursor::Cursor;
 use judging::after;
 use judging::checks;
+use layout::config::Shape;
 use ordering::emitters;
 use orders::answer::Answer;
 use records::check::Checked;
@@ -59,20 +61,22 @@ pub fn is_accepted(answer: Answer) -> bool
 fn write_order(
     records_out: &mut [u8],
     context_out: &mut [u8],
+    g: Shape,
     context: &[u8],
     k: u64,
     counter: u64,
     bindings: &[u8],
     order: Order,
 ) -> Answer
-    requires { ⌜ (checkedContext (now context) ≡ Good k) × (checkedContext (now bindings) ≡ Good (wanted order)) × (present (now context) k (now bindings) order ≡ true) × (asked (now context) k (now bindings) order ≤ 267) ⌝ }
-    ensures { λ r. ⌜ Leaves r (fits (now (context .entry)) k (now (bindings .entry)) order counter (length (now («records_out» .entry))) (length (now («context_out» .entry)))) (now («records_out» .entry)) (now («records_out» .exit)) (written (now (context .entry)) k (now (bindings .entry)) order counter) (now («context_out» .entry)) (now («context_out» .exit)) (contextAfter (now (context .entry)) k (now (bindings .entry)) order) ⌝ }
+    requires { ⌜ (checkedContext (now context) ≡ Good k) × (checkedContext (now bindings) ≡ Good (wanted order)) × (present (now context) k (now bindings) order ≡ true) × (asked (now context) k (now bindings) order ≤ positions g) × Supported g ⌝ }
+    ensures { λ r. ⌜ Leaves r (fits g (now (context .entry)) k (now (bindings .entry)) order counter (length (now («records_out» .entry))) (length (now («context_out» .entry)))) (now («records_out» .entry)) (now («records_out» .exit)) (written g (now (context .entry)) k (now (bindings .entry)) order counter) (now («context_out» .entry)) (now («context_out» .exit)) (contextAfter (now (context .entry)) k (now (bindings .entry)) order) ⌝ }
 {
     let table = layout::utils::positions();
     let mut none = [0u8; 1];
     let need = emitters::emit_order(
         &mut none,
         Cursor { at: 0, counter: 0 },
+        g,
         &table,
         context,
         k,
@@ -87,6 +91,7 @@ fn write_order(
     emitters::emit_order(
         records_out,
         Cursor { at: 0, counter },
+        g,
         &table,
         context,
         k,
@@ -101,15 +106,17 @@ fn write_order(
 fn judge(
     records_out: &mut [u8],
     context_out: &mut [u8],
+    g: Shape,
     context: &[u8],
     k: u64,
     counter: u64,
     bindings: &[u8],
     order: Order,
 ) -> Answer
-    requires { ⌜ (checkedContext (now context) ≡ Good k) × (checkedContext (now bindings) ≡ Good (wanted order)) ⌝ }
-    ensures { λ r. ⌜ Leaves r (judged (now (context .entry)) k (now (bindings .entry)) order counter (length (now («records_out» .entry))) (length (now («context_out» .entry)))) (now («records_out» .entry)) (now («records_out» .exit)) (written (now (context .entry)) k (now (bindings .entry)) order counter) (now («context_out» .entry)) (now («context_out» .exit)) (contextAfter (now (context .entry)) k (now (bindings .entry)) order) ⌝ }
+    requires { ⌜ (checkedContext (now context) ≡ Good k) × (checkedContext (now bindings) ≡ Good (wanted order)) × Supported g ⌝ }
+    ensures { λ r. ⌜ Leaves r (judged g (now (context .entry)) k (now (bindings .entry)) order counter (length (now («records_out» .entry))) (length (now («context_out» .entry)))) (now («records_out» .entry)) (now («records_out» .exit)) (written g (now (context .entry)) k (now (bindings .entry)) order counter) (now («context_out» .entry)) (now («context_out» .exit)) (contextAfter (now (context .entry)) k (now (bindings .entry)) order) ⌝ }
 {
+    let positions = g.spills + 11;
     if checks::present(k, order) {} else {
         return Answer::Missing;
     }
@@ -119,12 +126,13 @@ fn judge(
     if checks::count_ok(order) {} else {
         return Answer::Count;
     }
-    if checks::asked(context, k, order) <= 267 {} else {
+    if checks::asked(context, k, order) <= positions {} else {
         return Answer::Position;
     }
     write_order(
         records_out,
         context_out,
+        g,
         context,
         k,
         counter,
@@ -142,7 +150,30 @@ pub fn order(
     order: &[u8],
     bindings: &[u8],
 ) -> Answer
-    ensures { λ r. ⌜ AnswersOrder (now (context .entry)) (asking (now (order .entry)) (now (bindings .entry)) counter (now («records_out» .entry)) (now («context_out» .entry))) r (now («records_out» .entry)) (now («records_out» .exit)) (now («context_out» .entry)) (now («context_out» .exit)) ⌝ }
+    ensures { λ r. ⌜ AnswersOrder base (now (context .entry)) (asking (now (order .entry)) (now (bindings .entry)) counter (now («records_out» .entry)) (now («context_out» .entry))) r (now («records_out» .entry)) (now («records_out» .exit)) (now («context_out» .entry)) (now («context_out» .exit)) ⌝ }
+{
+    order_in(
+        records_out,
+        context_out,
+        layout::config::base(),
+        context,
+        counter,
+        order,
+        bindings,
+    )
+}
+
+fn order_in(
+    records_out: &mut [u8],
+    context_out: &mut [u8],
+    g: Shape,
+    context: &[u8],
+    counter: u64,
+    order: &[u8],
+    bindings: &[u8],
+) -> Answer
+    requires { ⌜ Supported g ⌝ }
+    ensures { λ r. ⌜ AnswersOrder g (now (context .entry)) (asking (now (order .entry)) (now (bindings .entry)) counter (now («records_out» .entry)) (now («context_out» .entry))) r (now («records_out» .entry)) (now («records_out» .exit)) (now («context_out» .entry)) (now («context_out» .exit)) ⌝ }
 {
     let Checked::Good(k) = records::binding::check_context(context) else {
         return Answer::Context;
@@ -163,6 +194,7 @@ pub fn order(
     judge(
         records_out,
         context_out,
+        g,
         context,
         k as u64,
         counter,

@@ -9,10 +9,14 @@ use Rattle.records.specs.declared.code.Code.{Code}
 use Rattle.records.specs.declared.code.Code.the-variants.{MOVL}
 use Rattle.word.specs.Words.{sum}
 use Rattle.trees.specs.Tree.{Tree, leaf, seq, if-zero, straight}
+use Rattle.layout.specs.declared.config.Shape.{Shape}
+use Rattle.layout.specs.Config.{blockWords}
 use Rattle.instructions.specs.declared.memory.Place.the-variants.{Nowhere}
 use Rattle.instructions.specs.Memory.{placeOf}
 use Rattle.instructions.specs.Step.{Config, dropped, next, step}
 use Rattle.structured.specs.Evaluation.{Evaluated, done, faulted, evaluate}
+use Rattle.heap.specs.WordLemmas.{word-past, heap-below}
+use Rattle.heap.specs.Words.{wordAt}
 use Rattle.positions.specs.Held.{withPair, Placed, blockAddress}
 use Rattle.positions.specs.Runs.{Does}
 use Rattle.bridge.specs.Shown.{grouped}
@@ -46,7 +50,7 @@ module _ {words : ℕ → ℕ} {F : Type 0} where
   attempt-weaken k (does s) = does (record { to = s .to; run = s .run; post = k (s .to) (s .post) })
   attempt-weaken k (faults d e f) = faults d e f
 
-  pub attempt-why : {G : Type 0} {t : Tree} {c : Config} {Q : Config → Type 0} → (F → G) → Attempts words t c F Q → Attempts words t c G Q
+  pub attempt-why : {F′ : Type 0} {t : Tree} {c : Config} {Q : Config → Type 0} → (F → F′) → Attempts words t c F Q → Attempts words t c F′ Q
   attempt-why k (does s) = does s
   attempt-why k (faults d e f) = faults d e (k f)
 
@@ -73,18 +77,20 @@ module _ {words : ℕ → ℕ} {F : Type 0} where
   attempt-yes w z (faults d r f) = faults d (rw (w, z, r)) f
 
 -- a block past the heap's last is no place
-module _ (words : ℕ → ℕ) {N : ℕ} (c : Config) (v : Placed N c) (r j : ℕ) (p : c .state .reg r ≡ blockAddress j) (h : N ≤ j) (m : j ≤ 1048577) where
-  no-place : placeOf (c .state .size) (sum (c .state .reg r) 0) ≡ Nowhere
+module _ (words : ℕ → ℕ) {G : Shape} {N : ℕ} (c : Config) (v : Placed G N c) (r j : ℕ) (p : c .state .reg r ≡ blockAddress G j) (h : N ≤ j) (m : j ≤ 1048577) where
+  no-place : placeOf (c .state .depth) (c .state .size) (sum (c .state .reg r) 0) ≡ Nowhere
   unfolding placeOf sum
   no-place =
-      let k : ℕ = 8 * j in
-      let e : (blockAddress j + 0) % 2 ^ 64 ≡ 65536 + 8 * k = omega arith in
+      let k : ℕ = wordAt (G .fields) j 0 in
+      let b : blockWords G * j ≤ 16 * j = heap-below (G .fields) j (v .shape .few) in
+      let e : (blockAddress G j + 0) % 2 ^ 64 ≡ 65536 + 8 * k = omega arith in
       let e1 : (65536 + 8 * k) % 8 ≡ 0 = omega arith in
       let e2 : (65536 + 8 * k - 65536) / 8 ≡ k = omega arith in
-      let e3 : 65536 + 8 * k < 1099511625216 = omega arith in
+      let e3 : 65536 + 8 * k < 1099511627776 = omega arith in
+      let e6 : c .state .depth ≤ (1099511627768 - (65536 + 8 * k)) / 8 = omega (arith, v .deep, v .shape .frame) in
       let e4 : 65536 ≤ 65536 + 8 * k = omega arith in
-      let e5 : 8 * N ≤ k = omega arith in
-      simp (p, v .words, e, e1, e2, lt-leb _ _ e3, le-leb _ _ e4, le-ltb _ _ e5)
+      let e5 : blockWords G * N ≤ k = word-past (G .fields) N j 0 h in
+      simp (p, v .words, e, e1, e2, lt-leb _ _ e3, le-ltb _ _ e6, le-leb _ _ e4, le-ltb _ _ e5)
 
   pub block-outside : (a : ℕ) → evaluate words (leaf (MOVL a r 0) refl) c ≡ faulted c
   unfolding step

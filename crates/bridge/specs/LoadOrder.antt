@@ -6,7 +6,8 @@ use mathlib.Core.Path.{_≡_, refl, sym, _∙_, ap, subst}
 use Prim.Native.Nat.{ℕ, suc, _+_, _*_, _≤_, _<_}
 use native.Mathlib.Omega.{arith}
 use lib.ListN.{length}
-use Rattle.layout.specs.Config.{base}
+use Rattle.layout.specs.declared.config.Shape.{Shape}
+use Rattle.layout.specs.Config.{Supported, positions}
 use Rattle.layout.specs.Positions.{location}
 use Rattle.instructions.specs.Step.{Config}
 use Rattle.memory.specs.Objects.{loadObject}
@@ -32,17 +33,17 @@ use Rattle.bridge.specs.Shown.{L, heapOf}
 use Rattle.bridge.specs.Sizes.{objectSizes}
 use Rattle.bridge.specs.Variables.{variable, variables, variables-append, variables-length, variables-kept, variables-kinds}
 
-module _ {N n : ℕ} {i : ℕ → ℕ} {roots : List ℕ} (s : Config) (g : Consistent L (heapOf s) i n roots) (fits : n ≤ N) (most : N ≤ 1048576) (few : length roots ≤ 1048576) where
-  pub object-lies : (c : List Cell) (ch : List (List Cell)) (p : ℕ) → (p ≢ 0 → ReachableFrom (blockFields 3 (s .state .mem)) roots p) → Object (blockFields 3 (s .state .mem)) i p (c ∷ ch) → Lies N (blockFields 3 (s .state .mem)) p (c ∷ ch)
-  object-lies c [] p r o = let b = reachable-block s g fits most few p (r (o .0)) in (b .number, b .inside, b .address, o .1, o .3)
+module _ {G : Shape} {N n : ℕ} {i : ℕ → ℕ} {roots : List ℕ} (shape : Supported G) (s : Config) (g : Consistent (L G) (heapOf G s) i n roots) (fits : n ≤ N) (most : N ≤ 1048576) (few : length roots ≤ 1048576) where
+  pub object-lies : (c : List Cell) (ch : List (List Cell)) (p : ℕ) → (p ≢ 0 → ReachableFrom (blockFields (G .fields) (s .state .mem)) roots p) → Object (blockFields (G .fields) (s .state .mem)) i p (c ∷ ch) → Lies G N (blockFields (G .fields) (s .state .mem)) p (c ∷ ch)
+  object-lies c [] p r o = let b = reachable-block shape s g fits most few p (r (o .0)) in (b .number, b .inside, b .address, o .1, o .3)
   object-lies c (d ∷ ch) p r o =
-      let b = reachable-block s g fits most few p (r (o .0)) in
+      let b = reachable-block shape s g fits most few p (r (o .0)) in
       (b .number, b .inside, b .address, o .1, o .3, o .4, object-lies d ch (o .3 .fst) (λ nz. follow p (r (o .0)) nz (rw (o .4) (omega (arith, occ-pointers (o .3 .fst) (o .1) (c ++ (o .3 ∷ [])), occ-pointers (o .3 .fst) c (o .3 ∷ []), same-self (o .3 .fst))))) (o .6))
 
-  pub object-may-share : (ch : List (List Cell)) (p k : ℕ) → k ≤ 1048576 → (p ≢ 0 → ReachableFrom (blockFields 3 (s .state .mem)) roots p) → Object (blockFields 3 (s .state .mem)) i p ch → MayShare true N k (s .state .mem) (pointers (concat ch))
+  pub object-may-share : (ch : List (List Cell)) (p k : ℕ) → k ≤ 1048576 → (p ≢ 0 → ReachableFrom (blockFields (G .fields) (s .state .mem)) roots p) → Object (blockFields (G .fields) (s .state .mem)) i p ch → MayShare G true N k (s .state .mem) (pointers (concat ch))
   object-may-share ch p k h r o = record {
     each = λ e q m nz.
-        let b = reachable-block s g fits most few q (object-pointers {fields′ = blockFields 3 (s .state .mem)} {linked′ = i} (ReachableFrom (blockFields 3 (s .state .mem)) roots) (λ b r. refl) (λ b r. refl) (λ y b r nz m. follow y r nz m) ch p r o q nz m) in
+        let b = reachable-block shape s g fits most few q (object-pointers {fields′ = blockFields (G .fields) (s .state .mem)} {linked′ = i} (ReachableFrom (blockFields (G .fields) (s .state .mem)) roots) (λ b r. refl) (λ b r. refl) (λ y b r nz m. follow y r nz m) ch p r o q nz m) in
         (b .number, b .inside, b .address, omega (arith, b .small));
   }
 
@@ -56,56 +57,56 @@ object-reads : (fields : ℕ → List Cell) (linked : ℕ → ℕ) (p : ℕ) (c 
 object-reads fields linked p c [] o = (o .1, o .3)
 object-reads fields linked p c (d ∷ ch) o = (o .1, o .3, o .4, object-reads fields linked (o .3 .fst) d ch (o .6))
 
-variables-front : (ext ext′ : ℕ → Bool) (s u : Config) (e n : ℕ) → e + n ≤ 133 → ((x : ℕ) → x < e → ext′ x ≡ ext x) → Keeps (Under e) s u → variables ext′ u 0 (e + n) ≡ variables ext s 0 e ++ variables ext′ u e n
-variables-front ext ext′ s u e n h f k =
+variables-front : (ext ext′ : ℕ → Bool) (s u : Config) (e n : ℕ) → ((x : ℕ) → x < e → ext′ x ≡ ext x) → Keeps (Under e) s u → variables ext′ u 0 (e + n) ≡ variables ext s 0 e ++ variables ext′ u e n
+variables-front ext ext′ s u e n f k =
     variables-append ext′ u 0 e n ∙ ap (λ (x : ℕ). variables ext′ u 0 e ++ variables ext′ u x n) (omega arith)
-    ∙ ap (λ (x : List Cell). x ++ variables ext′ u e n) (variables-kinds ext ext′ u 0 e (λ x a b. f x (omega arith)) ∙ variables-kept ext s u 0 e (omega arith) (λ p a b. let z = location-grows p (2 * e) (omega arith) in (omega (arith, z .0), omega (arith, z .0), z .2, z .1)) k)
+    ∙ ap (λ (x : List Cell). x ++ variables ext′ u e n) (variables-kinds ext ext′ u 0 e (λ x a b. f x (omega arith)) ∙ variables-kept ext s u 0 e (λ p a b. let z = location-grows p (2 * e) (omega arith) in (omega (arith, z .0), omega (arith, z .0), z .2, z .1)) k)
 
 -- what a load leaves of heap and variables performs the order
-taken-performs : {ps : List ℕ} {n : ℕ} {M M′ : Memory} (xs : List Cell) (c : Cell) (d : List Cell) (ch : List (List Cell)) → ps ≡ pointers (concat (d ∷ ch)) → lengths (d ∷ ch) ≡ objectSizes n → ReadObject (M .fields) (c .fst) d ch → ObjectTaken M (c .fst) (d ∷ ch) ps M′
-    → Performs objectSizes L M (load n) (xs ++ (c ∷ [])) M′ (xs ++ concat (d ∷ ch))
-taken-performs {n = n} {M′ = M′} xs c d ch e sz rd (was-last z t) = loads-last xs c n d ch M′ sz rd z t
-taken-performs {n = n} {M = M} {M′ = M′} xs c d ch e sz rd (was-shared z w t) =
-    let p : Performs objectSizes L M (load n) (xs ++ (c ∷ [])) (withHeaders M (M′ .header)) (xs ++ concat (d ∷ ch)) = loads-shared xs c n d ch (M′ .header) sz rd (λ b nz. t b nz ∙ ap (λ (x : List ℕ). M .header b + occ b x) e) in
-    subst (λ (x : Memory). Performs objectSizes L M (load n) (xs ++ (c ∷ [])) x (xs ++ concat (d ∷ ch))) (sym w) p
+taken-performs : (G : Shape) {ps : List ℕ} {n : ℕ} {M M′ : Memory} (xs : List Cell) (c : Cell) (d : List Cell) (ch : List (List Cell)) → ps ≡ pointers (concat (d ∷ ch)) → lengths (d ∷ ch) ≡ objectSizes G n → ReadObject (M .fields) (c .fst) d ch → ObjectTaken M (c .fst) (d ∷ ch) ps M′
+    → Performs (objectSizes G) (L G) M (load n) (xs ++ (c ∷ [])) M′ (xs ++ concat (d ∷ ch))
+taken-performs G {n = n} {M′ = M′} xs c d ch e sz rd (was-last z t) = loads-last xs c n d ch M′ sz rd z t
+taken-performs G {n = n} {M = M} {M′ = M′} xs c d ch e sz rd (was-shared z w t) =
+    let p : Performs (objectSizes G) (L G) M (load n) (xs ++ (c ∷ [])) (withHeaders M (M′ .header)) (xs ++ concat (d ∷ ch)) = loads-shared xs c n d ch (M′ .header) sz rd (λ b nz. t b nz ∙ ap (λ (x : List ℕ). M .header b + occ b x) e) in
+    subst (λ (x : Memory). Performs (objectSizes G) (L G) M (load n) (xs ++ (c ∷ [])) x (xs ++ concat (d ∷ ch))) (sym w) p
 
-module _ (words : ℕ → ℕ) where
-  module _ {N m : ℕ} {values : Values} (ext ext′ : ℕ → Bool) (s : Config) (e tag : ℕ) (en : Placed N s) (mN : m ≤ N) (e1 : e < 133) (agree : (x : ℕ) → x < e → ext′ x ≡ ext x) (linked : ext e ≡ false)
-      (rep : Represents objectSizes L (heapOf s) m (variables ext s 0 e ++ (variable ext s e ∷ [])) values) where
-    load-some : (v : Value) (ws : Values) → e + countOf (cons v ws) ≤ 133 → valueAt e values ≡ object tag (cons v ws) → KindsFrom ext′ e (cons v ws)
-        → Does words (loadObject base ext′ e (countOf (cons v ws))) s
-        (λ u. Performs objectSizes L (heapOf s) (load (countOf (cons v ws))) (variables ext s 0 e ++ (variable ext s e ∷ [])) (heapOf u) (variables ext′ u 0 (e + countOf (cons v ws))) × Keeps (Under e) s u)
+module _ {G : Shape} (words : ℕ → ℕ) where
+  module _ {N m : ℕ} {values : Values} (ext ext′ : ℕ → Bool) (s : Config) (e tag : ℕ) (en : Placed G N s) (mN : m ≤ N) (e1 : 2 * e + 2 < positions G) (agree : (x : ℕ) → x < e → ext′ x ≡ ext x) (linked : ext e ≡ false)
+      (rep : Represents (objectSizes G) (L G) (heapOf G s) m (variables ext s 0 e ++ (variable ext s e ∷ [])) values) where
+    load-some : (v : Value) (ws : Values) → 2 * (e + countOf (cons v ws)) < positions G → valueAt e values ≡ object tag (cons v ws) → KindsFrom ext′ e (cons v ws)
+        → Does words (loadObject G ext′ e (countOf (cons v ws))) s
+        (λ u. Performs (objectSizes G) (L G) (heapOf G s) (load (countOf (cons v ws))) (variables ext s 0 e ++ (variable ext s e ∷ [])) (heapOf G u) (variables ext′ u 0 (e + countOf (cons v ws))) × Keeps (Under e) s u)
     load-some v ws vN is ks = by (H .2) (H .3) (H .4) (H .5)
       where
         fst-held : variable ext s e .fst ≡ held s (location (2 * e))
         fst-held = rw linked
 
-        H : Holds objectSizes (blockFields 3 (s .state .mem)) (rep .linked) (object tag (cons v ws)) (variable ext s e)
-        H = rw (variables-length ext s 0 e, is) at (hold-at objectSizes (blockFields 3 (s .state .mem)) (rep .linked) (variables ext s 0 e) (variable ext s e) [] values (rep .holds))
+        H : Holds (objectSizes G) (blockFields (G .fields) (s .state .mem)) (rep .linked) (object tag (cons v ws)) (variable ext s e)
+        H = rw (variables-length ext s 0 e, is) at (hold-at (objectSizes G) (blockFields (G .fields) (s .state .mem)) (rep .linked) (variables ext s 0 e) (variable ext s e) [] values (rep .holds))
 
-        by : (ch : List (List Cell)) → Object (blockFields 3 (s .state .mem)) (rep .linked) (variable ext s e .fst) ch → HoldAll objectSizes (blockFields 3 (s .state .mem)) (rep .linked) (cons v ws) (concat ch) → lengths ch ≡ objectSizes (countOf (cons v ws))
-            → Does words (loadObject base ext′ e (countOf (cons v ws))) s
-            (λ u. Performs objectSizes L (heapOf s) (load (countOf (cons v ws))) (variables ext s 0 e ++ (variable ext s e ∷ [])) (heapOf u) (variables ext′ u 0 (e + countOf (cons v ws))) × Keeps (Under e) s u)
+        by : (ch : List (List Cell)) → Object (blockFields (G .fields) (s .state .mem)) (rep .linked) (variable ext s e .fst) ch → HoldAll (objectSizes G) (blockFields (G .fields) (s .state .mem)) (rep .linked) (cons v ws) (concat ch) → lengths ch ≡ objectSizes G (countOf (cons v ws))
+            → Does words (loadObject G ext′ e (countOf (cons v ws))) s
+            (λ u. Performs (objectSizes G) (L G) (heapOf G s) (load (countOf (cons v ws))) (variables ext s 0 e ++ (variable ext s e ∷ [])) (heapOf G u) (variables ext′ u 0 (e + countOf (cons v ws))) × Keeps (Under e) s u)
         by [] o a sz = let z : _≡_ {A = ℕ} 0 1 = cc (a .2) in absurd (omega arith)
         by (d ∷ ch) o a sz =
             let q : ℕ = variable ext s e .fst in
-            let few : length (pointers (variables ext s 0 e ++ (variable ext s e ∷ []))) ≤ 1048576 = few-roots ext s e e1 in
-            let r : q ≢ 0 → ReachableFrom (blockFields 3 (s .state .mem)) (pointers (variables ext s 0 e ++ (variable ext s e ∷ []))) q = λ nz. start nz (omega (arith, occ-pointers q (variables ext s 0 e) (variable ext s e ∷ []), same-self q)) in
-            let nz : q ≢ 0 = object-nonzero (blockFields 3 (s .state .mem)) (rep .linked) q d ch o in
-            let b = reachable-block s (rep .consistent) mN (en .fits) few q (r nz) in
-            let sn : asVariables ext′ e (concat (d ∷ ch)) ≡ concat (d ∷ ch) = as-variables-all ext′ objectSizes (blockFields 3 (s .state .mem)) (rep .linked) e (cons v ws) (concat (d ∷ ch)) ks a in
-            let pt : MayShare true N (countOf (cons v ws)) (s .state .mem) (pointers (asVariables ext′ e (concat (d ∷ ch)))) = rw sn (object-may-share s (rep .consistent) mN (en .fits) few (d ∷ ch) q (countOf (cons v ws)) (omega arith) r o) in
-            so (load-does words ext′ s e (countOf (cons v ws)) q (b .number) (d ∷ ch) en (sym fst-held) (b .address) (b .inside) (omega (arith, b .small)) (object-lies s (rep .consistent) mN (en .fits) few d ch q r o) sz pt (omega arith) vN) (λ u x.
-            let vv : variables ext′ u 0 (e + countOf (cons v ws)) ≡ variables ext s 0 e ++ concat (d ∷ ch) = variables-front ext ext′ s u e (countOf (cons v ws)) vN agree (x .2) ∙ ap (λ (y : List Cell). variables ext s 0 e ++ y) (x .0 ∙ sn) in
-            (rw vv (taken-performs (variables ext s 0 e) (variable ext s e) d ch (ap pointers sn) sz (object-reads (blockFields 3 (s .state .mem)) (rep .linked) q d ch o) (x .1)), x .2))
+            let few : length (pointers (variables ext s 0 e ++ (variable ext s e ∷ []))) ≤ 1048576 = few-roots ext s e (omega (arith, e1, en .shape .frame)) in
+            let r : q ≢ 0 → ReachableFrom (blockFields (G .fields) (s .state .mem)) (pointers (variables ext s 0 e ++ (variable ext s e ∷ []))) q = λ nz. start nz (omega (arith, occ-pointers q (variables ext s 0 e) (variable ext s e ∷ []), same-self q)) in
+            let nz : q ≢ 0 = object-nonzero (blockFields (G .fields) (s .state .mem)) (rep .linked) q d ch o in
+            let b = reachable-block (en .shape) s (rep .consistent) mN (en .fits) few q (r nz) in
+            let sn : asVariables ext′ e (concat (d ∷ ch)) ≡ concat (d ∷ ch) = as-variables-all ext′ (objectSizes G) (blockFields (G .fields) (s .state .mem)) (rep .linked) e (cons v ws) (concat (d ∷ ch)) ks a in
+            let pt : MayShare G true N (countOf (cons v ws)) (s .state .mem) (pointers (asVariables ext′ e (concat (d ∷ ch)))) = rw sn (object-may-share (en .shape) s (rep .consistent) mN (en .fits) few (d ∷ ch) q (countOf (cons v ws)) (omega arith) r o) in
+            so (load-does words ext′ s e (countOf (cons v ws)) q (b .number) (d ∷ ch) en (sym fst-held) (b .address) (b .inside) (omega (arith, b .small)) (object-lies (en .shape) s (rep .consistent) mN (en .fits) few d ch q r o) sz pt (omega arith) vN) (λ u x.
+            let vv : variables ext′ u 0 (e + countOf (cons v ws)) ≡ variables ext s 0 e ++ concat (d ∷ ch) = variables-front ext ext′ s u e (countOf (cons v ws)) agree (x .2) ∙ ap (λ (y : List Cell). variables ext s 0 e ++ y) (x .0 ∙ sn) in
+            (rw vv (taken-performs G (variables ext s 0 e) (variable ext s e) d ch (ap pointers sn) sz (object-reads (blockFields (G .fields) (s .state .mem)) (rep .linked) q d ch o) (x .1)), x .2))
 
     -- the object in variable e loaded into variables e and on, whatever registers and spills they have
-    pub load-order : (ws : Values) → e + countOf ws ≤ 133 → valueAt e values ≡ object tag ws → KindsFrom ext′ e ws
-        → Does words (loadObject base ext′ e (countOf ws)) s
-        (λ u. Performs objectSizes L (heapOf s) (load (countOf ws)) (variables ext s 0 e ++ (variable ext s e ∷ [])) (heapOf u) (variables ext′ u 0 (e + countOf ws)) × Keeps (Under e) s u)
+    pub load-order : (ws : Values) → 2 * (e + countOf ws) < positions G → valueAt e values ≡ object tag ws → KindsFrom ext′ e ws
+        → Does words (loadObject G ext′ e (countOf ws)) s
+        (λ u. Performs (objectSizes G) (L G) (heapOf G s) (load (countOf ws)) (variables ext s 0 e ++ (variable ext s e ∷ [])) (heapOf G u) (variables ext′ u 0 (e + countOf ws)) × Keeps (Under e) s u)
     load-order nil vN is ks =
         let z : e + 0 ≡ e = omega arith in
         let vv : variables ext′ s 0 (e + 0) ≡ variables ext s 0 e = ap (variables ext′ s 0) z ∙ variables-kinds ext ext′ s 0 e (λ x a b. agree x (omega arith)) in
-        let p : Performs objectSizes L (heapOf s) (load 0) (variables ext s 0 e ++ (variable ext s e ∷ [])) (heapOf s) (variables ext s 0 e) = loads-none (variables ext s 0 e) (variable ext s e) in
+        let p : Performs (objectSizes G) (L G) (heapOf G s) (load 0) (variables ext s 0 e ++ (variable ext s e ∷ [])) (heapOf G s) (variables ext s 0 e) = loads-none (variables ext s 0 e) (variable ext s e) in
         one refl (rw vv p, keeps-refl)
     load-order (cons v ws) vN is ks = load-some v ws vN is ks

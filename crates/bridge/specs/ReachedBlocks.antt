@@ -2,9 +2,11 @@
 use mathlib.Core.List.{List}
 use mathlib.Core.Logic.{_≢_}
 use mathlib.Core.Path.{_≡_, _∙_, ap}
-use Prim.Native.Nat.{ℕ, _+_, _*_, _≤_}
+use Prim.Native.Nat.{ℕ, _*_, _≤_}
 use native.Mathlib.Omega.{arith}
 use lib.ListN.{length}
+use Rattle.layout.specs.declared.config.Shape.{Shape}
+use Rattle.layout.specs.Config.{Supported}
 use Rattle.instructions.specs.Step.{Config}
 use Rattle.heap.specs.BlockLemmas.{block-number}
 use Rattle.heap.specs.Blocks.{children}
@@ -14,19 +16,19 @@ use Rattle.heap.specs.CountingLemmas.{occ-length, refs-length}
 use Rattle.heap.specs.Invariant.{Consistent}
 use Rattle.heap.specs.Reachability.{ReachableFrom}
 use Rattle.heap.specs.WordLemmas.{header-at, fields-at}
-use Rattle.heap.specs.Words.{headers, blockFields}
-use Rattle.bridge.specs.Erasing.{Block}
+use Rattle.heap.specs.Words.{wordAt, headers, blockFields}
+use Rattle.bridge.specs.Erasing.{Block, most-named}
 use Rattle.bridge.specs.Shown.{L, heapOf, cells-pointers}
 
-module _ {N n : ℕ} {i : ℕ → ℕ} {roots : List ℕ} (s : Config) (g : Consistent L (heapOf s) i n roots) (fits : n ≤ N) (most : N ≤ 1048576) (few : length roots ≤ 1048576) where
+module _ {G : Shape} {N n : ℕ} {i : ℕ → ℕ} {roots : List ℕ} (shape : Supported G) (s : Config) (g : Consistent (L G) (heapOf G s) i n roots) (fits : n ≤ N) (most : N ≤ 1048576) (few : length roots ≤ 1048576) where
   -- what pointers lead to is a block of the heap, with a small count
-  pub reachable-block : (q : ℕ) → ReachableFrom (blockFields 3 (s .state .mem)) roots q → Block N (s .state .mem) q
+  pub reachable-block : (q : ℕ) → ReachableFrom (blockFields (G .fields) (s .state .mem)) roots q → Block G N (s .state .mem) q
   reachable-block q r =
       let y = reachable-held g r in
-      let b = block-number L n q (omega (arith, g .invariant .parts q, y .is-live)) in
-      let e : refs (children (blockFields 3 (s .state .mem))) q (g .live) ≤ 3 * length (g .live) = refs-length (children (blockFields 3 (s .state .mem))) 3 q (g .live) (λ x d. size x d) in
-      let h : headers 3 (s .state .mem) q ≡ s .state .mem (8 * b .0 + 0) = ap (headers 3 (s .state .mem)) (b .2) ∙ header-at 3 (s .state .mem) (b .0) in
-      record { number = b .0; address = b .2; inside = omega (arith, b .1); small = omega (arith, occ-length q roots, y .count, g .invariant .size) }
+      let b = block-number (L G) n q (omega (arith, g .invariant .parts q, y .is-live)) in
+      let e : refs (children (blockFields (G .fields) (s .state .mem))) q (g .live) ≤ G .fields * length (g .live) = refs-length (children (blockFields (G .fields) (s .state .mem))) (G .fields) q (g .live) (λ x d. size x d) in
+      let h : headers (G .fields) (s .state .mem) q ≡ s .state .mem (wordAt (G .fields) (b .0) 0) = ap (headers (G .fields) (s .state .mem)) (b .2) ∙ header-at (G .fields) (s .state .mem) (b .0) in
+      record { number = b .0; address = b .2; inside = omega (arith, b .1); small = omega (arith, occ-length q roots, y .count, g .invariant .size, most-named (G .fields) (length (g .live)) (shape .few)) }
     where
-      size : (x : ℕ) → occ x (g .live) ≢ 0 → length (children (blockFields 3 (s .state .mem)) x) ≤ 3
-      size x d = let e = block-number L n x (omega (arith, g .invariant .parts x)) in rw (e .2, fields-at 3 (s .state .mem) (e .0)) (omega (arith, cells-pointers (s .state .mem) (e .0) 0 3))
+      size : (x : ℕ) → occ x (g .live) ≢ 0 → length (children (blockFields (G .fields) (s .state .mem)) x) ≤ G .fields
+      size x d = let e = block-number (L G) n x (omega (arith, g .invariant .parts x)) in rw (e .2, fields-at (G .fields) (s .state .mem) (e .0)) (omega (arith, cells-pointers G (s .state .mem) (e .0) 0 (G .fields)))

@@ -1,49 +1,51 @@
--- The abstract heap that a configuration's words show, for blocks of 3 fields, and what the change of one word leaves of it.
+-- The abstract heap that a configuration's words show, for blocks of any number of fields, and what the change of one word leaves of it.
 use mathlib.Core.List.{List}
 use mathlib.Core.Logic.{_≢_}
 use mathlib.Core.Path.{_≡_, refl, _∙_}
-use Prim.Native.Nat.{ℕ, suc, _+_, _*_, _≤_, _<_}
+use Prim.Native.Nat.{ℕ, suc, _≤_, _<_}
 use native.Mathlib.Omega.{arith}
 use lib.ListN.{length}
 use Rattle.word.specs.Words.{sum}
 use Rattle.trees.specs.Tree.{Tree, nop, seq}
+use Rattle.layout.specs.declared.config.Shape.{Shape}
+use Rattle.layout.specs.Config.{blockWords}
 use Rattle.instructions.specs.Step.{Config}
 use Rattle.instructions.specs.View.{upd}
 use Rattle.structured.specs.Evaluation.{Evaluated, done, faulted, andThen, evaluate}
 use Rattle.heap.specs.Blocks.{Layout, Cell, pointers, Memory}
 use Rattle.heap.specs.CountingLemmas.{pointers-length}
-use Rattle.heap.specs.WordLemmas.{layout, header-at, cells-length, header-off, fields-all}
-use Rattle.heap.specs.Words.{headers, cellsFrom, blockFields, memoryOf}
+use Rattle.heap.specs.WordLemmas.{word-apart, layout, header-at, cells-length, header-off, fields-all}
+use Rattle.heap.specs.Words.{wordAt, headers, cellsFrom, blockFields, memoryOf}
 use Rattle.positions.specs.Held.{blockAddress}
 use Rattle.positions.specs.HeldLemmas.{upd-same, upd-other}
 use Rattle.positions.specs.Runs.{Does}
 
-abbrev pub L : Layout
-L = layout 3
+abbrev pub L : Shape → Layout
+L G = layout (G .fields)
 
-abbrev pub heapOf : Config → Memory
-heapOf c = memoryOf 3 (c .state .mem) (c .state .reg 2) (c .state .reg 3)
+abbrev pub heapOf : Shape → Config → Memory
+heapOf G c = memoryOf (G .fields) (c .state .mem) (c .state .reg 2) (c .state .reg 3)
 
 -- the words of all blocks but their first are the same, so their fields are
-abbrev pub SameFields : (ℕ → ℕ) → (ℕ → ℕ) → Type 0
-SameFields m m′ = (x w : ℕ) → 1 ≤ w → w < 8 → m′ (8 * x + w) ≡ m (8 * x + w)
+abbrev pub SameFields : Shape → (ℕ → ℕ) → (ℕ → ℕ) → Type 0
+SameFields G m m′ = (x w : ℕ) → 1 ≤ w → w < blockWords G → m′ (wordAt (G .fields) x w) ≡ m (wordAt (G .fields) x w)
 
 -- the first word of block j is written
-module _ (m : ℕ → ℕ) (j v : ℕ) where
-  pub head-same : headers 3 (upd m (8 * j + 0) v) (blockAddress j) ≡ v
-  head-same = header-at 3 (upd m (8 * j + 0) v) j ∙ upd-same m (8 * j + 0) v
+module _ (G : Shape) (m : ℕ → ℕ) (j v : ℕ) where
+  pub head-same : headers (G .fields) (upd m (wordAt (G .fields) j 0) v) (blockAddress G j) ≡ v
+  head-same = header-at (G .fields) (upd m (wordAt (G .fields) j 0) v) j ∙ upd-same m (wordAt (G .fields) j 0) v
 
-  pub head-off : (b : ℕ) → b ≢ blockAddress j → headers 3 (upd m (8 * j + 0) v) b ≡ headers 3 m b
-  head-off = header-off 3 m (upd m (8 * j + 0) v) j (λ x n. upd-other m (8 * j + 0) v (8 * x + 0) (omega arith))
+  pub head-off : (b : ℕ) → b ≢ blockAddress G j → headers (G .fields) (upd m (wordAt (G .fields) j 0) v) b ≡ headers (G .fields) m b
+  head-off = header-off (G .fields) m (upd m (wordAt (G .fields) j 0) v) j (λ x n. upd-other m (wordAt (G .fields) j 0) v (wordAt (G .fields) x 0) (word-apart (G .fields) x j 0 0 (omega arith) (omega arith) (λ e f. n e)))
 
-  pub head-fields : SameFields m (upd m (8 * j + 0) v)
-  head-fields x w a b = upd-other m (8 * j + 0) v (8 * x + w) (omega arith)
+  pub head-fields : SameFields G m (upd m (wordAt (G .fields) j 0) v)
+  head-fields x w a b = upd-other m (wordAt (G .fields) j 0) v (wordAt (G .fields) x w) (word-apart (G .fields) x j w 0 b (omega arith) (λ e f. omega arith))
 
-  pub head-cells : blockFields 3 (upd m (8 * j + 0) v) ≡ blockFields 3 m
-  head-cells = fields-all 3 m (upd m (8 * j + 0) v) head-fields
+  pub head-cells : blockFields (G .fields) (upd m (wordAt (G .fields) j 0) v) ≡ blockFields (G .fields) m
+  head-cells = fields-all (G .fields) m (upd m (wordAt (G .fields) j 0) v) head-fields
 
-pub cells-pointers : (m : ℕ → ℕ) (j t n : ℕ) → length (pointers (cellsFrom 3 m j t n)) ≡ n
-cells-pointers m j t n = pointers-length (cellsFrom 3 m j t n) ∙ cells-length 3 m j t n
+pub cells-pointers : (G : Shape) (m : ℕ → ℕ) (j t n : ℕ) → length (pointers (cellsFrom (G .fields) m j t n)) ≡ n
+cells-pointers G m j t n = pointers-length (cellsFrom (G .fields) m j t n) ∙ cells-length (G .fields) m j t n
 
 pub minus-one : (x : ℕ) → x ≢ 0 → x < 18446744073709551616 → suc (sum x 18446744073709551615) ≡ x
 unfolding sum

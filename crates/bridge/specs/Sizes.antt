@@ -1,20 +1,39 @@
--- How an object's values lie in its blocks: 3 in the last one, 2 in each other one but the first, and what is left in the first. From memory.rs.
+-- How an object's values lie in its blocks: as many as a block has fields in the last one, one fewer in each other one but the first, and what is left in the first. From memory.rs.
 use mathlib.Core.List.{List, [], _∷_}
-use Prim.Native.Nat.{ℕ, zero, suc, _-_, _≤_, min}
+use mathlib.Core.Path.{_≡_}
+use Prim.Native.Nat.{ℕ, zero, suc, _+_, _-_, _*_, _≤_, _<_}
+use native.Mathlib.Nat.{div-add-mod, mod-lt}
 use native.Mathlib.Omega.{arith}
 use lib.ListN.{length}
+use Rattle.layout.specs.declared.config.Shape.{Shape}
+use Rattle.memory.specs.Objects.{chunks}
 
--- k values in blocks before those of the sizes xs
-abbrev pub otherSizes : ℕ → List ℕ → List ℕ
-otherSizes zero xs = xs
-otherSizes (suc zero) xs = 1 ∷ xs
-otherSizes (suc (suc k)) xs = otherSizes k (2 ∷ xs)
+-- n values in m blocks of c, before the blocks of the sizes xs
+abbrev pub otherSizes : ℕ → ℕ → ℕ → List ℕ → List ℕ
+otherSizes c zero n xs = xs
+otherSizes c (suc m) n xs = otherSizes c m (n - c) ((n - (n - c)) ∷ xs)
 
-abbrev pub objectSizes : ℕ → List ℕ
-objectSizes zero = []
-objectSizes (suc n) = otherSizes (suc n - 3) (min (suc n) 3 ∷ [])
+abbrev pub someSizes : Shape → ℕ → List ℕ
+someSizes G n = otherSizes (G .fields - 1) (chunks (G .fields - 1) (n - G .fields)) (n - G .fields) ((n - (n - G .fields)) ∷ [])
 
-pub other-sizes-most : (k : ℕ) (xs : List ℕ) → length xs ≤ length (otherSizes k xs)
-other-sizes-most zero xs = omega arith
-other-sizes-most (suc zero) xs = omega arith
-other-sizes-most (suc (suc k)) xs = omega (arith, other-sizes-most k (2 ∷ xs))
+abbrev pub objectSizes : Shape → ℕ → List ℕ
+objectSizes G zero = []
+objectSizes G (suc n) = someSizes G (suc n)
+
+pub other-sizes-length : (c m n : ℕ) (xs : List ℕ) → length (otherSizes c m n xs) ≡ m + length xs
+other-sizes-length c zero n xs = omega arith
+other-sizes-length c (suc m) n xs = omega (arith, other-sizes-length c m (n - c) ((n - (n - c)) ∷ xs))
+
+-- m blocks of c are just enough for n values
+pub record Chunked (c m n : ℕ) : Type 0 where
+  pub enough : n ≤ c * m
+  pub needed : c * m < n + c
+
+pub chunks-chunked : (c n : ℕ) → 1 ≤ c → Chunked c (chunks c n) n
+chunks-chunked c n h =
+    let d = div-add-mod (n + (c - 1)) c in
+    let l = mod-lt (n + (c - 1)) {m = c} h in
+    record { enough = omega arith; needed = omega arith }
+
+pub chunked-next : {c m n : ℕ} → Chunked c (suc m) n → Chunked c m (n - c) × (1 ≤ n)
+chunked-next h = (record { enough = omega (arith, h .enough); needed = omega (arith, h .needed) }, omega (arith, h .needed))

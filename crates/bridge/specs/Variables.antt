@@ -11,7 +11,6 @@ use Rattle.instructions.specs.Step.{Config}
 use Rattle.heap.specs.Blocks.{Cell, cell, pointers}
 use Rattle.heap.specs.CountingLemmas.{pointers-length}
 use Rattle.positions.specs.Held.{heldIn, held, Keeps}
-use Rattle.positions.specs.HeldLemmas.{location-fits}
 
 module _ (ext : ℕ → Bool) where
   abbrev pub variableIn : (ℕ → ℕ) → (ℕ → ℕ) → ℕ → Cell
@@ -51,12 +50,12 @@ module _ (ext : ℕ → Bool) where
   pub variables-pointers : (c : Config) (v k : ℕ) → length (pointers (variables c v k)) ≡ k
   variables-pointers c v k = pointers-length (variables c v k) ∙ variables-length c v k
 
-  pub variables-kept : {P : ℕ → Type 0} (c d : Config) (v k : ℕ) → v + k ≤ 133 → ((p : ℕ) → 2 * v ≤ p → p < 2 * (v + k) → P (location p)) → Keeps P c d → variables d v k ≡ variables c v k
-  variables-kept c d v zero h f e = refl
-  variables-kept c d v (suc k) h f e =
-      let a : held d (location (2 * v)) ≡ held c (location (2 * v)) = e .kept (location (2 * v)) (location-fits (2 * v) (omega arith) .1) (f (2 * v) (omega arith) (omega arith)) in
-      let b : held d (location (2 * v + 1)) ≡ held c (location (2 * v + 1)) = e .kept (location (2 * v + 1)) (location-fits (2 * v + 1) (omega arith) .1) (f (2 * v + 1) (omega arith) (omega arith)) in
-      rw (a, b, variables-kept c d (suc v) k (omega arith) (λ p x y. f p (omega arith) (omega arith)) e)
+  pub variables-kept : {P : ℕ → Type 0} (c d : Config) (v k : ℕ) → ((p : ℕ) → 2 * v ≤ p → p < 2 * (v + k) → P (location p)) → Keeps P c d → variables d v k ≡ variables c v k
+  variables-kept c d v zero f e = refl
+  variables-kept c d v (suc k) f e =
+      let a : held d (location (2 * v)) ≡ held c (location (2 * v)) = e .kept (location (2 * v)) (f (2 * v) (omega arith) (omega arith)) in
+      let b : held d (location (2 * v + 1)) ≡ held c (location (2 * v + 1)) = e .kept (location (2 * v + 1)) (f (2 * v + 1) (omega arith) (omega arith)) in
+      rw (a, b, variables-kept c d (suc v) k (λ p x y. f p (omega arith) (omega arith)) e)
 
 -- the same kinds
 pub variables-kinds : (ext ext′ : ℕ → Bool) (c : Config) (v k : ℕ) → ((x : ℕ) → v ≤ x → x < v + k → ext′ x ≡ ext x) → variables ext′ c v k ≡ variables ext c v k

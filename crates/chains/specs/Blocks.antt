@@ -30,12 +30,12 @@ abbrev pub frontierIn : ℕ → ℕ → (ℕ → ℕ) → ℕ → ℕ
 frontierIn fieldCount blocks words lazy-head = numberOf fieldCount (chainEnd (headers fieldCount words) blocks lazy-head)
 
 -- of so many blocks, from a heap's words and the words in HEAP and FREE
-unfoldable pub counted : ℕ → (ℕ → ℕ) → ℕ → ℕ → Blocks
-counted blocks words linear-head lazy-head =
+unfoldable pub counted : ℕ → ℕ → (ℕ → ℕ) → ℕ → ℕ → Blocks
+counted fieldCount blocks words linear-head lazy-head =
     divided
-    (listLength (headers 3 words) blocks linear-head)
-    (chainLength (headers 3 words) blocks lazy-head)
-    (frontierIn 3 blocks words lazy-head)
+    (listLength (headers fieldCount words) blocks linear-head)
+    (chainLength (headers fieldCount words) blocks lazy-head)
+    (frontierIn fieldCount blocks words lazy-head)
     blocks
 
 -- what to fit where at most `peak` blocks are reachable at once: two blocks more, of as many bytes as their words have

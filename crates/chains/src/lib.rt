@@ -2,10 +2,13 @@
 ghost use mathlib.Core.Path.{_≡_};
 ghost use Prim.Native.Nat.{_/_};
 ghost use lib.ListN.{length};
-ghost use Rattle.layout.specs.Config.{HEAP, FREE};
+ghost use Rattle.layout.specs.Config.{Supported, base, blockWords, HEAP, FREE};
 ghost use Rattle.instructions.specs.View.{wordsOf};
 ghost use Rattle.heap.specs.Words.{numberOf, headers};
 ghost use Rattle.chains.specs.Blocks.{listLength, chainLength, chainEnd, counted, fitIn};
+use layout::config;
+use layout::config::Shape;
+use layout::utils;
 
 // Blocks on HEAP's list, on FREE's chain, held, and never used.
 pub struct Blocks {
@@ -29,24 +32,28 @@ struct Walked {
 }
 
 // The number of the block at an address.
-fn number_of(b: u64) -> u64
-    ensures { λ r. ⌜ r ≡ numberOf 3 b ⌝ }
+fn number_of(g: Shape, b: u64) -> u64
+    requires { ⌜ Supported g ⌝ }
+    ensures { λ r. ⌜ r ≡ numberOf (g .fields) b ⌝ }
 {
-    if b < 65536 { 0 } else { (b - 65536) / 8 / 8 }
+    let block = config::block_words(g);
+    if b < 65536 {
+        0
+    } else {
+        (b - 65536) / 8 / block
+    }
 }
 
 // The first word of the block at an address, 0 where none begins.
-fn first_word(heap: &[u64], b: u64) -> u64
-    ensures { λ r. ⌜ r ≡ headers 3 (wordsOf (now (heap .entry))) b ⌝ }
+fn first_word(g: Shape, heap: &[u64], b: u64) -> u64
+    requires { ⌜ Supported g ⌝ }
+    ensures { λ r. ⌜ r ≡ headers (g .fields) (wordsOf (now (heap .entry))) b ⌝ }
 {
-    let number = number_of(b);
-    if b < 65536 {
+    let block = config::block_words(g);
+    let at = block * number_of(g, b);
+    if 65536 + 8 * at == b {} else {
         return 0;
     }
-    if (b - 65536) % 64 == 0 {} else {
-        return 0;
-    }
-    let at = 8 * number;
     if at < (heap.len() as u64) {
         heap[at as usize]
     } else {
@@ -55,8 +62,9 @@ fn first_word(heap: &[u64], b: u64) -> u64
 }
 
 // The blocks of a list that ends in 0, at most `most`.
-fn walk_list(heap: &[u64], most: u64, first: u64) -> u64
-    ensures { λ r. ⌜ r ≡ listLength (headers 3 (wordsOf (now (heap .entry)))) most first ⌝ }
+fn walk_list(g: Shape, heap: &[u64], most: u64, first: u64) -> u64
+    requires { ⌜ Supported g ⌝ }
+    ensures { λ r. ⌜ r ≡ listLength (headers (g .fields) (wordsOf (now (heap .entry)))) most first ⌝ }
 {
     let mut b = first;
     let mut left = most;
@@ -65,7 +73,7 @@ fn walk_list(heap: &[u64], most: u64, first: u64) -> u64
         if b == 0 {
             return passed;
         }
-        b = first_word(heap, b);
+        b = first_word(g, heap, b);
         left -= 1;
         passed += 1;
     }
@@ -73,14 +81,15 @@ fn walk_list(heap: &[u64], most: u64, first: u64) -> u64
 }
 
 // The blocks of a chain before the first whose first word is 0, at most `most`.
-fn walk_chain(heap: &[u64], most: u64, first: u64) -> Walked
-    ensures { λ r. ⌜ (r .length ≡ chainLength (headers 3 (wordsOf (now (heap .entry)))) most first) × (r .end ≡ chainEnd (headers 3 (wordsOf (now (heap .entry)))) most first) ⌝ }
+fn walk_chain(g: Shape, heap: &[u64], most: u64, first: u64) -> Walked
+    requires { ⌜ Supported g ⌝ }
+    ensures { λ r. ⌜ (r .length ≡ chainLength (headers (g .fields) (wordsOf (now (heap .entry)))) most first) × (r .end ≡ chainEnd (headers (g .fields) (wordsOf (now (heap .entry)))) most first) ⌝ }
 {
     let mut b = first;
     let mut left = most;
     let mut passed = 0;
     while 0 < left {
-        let next = first_word(heap, b);
+        let next = first_word(g, heap, b);
         if next == 0 {
             return Walked {
                 length: passed,
@@ -98,33 +107,48 @@ fn walk_chain(heap: &[u64], most: u64, first: u64) -> Walked
 }
 
 pub fn count_blocks(registers: &[u64; 16], heap: &[u64]) -> Blocks
-    ensures { λ r. ⌜ r ≡ counted (length (now (heap .entry)) / 8) (wordsOf (now (heap .entry))) (wordsOf (now (registers .entry)) HEAP) (wordsOf (now (registers .entry)) FREE) ⌝ }
+    ensures { λ r. ⌜ r ≡ counted (base .fields) (length (now (heap .entry)) / blockWords base) (wordsOf (now (heap .entry))) (wordsOf (now (registers .entry)) HEAP) (wordsOf (now (registers .entry)) FREE) ⌝ }
 {
-    let all = (heap.len() / 8) as u64;
-    let linear = walk_list(heap, all, registers[2]);
-    let lazy = walk_chain(heap, all, registers[3]);
-    let frontier = number_of(lazy.end);
-    let used = layout::utils::less(frontier, linear);
+    count_blocks_in(config::base(), registers, heap)
+}
+
+pub fn count_blocks_in(g: Shape, registers: &[u64; 16], heap: &[u64]) -> Blocks
+    requires { ⌜ Supported g ⌝ }
+    ensures { λ r. ⌜ r ≡ counted (g .fields) (length (now (heap .entry)) / blockWords g) (wordsOf (now (heap .entry))) (wordsOf (now (registers .entry)) HEAP) (wordsOf (now (registers .entry)) FREE) ⌝ }
+{
+    let all = (heap.len() as u64) / config::block_words(g);
+    let linear = walk_list(g, heap, all, registers[2]);
+    let lazy = walk_chain(g, heap, all, registers[3]);
+    let frontier = number_of(g, lazy.end);
+    let used = utils::less(frontier, linear);
     Blocks {
         linear,
         lazy: lazy.length,
-        held: layout::utils::less(used, lazy.length),
-        untouched: layout::utils::less(all, frontier),
+        held: utils::less(used, lazy.length),
+        untouched: utils::less(all, frontier),
     }
 }
 
 // What to fit for the orders so far, by where the frontier is.
 pub fn to_fit(registers: &[u64; 16], heap: &[u64]) -> Fit
-    ensures { λ r. ⌜ r ≡ fitIn 3 (length (now (heap .entry)) / 8) (wordsOf (now (heap .entry))) (wordsOf (now (registers .entry)) FREE) ⌝ }
+    ensures { λ r. ⌜ r ≡ fitIn (base .fields) (length (now (heap .entry)) / blockWords base) (wordsOf (now (heap .entry))) (wordsOf (now (registers .entry)) FREE) ⌝ }
 {
-    let all = (heap.len() / 8) as u64;
-    let lazy = walk_chain(heap, all, registers[3]);
-    let frontier = number_of(lazy.end);
-    let peak = layout::utils::less(frontier, 1);
+    to_fit_in(config::base(), registers, heap)
+}
+
+pub fn to_fit_in(g: Shape, registers: &[u64; 16], heap: &[u64]) -> Fit
+    requires { ⌜ Supported g ⌝ }
+    ensures { λ r. ⌜ r ≡ fitIn (g .fields) (length (now (heap .entry)) / blockWords g) (wordsOf (now (heap .entry))) (wordsOf (now (registers .entry)) FREE) ⌝ }
+{
+    let block = config::block_words(g);
+    let all = (heap.len() as u64) / block;
+    let lazy = walk_chain(g, heap, all, registers[3]);
+    let frontier = number_of(g, lazy.end);
+    let peak = utils::less(frontier, 1);
     let blocks = peak + 2;
     Fit {
         peak,
         blocks,
-        bytes: 64 * blocks,
+        bytes: 8 * block * blocks,
     }
 }

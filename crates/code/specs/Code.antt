@@ -11,7 +11,8 @@ use Rattle.records.specs.declared.order.Operation.{Operation}
 use Rattle.records.specs.declared.order.Operation.the-variants.{Add, Sub, Mul, Div, Rem}
 use Rattle.records.specs.Codes.{fieldsOf}
 use Rattle.trees.specs.Tree.{Tree, leaf, seq, flat}
-use Rattle.layout.specs.Config.{Config, STACK, TEMP, RETURN1, RETURN2, stackOffset}
+use Rattle.layout.specs.declared.config.Shape.{Shape}
+use Rattle.layout.specs.Config.{STACK, TEMP, RETURN1, RETURN2, stackOffset}
 use Rattle.code.specs.declared.emitters.Condition.{Condition}
 use Rattle.code.specs.declared.emitters.Condition.the-variants.{Equal, NotEqual, Less, LessOrEqual, Greater, GreaterOrEqual}
 
@@ -43,7 +44,7 @@ jumpIf GreaterOrEqual l = JGEL l
 abbrev pub conditionNumber : Condition → ℕ
 conditionNumber k = fieldsOf (jumpIf k 0) .code
 
-module _ (g : Config) where
+module _ (g : Shape) where
   -- move_from_register, move_to_register
   abbrev pub moveFrom : ℕ → ℕ → Tree
   moveFrom w r = cond (ltb w 16) (leaf (MOV w r) refl) (leaf (MOVS r STACK (stackOffset g w)) refl)

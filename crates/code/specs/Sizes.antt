@@ -8,7 +8,8 @@ use Rattle.records.specs.declared.code.Code.{Code}
 use Rattle.records.specs.declared.order.Operation.{Operation}
 use Rattle.records.specs.declared.order.Operation.the-variants.{Add, Sub, Mul, Div, Rem}
 use Rattle.trees.specs.Tree.{Tree, straight, leaf, seq, labels, size}
-use Rattle.layout.specs.Config.{Config, TEMP, RETURN1, RETURN2}
+use Rattle.layout.specs.declared.config.Shape.{Shape}
+use Rattle.layout.specs.Config.{TEMP, RETURN1, RETURN2}
 use Rattle.code.specs.Code.{moveFrom, moveTo, toRegister, toSpill, intoRegister, throughTemp, commutative, subtraction, divideBy, divideKept, restored, quotient, remainder, arithmetic, compareWords, compareImmediate, loadImmediate, loadLabel, moved}
 
 -- no labels, and at most n records
@@ -30,7 +31,7 @@ either : (b : Bool) {t u : Tree} {m n : ℕ} → Plain t m → Plain u n → Pla
 either true x y = record { none = x .none; most = omega arith }
 either false x y = record { none = y .none; most = omega arith }
 
-module _ (g : Config) where
+module _ (g : Shape) where
   pub plain-move-from : (w r : ℕ) → Plain (moveFrom g w r) 1
   plain-move-from w r = either (ltb w 16) one one
 

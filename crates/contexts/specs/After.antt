@@ -61,33 +61,33 @@ as-stored bindings n (integer w) a = absurd a
 as-stored bindings n (object tag ws) a = a
 
 -- variables that are copied or loaded, and one that is stored, stay below a limit
-module _ (limit k : ℕ) (h : 133 ≤ limit) (l : k ≤ limit) where
-  room-for : (n none : ℕ) → cond (eqb n 0) none (2 * (k + n)) ≤ 267 → k + n ≤ limit
+module _ (most limit k : ℕ) (h : most ≤ 2 * limit + 1) (l : k ≤ limit) where
+  room-for : (n none : ℕ) → cond (eqb n 0) none (2 * (k + n)) ≤ most → k + n ≤ limit
   room-for zero none a = omega arith
   room-for (suc n) none a = let b = rw (ne-eqb (suc n) 0 (λ e. omega arith)) at a in omega arith
 
-  room-for-one : (n : ℕ) → cond (eqb n 0) (2 * k + 2) (2 * k) ≤ 267 → n ≤ k → (k - n) + 1 ≤ limit
+  room-for-one : (n : ℕ) → cond (eqb n 0) (2 * k + 2) (2 * k) ≤ most → n ≤ k → (k - n) + 1 ≤ limit
   room-for-one zero a m = omega arith
   room-for-one (suc n) a m = omega arith
 
 module _ (context bindings : List ℕ) (k : ℕ) (vs : Values) (count : countOf vs ≡ k) where
-  -- how many values there are after it: within a limit of 133 or more where there were before
-  pub count-within : (limit : ℕ) (o : Order) → 133 ≤ limit → k ≤ limit → present context k bindings o ≡ true → asked context k bindings o ≤ 267 → OwedKinds bindings o vs
+  -- how many values there are after it: within a limit, which the positions fit, where there were before
+  pub count-within : (most limit : ℕ) (o : Order) → most ≤ 2 * limit + 1 → k ≤ limit → present context k bindings o ≡ true → asked context k bindings o ≤ most → OwedKinds bindings o vs
       → countOf (plainly o vs) ≤ limit
   unfolding plainly present asked
-  count-within limit (Put value) h l p a q = omega (arith, count-joined vs (cons (integer value) nil))
-  count-within limit (Compute operation x y) h l p a q = rw (count-joined vs) (omega arith)
-  count-within limit (Copy x n) h l p a q = rw (count-joined vs (copies n (valueAt x vs)), count-copies n, count) (room-for limit k h l n _ a)
-  count-within limit Drop h l p a q = omega (arith, count-first (countOf vs - 1) vs (omega arith))
-  count-within limit (Store n tag) h l p a q =
+  count-within most limit (Put value) h l p a q = omega (arith, count-joined vs (cons (integer value) nil))
+  count-within most limit (Compute operation x y) h l p a q = rw (count-joined vs) (omega arith)
+  count-within most limit (Copy x n) h l p a q = rw (count-joined vs (copies n (valueAt x vs)), count-copies n, count) (room-for most limit k h l n _ a)
+  count-within most limit Drop h l p a q = omega (arith, count-first (countOf vs - 1) vs (omega arith))
+  count-within most limit (Store n tag) h l p a q =
       let m = leb-true n k p in
-      let r = room-for-one limit k h l n a m in
+      let r = room-for-one most limit k h l n a m in
       rw (count-joined (firstOf (countOf vs - n) vs), count-first (countOf vs - n) vs (omega arith)) (omega arith)
-  count-within limit (Load n) h l p a q =
-      let r = room-for limit (k - 1) h (omega arith) n 0 a in
+  count-within most limit (Load n) h l p a q =
+      let r = room-for most limit (k - 1) h (omega arith) n 0 a in
       let c = as-stored bindings n (valueAt (countOf vs - 1) vs) q .0 in
       rw (count-joined (firstOf (countOf vs - 1) vs), count-first (countOf vs - 1) vs (omega arith), c) (omega arith)
-  count-within limit (Print newline x) h l p a q = omega arith
+  count-within most limit (Print newline x) h l p a q = omega arith
 
   module _ (good : checkedContext context ≡ Good k) (kinds : KindsFrom (extAt context) 0 vs) where
     before : ContextOf context vs
@@ -98,30 +98,30 @@ module _ (context bindings : List ℕ) (k : ℕ) (vs : Values) (count : countOf 
     kept-then n t ws l b h =
         context-joined (take (8 * n) context) t (firstOf n vs) ws (context-first context vs n before (omega arith)) b (omega (arith, count-first n vs (omega arith)))
 
-    pub context-after : (o : Order) → checkedContext bindings ≡ Good (wanted o) → present context k bindings o ≡ true
-        → asked context k bindings o ≤ 267 → OwedKinds bindings o vs
+    pub context-after : (most : ℕ) (o : Order) → most ≤ 2 * 4096 + 1 → checkedContext bindings ≡ Good (wanted o) → present context k bindings o ≡ true
+        → asked context k bindings o ≤ most → OwedKinds bindings o vs
         → ContextOf (contextAfter context k bindings o) (plainly o vs)
     unfolding contextAfter plainly present asked
-    context-after (Put value) b p a q =
+    context-after most (Put value) within b p a q =
         context-joined context (made Ext k) vs (cons (integer value) nil) before (context-one Ext k (integer value) refl) (omega arith)
-    context-after (Compute operation x y) b p a q =
+    context-after most (Compute operation x y) within b p a q =
         let w = result operation (integerOf (valueAt x vs)) (integerOf (valueAt y vs)) in
         context-joined context (made Ext k) vs (cons (integer w) nil) before (context-one Ext k (integer w) refl) (omega arith)
-    context-after (Copy x n) b p a q =
-        let r = room-for 4096 k (omega arith) (good-length context good .1) n _ a in
+    context-after most (Copy x n) within b p a q =
+        let r = room-for most 4096 k (omega arith) (good-length context good .1) n _ a in
         let z : 0 + x ≡ x = omega arith in
         let s : isExt (kindAt context x) ≡ isInteger (valueAt x vs) =
         kind-at context x ∙ (rw z at (kinds-at (extAt context) 0 vs x kinds (omega (arith, ltb-true x k p)))) in
         context-joined context (madeAll (kindAt context x) k n) vs (copies n (valueAt x vs)) before (context-copies (kindAt context x) k n (valueAt x vs) s (omega arith))
         (omega (arith, count-copies n (valueAt x vs)))
-    context-after Drop b p a q = rw (← count) (context-first context vs (countOf vs - 1) before (omega arith))
-    context-after (Store n tag) b p a q =
-        let r = room-for-one 4096 k (omega arith) (good-length context good .1) n a (leb-true n k p) in
+    context-after most Drop within b p a q = rw (← count) (context-first context vs (countOf vs - 1) before (omega arith))
+    context-after most (Store n tag) within b p a q =
+        let r = room-for-one most 4096 k (omega arith) (good-length context good .1) n a (leb-true n k p) in
         let v = object tag (restOf (countOf vs - n) vs) in
         rw (← count) (kept-then (countOf vs - n) (made Linked (countOf vs - n)) (cons v nil) (omega arith) (context-one Linked (countOf vs - n) v refl) (omega arith))
-    context-after (Load n) b p a q =
+    context-after most (Load n) within b p a q =
         let w = good-length context good .1 in
-        let r = room-for 4096 (k - 1) (omega arith) (omega arith) n 0 a in
+        let r = room-for most 4096 (k - 1) (omega arith) (omega arith) n 0 a in
         let s = as-stored bindings n (valueAt (countOf vs - 1) vs) q in
         rw (← count) (kept-then (countOf vs - 1) bindings (listOf (valueAt (countOf vs - 1) vs)) (omega arith) (rw (s .0) b, s .1) (omega (arith, s .0)))
-    context-after (Print newline x) b p a q = before
+    context-after most (Print newline x) within b p a q = before

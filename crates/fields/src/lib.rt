@@ -6,15 +6,17 @@ ghost use Prim.Native.Nat.{_+_, _*_, _-_, _<_, _≤_, _^_};
 ghost use lib.Dec.{ltb};
 ghost use lib.ListN.{length};
 ghost use Rattle.emit.specs.Emitted.{Emits};
-ghost use Rattle.layout.specs.Config.{base};
-ghost use Rattle.layout.specs.Positions.{Table};
+ghost use Rattle.layout.specs.Config.{Supported, operands, positions};
+ghost use Rattle.layout.specs.Positions.{Table, entries};
 ghost use Rattle.memory.specs.Objects.{extIn, shareLoaded, loadFst, loadValue, loadValues, releaseUnless, loadLink, capacity, setAside, restore, loadBody, loadSpilled, loadBlock, loadOthers, loadSome, fst};
 use emit::cursor::Cursor;
 use emit::cursor::Row;
 use layout::config::RETURN1;
 use layout::config::SPILL_TEMP;
 use layout::config::STACK;
+use layout::config::Shape;
 use layout::config::TEMP;
+use layout::utils::ENTRIES;
 use memory::block;
 use records::number::MOVL;
 use records::number::MOVS;
@@ -39,22 +41,23 @@ fn share_loaded(out: &mut [u8], p: Cursor, shared: bool, w: u64) -> Cursor
 fn load_fst(
     out: &mut [u8],
     p: Cursor,
-    table: &[u64; 267],
+    g: Shape,
+    table: &[u16; ENTRIES],
     ext: bool,
     shared: bool,
     v: u64,
     t: u64,
     r: u8,
 ) -> Cursor
-    requires { ⌜ (Table (now table)) × (v < 133) × (t < 3) × (p .at + 144 < 2 ^ 64) × (p .counter + 1 < 2 ^ 32) ⌝ }
-    ensures { λ q. ⌜ Emits (now (out .entry)) p (now (out .exit)) q (loadFst base ext shared v t r) ⌝ }
+    requires { ⌜ (Table (now table)) × (2 * v + 2 < positions g) × (t < g .fields) × (p .at + 144 < 2 ^ 64) × (p .counter + 1 < 2 ^ 32) × Supported g ⌝ }
+    ensures { λ q. ⌜ Emits (now (out .entry)) p (now (out .exit)) q (loadFst g ext shared v t r) ⌝ }
 {
     if ext {
         return p;
     }
     let offset = layout::offset::fst_offset(t);
     let w = layout::utils::location_at(table, 2 * v);
-    let q = block::load_field(out, p, w, r, offset);
+    let q = block::load_field(out, p, g, w, r, offset);
     share_loaded(out, q, shared, w)
 }
 
@@ -62,7 +65,8 @@ fn load_fst(
 fn load_value(
     out: &mut [u8],
     p: Cursor,
-    table: &[u64; 267],
+    g: Shape,
+    table: &[u16; ENTRIES],
     kinds: &[u8],
     first: u64,
     shared: bool,
@@ -70,21 +74,22 @@ fn load_value(
     t: u64,
     r: u8,
 ) -> Cursor
-    requires { ⌜ (Table (now table)) × (first ≤ v) × (8 * (v - first) + 8 ≤ length (now kinds)) × (v < 133) × (t < 3) × (p .at + 192 < 2 ^ 64) × (p .counter + 1 < 2 ^ 32) ⌝ }
-    ensures { λ q. ⌜ Emits (now (out .entry)) p (now (out .exit)) q (loadValue base (extIn (now (kinds .entry)) first) shared v t r) ⌝ }
+    requires { ⌜ (Table (now table)) × (first ≤ v) × (8 * (v - first) + 8 ≤ length (now kinds)) × (2 * v + 2 < positions g) × (t < g .fields) × (p .at + 192 < 2 ^ 64) × (p .counter + 1 < 2 ^ 32) × Supported g ⌝ }
+    ensures { λ q. ⌜ Emits (now (out .entry)) p (now (out .exit)) q (loadValue g (extIn (now (kinds .entry)) first) shared v t r) ⌝ }
 {
     let offset = layout::offset::snd_offset(t);
     let w = layout::utils::location_at(table, 2 * v + 1);
-    let q = block::load_field(out, p, w, r, offset);
+    let q = block::load_field(out, p, g, w, r, offset);
     let ext = layout::utils::is_ext(kinds, v - first);
-    load_fst(out, q, table, ext, shared, v, t, r)
+    load_fst(out, q, g, table, ext, shared, v, t, r)
 }
 
 // The last k of the first `free` fields into the k variables from v on.
 fn load_values(
     out: &mut [u8],
     p: Cursor,
-    table: &[u64; 267],
+    g: Shape,
+    table: &[u16; ENTRIES],
     kinds: &[u8],
     first: u64,
     shared: bool,
@@ -93,8 +98,8 @@ fn load_values(
     free: u64,
     r: u8,
 ) -> Cursor
-    requires { ⌜ (Table (now table)) × (first ≤ v) × (8 * (v + k - first) ≤ length (now kinds)) × (v + k ≤ 133) × (k ≤ free) × (free ≤ 3) × (p .at + 192 * k + 24 < 2 ^ 64) × (p .counter + k < 2 ^ 32) ⌝ }
-    ensures { λ q. ⌜ Emits (now (out .entry)) p (now (out .exit)) q (loadValues base (extIn (now (kinds .entry)) first) shared v k free r) ⌝ }
+    requires { ⌜ (Table (now table)) × (first ≤ v) × (8 * (v + k - first) ≤ length (now kinds)) × (2 * (v + k) < positions g) × (k ≤ free) × (free ≤ g .fields) × (p .at + 192 * k + 24 < 2 ^ 64) × (p .counter + k < 2 ^ 32) × Supported g ⌝ }
+    ensures { λ q. ⌜ Emits (now (out .entry)) p (now (out .exit)) q (loadValues g (extIn (now (kinds .entry)) first) shared v k free r) ⌝ }
 {
     let mut q = p;
     let mut left = k;
@@ -103,6 +108,7 @@ fn load_values(
         q = load_value(
             out,
             q,
+            g,
             table,
             kinds,
             first,
@@ -128,53 +134,65 @@ fn release_unless(out: &mut [u8], p: Cursor, shared: bool, r: u8) -> Cursor
 }
 
 // The link to the next block into variable v's Fst, unless the block is the last.
-fn load_link(out: &mut [u8], p: Cursor, table: &[u64; 267], other: bool, v: u64, r: u8) -> Cursor
-    requires { ⌜ (Table (now table)) × (v ≤ 133) × (p .at + 48 < 2 ^ 64) ⌝ }
-    ensures { λ q. ⌜ Emits (now (out .entry)) p (now (out .exit)) q (loadLink base other v r) ⌝ }
+fn load_link(
+    out: &mut [u8],
+    p: Cursor,
+    g: Shape,
+    table: &[u16; ENTRIES],
+    other: bool,
+    v: u64,
+    r: u8,
+) -> Cursor
+    requires { ⌜ (Table (now table)) × (2 * v < positions g) × (p .at + 48 < 2 ^ 64) × Supported g ⌝ }
+    ensures { λ q. ⌜ Emits (now (out .entry)) p (now (out .exit)) q (loadLink g other v r) ⌝ }
 {
     if other {
+        let offset = layout::offset::fst_offset(g.fields - 1);
         let w = layout::utils::location_at(table, 2 * v);
-        block::load_field(out, p, w, r, 48)
+        block::load_field(out, p, g, w, r, offset)
     } else {
         p
     }
 }
 
 // Register 4 into spill 0, unless it is there already.
-fn set_aside(out: &mut [u8], p: Cursor, aside: bool) -> Cursor
-    requires { ⌜ p .at + 24 < 2 ^ 64 ⌝ }
-    ensures { λ q. ⌜ Emits (now (out .entry)) p (now (out .exit)) q (setAside base aside) ⌝ }
+fn set_aside(out: &mut [u8], p: Cursor, g: Shape, aside: bool) -> Cursor
+    requires { ⌜ (p .at + 24 < 2 ^ 64) × Supported g ⌝ }
+    ensures { λ q. ⌜ Emits (now (out .entry)) p (now (out .exit)) q (setAside g aside) ⌝ }
 {
     if aside {
         return p;
     }
-    let offset = layout::offset::spill_offset(SPILL_TEMP);
+    let offset = layout::offset::spill_offset(g, SPILL_TEMP);
     emit::cursor::emit(out, p, Row(MOVS, RETURN1, STACK, 0, offset, 0))
 }
 
 // And back, after the last block.
-fn restore_aside(out: &mut [u8], p: Cursor, other: bool) -> Cursor
-    requires { ⌜ p .at + 24 < 2 ^ 64 ⌝ }
-    ensures { λ q. ⌜ Emits (now (out .entry)) p (now (out .exit)) q (restore base other) ⌝ }
+fn restore_aside(out: &mut [u8], p: Cursor, g: Shape, other: bool) -> Cursor
+    requires { ⌜ (p .at + 24 < 2 ^ 64) × Supported g ⌝ }
+    ensures { λ q. ⌜ Emits (now (out .entry)) p (now (out .exit)) q (restore g other) ⌝ }
 {
     if other {
         return p;
     }
-    let offset = layout::offset::spill_offset(SPILL_TEMP);
+    let offset = layout::offset::spill_offset(g, SPILL_TEMP);
     emit::cursor::emit(out, p, Row(MOVL, RETURN1, STACK, 0, offset, 0))
 }
 
-fn capacity_of(other: bool) -> u64
-    ensures { λ r. ⌜ (r ≡ capacity base other) × (r ≤ 3) × (2 ≤ r) ⌝ }
+fn capacity_of(g: Shape, other: bool) -> u64
+    requires { ⌜ Supported g ⌝ }
+    ensures { λ r. ⌜ (r ≡ capacity g other) × (r ≤ g .fields) ⌝ }
 {
-    if other { 2 } else { 3 }
+    let fields = g.fields;
+    if other { fields - 1 } else { fields }
 }
 
 // k variables from v on out of the block in register r, and before them the link to the next block.
 fn load_body(
     out: &mut [u8],
     p: Cursor,
-    table: &[u64; 267],
+    g: Shape,
+    table: &[u16; ENTRIES],
     kinds: &[u8],
     first: u64,
     shared: bool,
@@ -183,20 +201,21 @@ fn load_body(
     k: u64,
     r: u8,
 ) -> Cursor
-    requires { ⌜ (Table (now table)) × (first ≤ v) × (8 * (v + k - first) ≤ length (now kinds)) × (v + k ≤ 133) × (k ≤ capacity base other) × (p .at + 1200 < 2 ^ 64) × (p .counter + k < 2 ^ 32) ⌝ }
-    ensures { λ q. ⌜ Emits (now (out .entry)) p (now (out .exit)) q (loadBody base (extIn (now (kinds .entry)) first) shared other v k r) ⌝ }
+    requires { ⌜ (Table (now table)) × (first ≤ v) × (8 * (v + k - first) ≤ length (now kinds)) × (2 * (v + k) < positions g) × (k ≤ capacity g other) × (p .at + 1500 < 2 ^ 64) × (p .counter + k < 2 ^ 32) × Supported g ⌝ }
+    ensures { λ q. ⌜ Emits (now (out .entry)) p (now (out .exit)) q (loadBody g (extIn (now (kinds .entry)) first) shared other v k r) ⌝ }
 {
-    let free = capacity_of(other);
+    let free = capacity_of(g, other);
     let q = release_unless(out, p, shared, r);
-    let s = load_link(out, q, table, other, v + k, r);
-    load_values(out, s, table, kinds, first, shared, v, k, free, r)
+    let s = load_link(out, q, g, table, other, v + k, r);
+    load_values(out, s, g, table, kinds, first, shared, v, k, free, r)
 }
 
 // The same out of the block in spill w, which goes through register 4.
 fn load_spilled(
     out: &mut [u8],
     p: Cursor,
-    table: &[u64; 267],
+    g: Shape,
+    table: &[u16; ENTRIES],
     kinds: &[u8],
     first: u64,
     shared: bool,
@@ -206,21 +225,22 @@ fn load_spilled(
     k: u64,
     w: u64,
 ) -> Cursor
-    requires { ⌜ (Table (now table)) × (first ≤ v) × (8 * (v + k - first) ≤ length (now kinds)) × (v + k ≤ 133) × (k ≤ capacity base other) × (p .at + 1296 < 2 ^ 64) × (p .counter + k < 2 ^ 32) × (w ≡ fst v) × (16 ≤ w) × (w < 272) ⌝ }
-    ensures { λ q. ⌜ Emits (now (out .entry)) p (now (out .exit)) q (loadSpilled base (extIn (now (kinds .entry)) first) shared other aside v k) ⌝ }
+    requires { ⌜ (Table (now table)) × (first ≤ v) × (8 * (v + k - first) ≤ length (now kinds)) × (2 * (v + k) < positions g) × (k ≤ capacity g other) × (p .at + 1600 < 2 ^ 64) × (p .counter + k < 2 ^ 32) × (w ≡ fst v) × (16 ≤ w) × (w < operands g) × Supported g ⌝ }
+    ensures { λ q. ⌜ Emits (now (out .entry)) p (now (out .exit)) q (loadSpilled g (extIn (now (kinds .entry)) first) shared other aside v k) ⌝ }
 {
-    let q = set_aside(out, p, aside);
-    let offset = layout::offset::spill_offset(w);
+    let q = set_aside(out, p, g, aside);
+    let offset = layout::offset::spill_offset(g, w);
     let s = emit::cursor::emit(out, q, Row(MOVL, RETURN1, STACK, 0, offset, 0));
-    let t = load_body(out, s, table, kinds, first, shared, other, v, k, RETURN1);
-    restore_aside(out, t, other)
+    let t = load_body(out, s, g, table, kinds, first, shared, other, v, k, RETURN1);
+    restore_aside(out, t, g, other)
 }
 
 // The same out of the block in variable v's Fst.
 fn load_block(
     out: &mut [u8],
     p: Cursor,
-    table: &[u64; 267],
+    g: Shape,
+    table: &[u16; ENTRIES],
     kinds: &[u8],
     first: u64,
     shared: bool,
@@ -229,26 +249,39 @@ fn load_block(
     v: u64,
     k: u64,
 ) -> Cursor
-    requires { ⌜ (Table (now table)) × (first ≤ v) × (8 * (v + k - first) ≤ length (now kinds)) × (v + k ≤ 133) × (k ≤ capacity base other) × (p .at + 1296 < 2 ^ 64) × (p .counter + k < 2 ^ 32) ⌝ }
-    ensures { λ q. ⌜ Emits (now (out .entry)) p (now (out .exit)) q (loadBlock base (extIn (now (kinds .entry)) first) shared other aside v k) ⌝ }
+    requires { ⌜ (Table (now table)) × (first ≤ v) × (8 * (v + k - first) ≤ length (now kinds)) × (2 * (v + k) < positions g) × (k ≤ capacity g other) × (p .at + 1600 < 2 ^ 64) × (p .counter + k < 2 ^ 32) × Supported g ⌝ }
+    ensures { λ q. ⌜ Emits (now (out .entry)) p (now (out .exit)) q (loadBlock g (extIn (now (kinds .entry)) first) shared other aside v k) ⌝ }
 {
     let w = layout::utils::location_at(table, 2 * v);
     if w < 16 {
-        load_body(out, p, table, kinds, first, shared, other, v, k, w as u8)
+        load_body(out, p, g, table, kinds, first, shared, other, v, k, w as u8)
     } else {
-        load_spilled(out, p, table, kinds, first, shared, other, aside, v, k, w)
+        load_spilled(
+            out,
+            p,
+            g,
+            table,
+            kinds,
+            first,
+            shared,
+            other,
+            aside,
+            v,
+            k,
+            w,
+        )
     }
 }
 
 // Whether a block before the one that starts with variable v + n lay in a spill.
-fn freed_before(table: &[u64; 267], v: u64, n: u64) -> bool
-    requires { ⌜ (Table (now table)) × (v + n ≤ 133) ⌝ }
-    ensures { λ r. ⌜ r ≡ (ltb 0 n && not (ltb (fst (v + (n - 2))) 16)) ⌝ }
+fn freed_before(table: &[u16; ENTRIES], each: u64, v: u64, n: u64) -> bool
+    requires { ⌜ (Table (now table)) × (2 * (v + n) < entries) ⌝ }
+    ensures { λ r. ⌜ r ≡ (ltb 0 n && not (ltb (fst (v + (n - each))) 16)) ⌝ }
 {
     if 0 < n {} else {
         return false;
     }
-    let rest = layout::utils::less(n, 2);
+    let rest = layout::utils::less(n, each);
     let w = layout::utils::location_at(table, 2 * (v + rest));
     if w < 16 {
         return false;
@@ -256,30 +289,33 @@ fn freed_before(table: &[u64; 267], v: u64, n: u64) -> bool
     true
 }
 
-// The n variables from v on, out of m blocks before the last: two out of each, and out of the first what is left.
+// The n variables from v on, out of m blocks before the last: `each` out of a block, and out of the first what is left.
 fn load_others(
     out: &mut [u8],
     p: Cursor,
-    table: &[u64; 267],
+    g: Shape,
+    table: &[u16; ENTRIES],
     kinds: &[u8],
     first: u64,
     shared: bool,
+    each: u64,
     m: u64,
     v: u64,
     n: u64,
 ) -> Cursor
-    requires { ⌜ (Table (now table)) × (first ≤ v) × (8 * (v + n - first) ≤ length (now kinds)) × (v + n ≤ 133) × (n ≤ 2 * m) × (2 * m ≤ n + 1) × (p .at + 552 * m + 800 < 2 ^ 64) × (p .counter + 2 * m < 2 ^ 32) ⌝ }
-    ensures { λ q. ⌜ Emits (now (out .entry)) p (now (out .exit)) q (loadOthers base (extIn (now (kinds .entry)) first) shared m v n) ⌝ }
+    requires { ⌜ (Table (now table)) × (first ≤ v) × (8 * (v + n - first) ≤ length (now kinds)) × (2 * (v + n) < positions g) × (n ≤ each * m) × (each * m < n + each) × (p .at + 1320 * m + 1600 < 2 ^ 64) × (p .counter + 6 * m < 2 ^ 32) × (each + 1 ≡ g .fields) × Supported g ⌝ }
+    ensures { λ q. ⌜ Emits (now (out .entry)) p (now (out .exit)) q (loadOthers g (extIn (now (kinds .entry)) first) shared m v n) ⌝ }
 {
     let mut q = p;
     let mut i = 0;
     let mut from = 0;
-    let mut to = n + 2 - 2 * m;
+    let mut to = n + each - each * m;
     while i < m {
-        let aside = freed_before(table, v, from);
+        let aside = freed_before(table, each, v, from);
         q = load_block(
             out,
             q,
+            g,
             table,
             kinds,
             first,
@@ -290,7 +326,7 @@ fn load_others(
             to - from,
         );
         from = to;
-        to += 2;
+        to += each;
         i += 1;
     }
     q
@@ -300,22 +336,38 @@ fn load_others(
 pub fn load_some(
     out: &mut [u8],
     p: Cursor,
-    table: &[u64; 267],
+    g: Shape,
+    table: &[u16; ENTRIES],
     kinds: &[u8],
     first: u64,
     shared: bool,
     v: u64,
     n: u64,
 ) -> Cursor
-    requires { ⌜ (Table (now table)) × (first ≤ v) × (8 * (v + n - first) ≤ length (now kinds)) × (v + n ≤ 133) × (p .at + 40000 < 2 ^ 64) × (p .counter + 200 < 2 ^ 32) ⌝ }
-    ensures { λ q. ⌜ Emits (now (out .entry)) p (now (out .exit)) q (loadSome base (extIn (now (kinds .entry)) first) shared v n) ⌝ }
+    requires { ⌜ (Table (now table)) × (first ≤ v) × (8 * (v + n - first) ≤ length (now kinds)) × (2 * (v + n) < positions g) × (p .at + 400000 < 2 ^ 64) × (p .counter + 2000 < 2 ^ 32) × Supported g ⌝ }
+    ensures { λ q. ⌜ Emits (now (out .entry)) p (now (out .exit)) q (loadSome g (extIn (now (kinds .entry)) first) shared v n) ⌝ }
 {
-    let rest = layout::utils::less(n, 3);
-    let aside = freed_before(table, v, rest);
-    let q = load_others(out, p, table, kinds, first, shared, (rest + 1) / 2, v, rest);
+    let fields = g.fields;
+    let each = fields - 1;
+    let rest = layout::utils::less(n, fields);
+    let aside = freed_before(table, each, v, rest);
+    let q = load_others(
+        out,
+        p,
+        g,
+        table,
+        kinds,
+        first,
+        shared,
+        each,
+        (rest + (each - 1)) / each,
+        v,
+        rest,
+    );
     load_block(
         out,
         q,
+        g,
         table,
         kinds,
         first,

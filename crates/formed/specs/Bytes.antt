@@ -25,13 +25,13 @@ codes-back (x ∷ xs) w =
     rw (code-laws .same x (joined codeBytes xs) (w .0), drop-at (codeBytes x) (joined codeBytes xs) 24 (code-laws .long x), codes-back xs (w .1))
 
 -- a list of at most 65,536 well-formed instructions
-pub ran-list : (words : ℕ → ℕ) (xs : List Code) (limit : ℕ) (v : View) → Each WellFormedCode xs → length xs ≤ 65536 → heapOk (v .size) ≡ true
-    → ran words (joined codeBytes xs) limit v ≡ started words xs limit v
+pub ran-list : (block : ℕ) (words : ℕ → ℕ) (xs : List Code) (limit : ℕ) (v : View) → Each WellFormedCode xs → length xs ≤ 65536 → heapOk block (v .size) ≡ true
+    → ran block words (joined codeBytes xs) limit v ≡ started words xs limit v
 unfolding ran
-ran-list words xs limit v w h e = rw (e, records-read-back .codes-accepted xs w 65536 (omega arith), codes-back xs w)
+ran-list block words xs limit v w h e = rw (e, records-read-back .codes-accepted xs w 65536 (omega arith), codes-back xs w)
 
 -- a tree's records
-pub ran-started : (words : ℕ → ℕ) (t : Tree) (c limit : ℕ) (v : View) → Formed t → c + labels t ≤ 2147483647 → size t ≤ 65536 → heapOk (v .size) ≡ true
-    → ran words (joined codeBytes (flat t c)) limit v ≡ started words (flat t c) limit v
-ran-started words t c limit v f h m e =
-    ran-list words (flat t c) limit v (formed-records t c 0 f (omega arith)) (omega (arith, length-flat t c 0)) e
+pub ran-started : (block : ℕ) (words : ℕ → ℕ) (t : Tree) (c limit : ℕ) (v : View) → Formed t → c + labels t ≤ 2147483647 → size t ≤ 65536 → heapOk block (v .size) ≡ true
+    → ran block words (joined codeBytes (flat t c)) limit v ≡ started words (flat t c) limit v
+ran-started block words t c limit v f h m e =
+    ran-list block words (flat t c) limit v (formed-records t c 0 f (omega arith)) (omega (arith, length-flat t c 0)) e

@@ -6,7 +6,8 @@ use native.Mathlib.Omega.{arith}
 use lib.Dec.{ltb}
 use borrow.Author.Tests.{lt-ltb, le-ltb}
 use Rattle.trees.specs.Tree.{Tree}
-use Rattle.layout.specs.Config.{base, STACK, TEMP, HEAP, FREE, RETURN1, RETURN2, stackOffset, fstOffset, sndOffset, MINUSONE}
+use Rattle.layout.specs.declared.config.Shape.{Shape}
+use Rattle.layout.specs.Config.{Supported, STACK, TEMP, HEAP, FREE, RETURN1, RETURN2, stackOffset, fstOffset, sndOffset, MINUSONE}
 use Rattle.memory.specs.Blocks.{blockRegister}
 use Rattle.formed.specs.Formed.{Formed}
 
@@ -23,10 +24,10 @@ on-operand w {t} {u} f h = by (decLt w 16)
     by (yes l) = rw (lt-ltb w 16 l) (f l)
     by (no l) = let m : 16 ≤ w = omega arith in rw (le-ltb w 16 m) (h m)
 
--- an operand's spill stands below 2,048 from STACK
-pub offset-fits : (w : ℕ) → stackOffset base w < 2 ^ 64
+-- an operand's spill stands below the frame's end from STACK
+pub offset-fits : (G : Shape) → Supported G → (w : ℕ) → stackOffset G w < 2 ^ 64
 unfolding stackOffset
-offset-fits w = omega arith
+offset-fits G sup w = omega (arith, sup .frame)
 
 pub zero-fits : 0 < 2 ^ 64
 zero-fits = omega arith

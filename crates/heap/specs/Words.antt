@@ -10,6 +10,10 @@ use Rattle.heap.specs.Blocks.{Cell, cell, Memory}
 abbrev pub stride : ℕ → ℕ
 stride fieldCount = 2 + 2 * fieldCount
 
+-- word w of block j, as the heap's words are numbered
+abbrev pub wordAt : ℕ → ℕ → ℕ → ℕ
+wordAt fieldCount j w = stride fieldCount * j + w
+
 -- block j's address, and the number of the block at an address
 abbrev pub addressOf : ℕ → ℕ → ℕ
 addressOf fieldCount j = 65536 + 8 * (stride fieldCount * j)
@@ -22,12 +26,12 @@ unfoldable pub byAddress : {A : Type 0} → ℕ → (ℕ → A) → A → ℕ �
 byAddress fieldCount of other b = cond (eqb (addressOf fieldCount (numberOf fieldCount b)) b) (of (numberOf fieldCount b)) other
 
 unfoldable pub headers : ℕ → (ℕ → ℕ) → ℕ → ℕ
-headers fieldCount words = byAddress fieldCount (λ (j : ℕ). words (stride fieldCount * j + 0)) 0
+headers fieldCount words = byAddress fieldCount (λ (j : ℕ). words (wordAt fieldCount j 0)) 0
 
 -- n fields of block j from field t
 unfoldable pub cellsFrom : ℕ → (ℕ → ℕ) → ℕ → ℕ → ℕ → List Cell
 cellsFrom fieldCount words j t zero = []
-cellsFrom fieldCount words j t (suc n) = cell (words (stride fieldCount * j + (2 + 2 * t))) (words (stride fieldCount * j + (3 + 2 * t))) ∷ cellsFrom fieldCount words j (suc t) n
+cellsFrom fieldCount words j t (suc n) = cell (words (wordAt fieldCount j (2 + 2 * t))) (words (wordAt fieldCount j (3 + 2 * t))) ∷ cellsFrom fieldCount words j (suc t) n
 
 unfoldable pub blockFields : ℕ → (ℕ → ℕ) → ℕ → List Cell
 blockFields fieldCount words = byAddress fieldCount (λ (j : ℕ). cellsFrom fieldCount words j 0 fieldCount) []

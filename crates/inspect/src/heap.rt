@@ -2,6 +2,7 @@
 // or on HEAP's list, and the value that was seen in it. PEAK is the most blocks that the variables reached after any one order so far.
 use crate::arithmetic;
 use crate::plain;
+use crate::shape;
 use crate::table;
 use crate::words;
 use crate::work;
@@ -62,11 +63,13 @@ fn push_pointer(memory: &mut [u64], pointer: u64) {
     }
 }
 
-// The Fsts of the three fields, a link among them.
+// The Fsts of a block's fields, a link among them.
 fn push_fields(heap: &[u64], memory: &mut [u64], block: u64) {
-    push_pointer(memory, words::fst_in(heap, block, 0));
-    push_pointer(memory, words::fst_in(heap, block, 1));
-    push_pointer(memory, words::fst_in(heap, block, 2));
+    let mut field = 0;
+    while field < shape::FIELDS {
+        push_pointer(memory, words::fst_in(heap, block, field));
+        field += 1;
+    }
 }
 
 // From HEAP to 0.

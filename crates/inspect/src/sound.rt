@@ -2,6 +2,7 @@
 use crate::arithmetic;
 use crate::heap;
 use crate::plain;
+use crate::shape;
 use crate::table;
 use crate::values;
 use crate::words;
@@ -37,7 +38,7 @@ fn heap_sound(heap: &[u64], memory: &mut [u64], head: u64, free: u64) -> bool {
 
 // The context has as many variables as there are values, and STACK is where the routine's setup leaves it.
 fn frame_sound(context: &[u8], registers: &[u64; 16], length: u64) -> bool {
-    if registers[0] == 1099511625672 {} else {
+    if registers[0] == shape::STACK {} else {
         return false;
     }
     (context.len() as u64) == arithmetic::product(8, length)
@@ -55,7 +56,7 @@ fn words_sound(heap: &[u64], memory: &mut [u64], head: u64, free: u64) -> bool {
 pub fn sound(
     context: &[u8],
     registers: &[u64; 16],
-    stack: &[u64; 320],
+    stack: &[u64; shape::DEPTH],
     heap: &[u64],
     memory: &mut [u64],
 ) -> bool {

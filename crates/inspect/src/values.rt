@@ -2,6 +2,7 @@
 use crate::arithmetic;
 use crate::heap;
 use crate::plain;
+use crate::shape;
 use crate::words;
 use crate::work;
 
@@ -65,22 +66,22 @@ fn field_sound(heap: &[u64], memory: &mut [u64], block: u64, field: u64, v: u64)
     holds(memory, v, fst, words::snd_in(heap, block, field))
 }
 
-// The first field that an object of n values uses: three in the last block, two in each other, from the last value on.
+// The first field that an object of n values uses: a whole block in the last one, and all but the link in each other, from the last value on.
 fn first_field(n: u64) -> u64 {
-    if n <= 3 {
-        return 3 - n;
+    if n <= shape::FIELDS {
+        return shape::FIELDS - n;
     }
-    (n - 3) % 2
+    let over = (n - shape::FIELDS) % shape::LINK;
+    if over == 0 { 0 } else { shape::LINK - over }
 }
 
 fn unused_sound(heap: &[u64], block: u64, first: u64) -> bool {
-    if 0 < first {
-        if words::fst_in(heap, block, 0) == 0 {} else {
+    let mut field = 0;
+    while field < first {
+        if words::fst_in(heap, block, field) == 0 {} else {
             return false;
         }
-    }
-    if 1 < first {
-        return words::fst_in(heap, block, 1) == 0;
+        field += 1;
     }
     true
 }
@@ -92,14 +93,14 @@ fn object_sound(heap: &[u64], memory: &mut [u64], head: u64, cell: u64, n: u64) 
     if unused_sound(heap, block, field) {} else {
         return false;
     }
-    let mut last = n <= 3;
+    let mut last = n <= shape::FIELDS;
     let mut i = 0;
     while i < n {
-        if field == 2 {
+        if field == shape::LINK {
             if last {} else {
-                block = words::block_at(heap, words::fst_in(heap, block, 2));
+                block = words::block_at(heap, words::fst_in(heap, block, shape::LINK));
                 field = 0;
-                last = n - i <= 3;
+                last = n - i <= shape::FIELDS;
             }
         }
         let v = plain::listed(memory, arithmetic::sum(cell, i));

@@ -1,11 +1,13 @@
 // Blocks and fields in the heap's words, and the variables' words.
 use crate::arithmetic;
 use crate::plain;
+use crate::shape;
+use crate::shape::DEPTH;
 use crate::table;
 
 // How many blocks there are.
 pub fn blocks(heap: &[u64]) -> u64 {
-    (heap.len() / 8) as u64
+    (heap.len() as u64) / shape::BLOCK
 }
 
 // The block at an address, by number, or NONE.
@@ -14,10 +16,10 @@ pub fn block_at(heap: &[u64], address: u64) -> u64 {
         return table::NONE;
     }
     let offset = address - 65536;
-    if offset % 64 == 0 {
+    if offset % (8 * shape::BLOCK) == 0 {
         let words = heap.len() as u64;
         if offset / 8 < words {
-            return offset / 64;
+            return offset / (8 * shape::BLOCK);
         }
     }
     table::NONE
@@ -25,7 +27,10 @@ pub fn block_at(heap: &[u64], address: u64) -> u64 {
 
 // Word 0 is the count or the next pointer.
 pub fn word_in(heap: &[u64], block: u64, i: u64) -> u64 {
-    table::at(heap, arithmetic::sum(arithmetic::product(8, block), i))
+    table::at(
+        heap,
+        arithmetic::sum(arithmetic::product(shape::BLOCK, block), i),
+    )
 }
 
 // The Fst and the Snd of a field.
@@ -45,12 +50,12 @@ pub fn snd_in(heap: &[u64], block: u64, field: u64) -> u64 {
     )
 }
 
-// Positions 0 to 11 are registers 4 to 15; 12 and on are spills 1 and on, the last of which is where STACK points, at word 57 of the stack.
-fn at_position(registers: &[u64; 16], stack: &[u64; 320], position: u64) -> u64 {
+// Positions 0 to 11 are registers 4 to 15; 12 and on are spills 1 and on, which end seven words before the stack's end.
+fn at_position(registers: &[u64; 16], stack: &[u64; DEPTH], position: u64) -> u64 {
     if position < 12 {
         return table::at(registers, position + 4);
     }
-    table::at(stack, arithmetic::difference(323, position))
+    table::at(stack, arithmetic::difference((DEPTH as u64) + 3, position))
 }
 
 // Among VARIABLES a variable has three words: its Fst, its Snd and its kind.
@@ -58,7 +63,7 @@ fn place(i: u64, j: u64) -> u64 {
     table::place_in(table::VARIABLES, table::MARKS, 3, i, j)
 }
 
-fn note_words(memory: &mut [u64], registers: &[u64; 16], stack: &[u64; 320], i: u64) {
+fn note_words(memory: &mut [u64], registers: &[u64; 16], stack: &[u64; DEPTH], i: u64) {
     let position = arithmetic::product(2, i);
     table::set(memory, place(i, 0), at_position(registers, stack, position));
     table::set(
@@ -74,7 +79,7 @@ fn note_kind(memory: &mut [u64], context: &[u8], i: u64) {
 }
 
 // A state's variables.
-pub fn note(memory: &mut [u64], context: &[u8], registers: &[u64; 16], stack: &[u64; 320]) {
+pub fn note(memory: &mut [u64], context: &[u8], registers: &[u64; 16], stack: &[u64; DEPTH]) {
     let n = plain::length(memory);
     let mut i = 0;
     while i < n {

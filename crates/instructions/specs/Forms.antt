@@ -20,10 +20,10 @@ use Rattle.instructions.specs.Memory.{Operand, register, memory, immedia
 use Rattle.instructions.specs.Step.{Call, Config, config, Outcome, outcomeOf}
 
 -- where a place lies within its words
-abbrev pub Inside : ℕ → Place → Type 0
-Inside size (Stack i) = i < 320
-Inside size (Heap i) = i < size
-Inside size Nowhere = Unit {0}
+abbrev pub Inside : ℕ → ℕ → Place → Type 0
+Inside depth size (Stack i) = i < depth
+Inside depth size (Heap i) = i < size
+Inside depth size Nowhere = Unit {0}
 
 -- what a write that may fail did to s: whether it wrote, and the state after it, as a definition has it
 pub record Wrote (s : View) (o : Option View) (t : View) (ok : Bool) : Type 0 where
@@ -57,11 +57,11 @@ holdsOf n x y =
 abbrev pub comparedOf : Pair → Compared
 comparedOf p = cond (eqb (p .made) 0) Absent (Of (p .x) (p .y))
 
-pub record Sized (R S : List ℕ) : Type 0 where
+pub record Sized (depth : ℕ) (R S : List ℕ) : Type 0 where
   pub registers : length R ≡ 16
-  pub stack : length S ≡ 320
+  pub stack : length S ≡ depth
 
 -- registers R, stack S and heap H went to R′, S′, H′ with an answer, by the outcome o
 pub record Goes (R S H R′ S′ H′ : List ℕ) (p : Pair) (m : Moved) (o : Config → Outcome) : Type 0 where
-  pub sized : Sized R′ S′
+  pub sized : Sized (length S) R′ S′
   pub goes : (calls : List Call) → outcomeOf (m .went) (view R′ S′ H′) (comparedOf (m .pair)) calls ≡ o (config (view R S H) (comparedOf p) calls)

@@ -11,24 +11,24 @@ use Rattle.instructions.specs.declared.memory.Loaded.the-variants.{Word,
 use Rattle.instructions.specs.View.{View, putReg, putStk, putMem}
 use Rattle.word.specs.Words.{sum}
 
--- 2^40 less 320 words
-abbrev pub stackStart : ℕ
-stackStart = 1099511625216
+-- the address past the stack, 2^40
+abbrev pub stackEnd : ℕ
+stackEnd = 1099511627776
 
 abbrev pub heapStart : ℕ
 heapStart = 65536
 
--- a heap of so many words: 2 to 1,048,576 whole blocks of 8
-unfoldable pub heapOk : ℕ → Bool
-heapOk size = eqb (size % 8) 0 && (leb 16 size && leb size 8388608)
+-- where a block has so many words, a heap of so many: 2 to 1,048,576 whole blocks
+unfoldable pub heapOk : ℕ → ℕ → Bool
+heapOk block size = leb 1 block && (eqb (size % block) 0 && (leb 2 (size / block) && leb (size / block) 1048576))
 
--- beside a heap of so many words
-unfoldable pub placeOf : ℕ → ℕ → Place
-placeOf size address =
+-- with a stack of so many words, numbered from its end, beside a heap of so many
+unfoldable pub placeOf : ℕ → ℕ → ℕ → Place
+placeOf depth size address =
     cond (eqb (address % 8) 0)
-    (cond (leb stackStart address)
-    (cond (ltb ((address - stackStart) / 8) 320) (Stack ((address - stackStart) / 8)) Nowhere)
-    (cond (leb heapStart address && ltb ((address - heapStart) / 8) size) (Heap ((address - heapStart) / 8)) Nowhere))
+    (cond (leb stackEnd address) Nowhere
+    (cond (ltb ((1099511627768 - address) / 8) depth) (Stack ((1099511627768 - address) / 8))
+    (cond (leb heapStart address && ltb ((address - heapStart) / 8) size) (Heap ((address - heapStart) / 8)) Nowhere)))
     Nowhere
 
 -- among the stack's and the heap's words
@@ -43,10 +43,10 @@ putAt s (Heap i) v = some (putMem s i v)
 putAt s Nowhere v = none
 
 abbrev pub load : View → ℕ → Loaded
-load s address = wordAt (s .stk) (s .mem) (placeOf (s .size) address)
+load s address = wordAt (s .stk) (s .mem) (placeOf (s .depth) (s .size) address)
 
 abbrev pub store : View → ℕ → ℕ → Option View
-store s address v = putAt s (placeOf (s .size) address) v
+store s address v = putAt s (placeOf (s .depth) (s .size) address) v
 
 -- the operands of instructions: a register, the word at a register plus an offset, a value
 pub data Operand : Type 0 where

@@ -106,7 +106,7 @@ printName label = eqb label 2147483650 || eqb label 2147483651
 -- what a print leaves: the nine lent words in registers 1 and 4..11
 abbrev pub printed : (ℕ → ℕ) → View → View
 printed words s =
-    record { reg = upd (upd (upd (upd (upd (upd (upd (upd (upd (s .reg) 1 (words 0)) 4 (words 1)) 5 (words 2)) 6 (words 3)) 7 (words 4)) 8 (words 5)) 9 (words 6)) 10 (words 7)) 11 (words 8); stk = s .stk; mem = s .mem; size = s .size }
+    record { reg = upd (upd (upd (upd (upd (upd (upd (upd (upd (s .reg) 1 (words 0)) 4 (words 1)) 5 (words 2)) 6 (words 3)) 7 (words 4)) 8 (words 5)) 9 (words 6)) 10 (words 7)) 11 (words 8); stk = s .stk; mem = s .mem; depth = s .depth; size = s .size }
 
 abbrev pub call : (ℕ → ℕ) → ℕ → Config → Outcome
 call words label c =

@@ -6,7 +6,7 @@ ghost use lib.ListN.{length};
 ghost use Rattle.word.specs.Words.{signs};
 ghost use Rattle.instructions.specs.View.{view, wordsOf, putReg};
 ghost use Rattle.instructions.specs.Step as is;
-ghost use Rattle.instructions.specs.Forms.{operandOf, resultOf, holdsOf, Sized, Goes};
+ghost use Rattle.instructions.specs.Forms.{operandOf, resultOf, holdsOf, Goes};
 use crate::memory;
 use crate::memory::Loaded;
 use crate::operand::assign;
@@ -78,11 +78,11 @@ pub fn calculate(
     u: u8,
     f: Fields,
     registers: &mut [u64; 16],
-    stack: &mut [u64; 320],
+    stack: &mut [u64],
     heap: &mut [u64],
     pair: Pair,
 ) -> Moved
-    requires { ⌜ (f .a < 16) × (f .b < 16) × Sized (now registers) (now stack) ⌝ }
+    requires { ⌜ (f .a < 16) × (f .b < 16) × (length (now registers) ≡ 16) ⌝ }
     ensures { λ r. ⌜ Goes (now (registers .entry)) (now (stack .entry)) (now (heap .entry)) (now (registers .exit)) (now (stack .exit)) (now (heap .exit)) pair r (is.arithmetic (resultOf n) (operandOf t f) (operandOf u f)) ⌝ }
 {
     match operand(u, f, registers, stack, heap) {
@@ -117,11 +117,11 @@ pub fn transfer(
     u: u8,
     f: Fields,
     registers: &mut [u64; 16],
-    stack: &mut [u64; 320],
+    stack: &mut [u64],
     heap: &mut [u64],
     pair: Pair,
 ) -> Moved
-    requires { ⌜ (f .a < 16) × (f .b < 16) × Sized (now registers) (now stack) ⌝ }
+    requires { ⌜ (f .a < 16) × (f .b < 16) × (length (now registers) ≡ 16) ⌝ }
     ensures { λ r. ⌜ Goes (now (registers .entry)) (now (stack .entry)) (now (heap .entry)) (now (registers .exit)) (now (stack .exit)) (now (heap .exit)) pair r (is.move (operandOf t f) (operandOf u f)) ⌝ }
 {
     match operand(u, f, registers, stack, heap) {
@@ -150,11 +150,11 @@ pub fn compare(
     u: u8,
     f: Fields,
     registers: &[u64; 16],
-    stack: &[u64; 320],
+    stack: &[u64],
     heap: &[u64],
     pair: Pair,
 ) -> Moved
-    requires { ⌜ (f .a < 16) × (f .b < 16) × Sized (now registers) (now stack) ⌝ }
+    requires { ⌜ (f .a < 16) × (f .b < 16) × (length (now registers) ≡ 16) ⌝ }
     ensures { λ r. ⌜ Goes (now (registers .entry)) (now (stack .entry)) (now (heap .entry)) (now (registers .entry)) (now (stack .entry)) (now (heap .entry)) pair r (is.compare (operandOf t f) (operandOf u f)) ⌝ }
 {
     match operand(u, f, registers, stack, heap) {
@@ -179,11 +179,11 @@ pub fn divide(
     u: u8,
     f: Fields,
     registers: &mut [u64; 16],
-    stack: &[u64; 320],
+    stack: &[u64],
     heap: &[u64],
     pair: Pair,
 ) -> Moved
-    requires { ⌜ (f .a < 16) × (f .b < 16) × Sized (now registers) (now stack) ⌝ }
+    requires { ⌜ (f .a < 16) × (f .b < 16) × (length (now registers) ≡ 16) ⌝ }
     ensures { λ r. ⌜ Goes (now (registers .entry)) (now (stack .entry)) (now (heap .entry)) (now (registers .exit)) (now (stack .entry)) (now (heap .entry)) pair r (is.divide (operandOf u f)) ⌝ }
 {
     match operand(u, f, registers, stack, heap) {
@@ -213,7 +213,7 @@ pub fn divide(
 // CQO.
 pub fn extend(registers: &mut [u64; 16], pair: Pair) -> Moved
     requires { ⌜ length (now registers) ≡ 16 ⌝ }
-    ensures { λ r. ⌜ ((S H : List ℕ) → length S ≡ 320 → Goes (now (registers .entry)) S H (now (registers .exit)) S H pair r (λ c. is.next (is.changed c (putReg (c .state) 5 (signs (c .state .reg 4)))))) ⌝ }
+    ensures { λ r. ⌜ ((S H : List ℕ) → Goes (now (registers .entry)) S H (now (registers .exit)) S H pair r (λ c. is.next (is.changed c (putReg (c .state) 5 (signs (c .state .reg 4)))))) ⌝ }
 {
     registers[5] = word::signs(registers[4]);
     Moved {
@@ -223,7 +223,7 @@ pub fn extend(registers: &mut [u64; 16], pair: Pair) -> Moved
 }
 
 pub fn branch(n: u8, label: u32, pair: Pair) -> Moved
-    ensures { λ r. ⌜ ((R S H : List ℕ) → Sized R S → Goes R S H R S H pair r (is.branch (holdsOf n) label)) ⌝ }
+    ensures { λ r. ⌜ ((R S H : List ℕ) → length R ≡ 16 → Goes R S H R S H pair r (is.branch (holdsOf n) label)) ⌝ }
 {
     let made = pair.made;
     if made == 0 {
@@ -248,11 +248,11 @@ pub fn branch(n: u8, label: u32, pair: Pair) -> Moved
 pub fn push(
     a: u8,
     registers: &mut [u64; 16],
-    stack: &mut [u64; 320],
+    stack: &mut [u64],
     heap: &mut [u64],
     pair: Pair,
 ) -> Moved
-    requires { ⌜ (a < 16) × Sized (now registers) (now stack) ⌝ }
+    requires { ⌜ (a < 16) × (length (now registers) ≡ 16) ⌝ }
     ensures { λ r. ⌜ Goes (now (registers .entry)) (now (stack .entry)) (now (heap .entry)) (now (registers .exit)) (now (stack .exit)) (now (heap .exit)) pair r (is.push a) ⌝ }
 {
     let i = a as usize;
@@ -271,8 +271,8 @@ pub fn push(
     }
 }
 
-pub fn pop(a: u8, registers: &mut [u64; 16], stack: &[u64; 320], heap: &[u64], pair: Pair) -> Moved
-    requires { ⌜ (a < 16) × Sized (now registers) (now stack) ⌝ }
+pub fn pop(a: u8, registers: &mut [u64; 16], stack: &[u64], heap: &[u64], pair: Pair) -> Moved
+    requires { ⌜ (a < 16) × (length (now registers) ≡ 16) ⌝ }
     ensures { λ r. ⌜ Goes (now (registers .entry)) (now (stack .entry)) (now (heap .entry)) (now (registers .exit)) (now (stack .entry)) (now (heap .entry)) pair r (is.pop a) ⌝ }
 {
     let i = a as usize;
@@ -320,7 +320,7 @@ fn lend(registers: &mut [u64; 16], words: &[u64; 9])
 
 pub fn call(label: u32, registers: &mut [u64; 16], words: &[u64; 9], pair: Pair) -> Moved
     requires { ⌜ length (now registers) ≡ 16 ⌝ }
-    ensures { λ r. ⌜ ((S H : List ℕ) → length S ≡ 320 → Goes (now (registers .entry)) S H (now (registers .exit)) S H pair r (is.call (wordsOf (now (words .entry))) label)) ⌝ }
+    ensures { λ r. ⌜ ((S H : List ℕ) → Goes (now (registers .entry)) S H (now (registers .exit)) S H pair r (is.call (wordsOf (now (words .entry))) label)) ⌝ }
 {
     if print_name(label) {} else {
         return Moved {
@@ -344,7 +344,7 @@ pub fn call(label: u32, registers: &mut [u64; 16], words: &[u64; 9], pair: Pair)
 
 pub fn finish(registers: &mut [u64; 16], pair: Pair) -> Moved
     requires { ⌜ length (now registers) ≡ 16 ⌝ }
-    ensures { λ r. ⌜ ((S H : List ℕ) → length S ≡ 320 → Goes (now (registers .entry)) S H (now (registers .exit)) S H pair r is.return) ⌝ }
+    ensures { λ r. ⌜ ((S H : List ℕ) → Goes (now (registers .entry)) S H (now (registers .exit)) S H pair r is.return) ⌝ }
 {
     if registers[0] == 1099511627768 {
         registers[0] = word::sum(registers[0], 8);

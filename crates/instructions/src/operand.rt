@@ -1,4 +1,5 @@
 // The operands of an instruction: a register, a word of memory or a value, by the number of its form.
+ghost use lib.ListN.{length};
 ghost use mathlib.Core.Path.{_≡_};
 ghost use Prim.Native.Nat.{_<_};
 ghost use Rattle.instructions.specs.View.{view};
@@ -21,13 +22,7 @@ fn register_of(form: u8, f: Fields) -> usize
     }
 }
 
-pub fn operand(
-    form: u8,
-    f: Fields,
-    registers: &[u64; 16],
-    stack: &[u64; 320],
-    heap: &[u64],
-) -> Loaded
+pub fn operand(form: u8, f: Fields, registers: &[u64; 16], stack: &[u64], heap: &[u64]) -> Loaded
     requires { ⌜ (f .a < 16) × (f .b < 16) ⌝ }
     ensures { λ r. ⌜ r ≡ valueOf (view (now (registers .entry)) (now (stack .entry)) (now (heap .entry))) (operandOf form f) ⌝ }
 {
@@ -46,12 +41,12 @@ pub fn assign(
     form: u8,
     f: Fields,
     registers: &mut [u64; 16],
-    stack: &mut [u64; 320],
+    stack: &mut [u64],
     heap: &mut [u64],
     v: u64,
 ) -> bool
-    requires { ⌜ (f .a < 16) × (f .b < 16) × Sized (now registers) (now stack) ⌝ }
-    ensures { λ r. ⌜ Sized (now (registers .exit)) (now (stack .exit)) × Wrote (view (now (registers .entry)) (now (stack .entry)) (now (heap .entry))) (assigned (view (now (registers .entry)) (now (stack .entry)) (now (heap .entry))) (operandOf form f) v) (view (now (registers .exit)) (now (stack .exit)) (now (heap .exit))) r ⌝ }
+    requires { ⌜ (f .a < 16) × (f .b < 16) × (length (now registers) ≡ 16) ⌝ }
+    ensures { λ r. ⌜ Sized (length (now (stack .entry))) (now (registers .exit)) (now (stack .exit)) × Wrote (view (now (registers .entry)) (now (stack .entry)) (now (heap .entry))) (assigned (view (now (registers .entry)) (now (stack .entry)) (now (heap .entry))) (operandOf form f) v) (view (now (registers .exit)) (now (stack .exit)) (now (heap .exit))) r ⌝ }
 {
     let i = register_of(form, f);
     if form < 2 {

@@ -13,16 +13,19 @@ use Rattle.records.proofs.Table.{at}
 use Rattle.records.specs.declared.check.Checked.the-variants.{Good, Malformed}
 use Rattle.records.specs.Contexts.{bindingIn, checkedContext}
 use Rattle.layout.specs.declared.config.Offset.the-variants as offset
+use Rattle.layout.specs.declared.config.Shape.{Shape}
+use Rattle.layout.specs.declared.config.Shaped.{Shaped}
+use Rattle.layout.specs.declared.config.Shaped.the-variants.{Of, Edition, Frame}
 use Rattle.layout.specs.declared.utils.TemporaryNumber.{TemporaryNumber}
 use Rattle.layout.specs.declared.utils.Temporary.{Temporary}
 use Rattle.layout.specs.declared.utils.Temporary.the-variants.{Operand, Missing, OutOfTemporaries}
 use Rattle.layout.specs.declared.utils.Temporary.the-variants as temporary
-use Rattle.layout.specs.Config.{base, stackOffset}
+use Rattle.layout.specs.Config.{Supported, base, framed, shapeOf, operands, positions, stackOffset}
 use Rattle.layout.specs.Positions.{location, Table, operandOk, positionAnswer}
 use Rattle.layout.specs.Queries.{numberOf, idPlace, freshTemporary, variableTemporary, spillOffset, wordOffset, fieldOffset}
 
 abbrev table : List ℕ
-table = 4 ∷ 5 ∷ 6 ∷ 7 ∷ 8 ∷ 9 ∷ 10 ∷ 11 ∷ 12 ∷ 13 ∷ 14 ∷ 15 ∷ 17 ∷ 18 ∷ 19 ∷ 20 ∷ 21 ∷ 22 ∷ 23 ∷ 24 ∷ 25 ∷ 26 ∷ 27 ∷ 28 ∷ 29 ∷ 30 ∷ 31 ∷ 32 ∷ 33 ∷ 34 ∷ 35 ∷ 36 ∷ 37 ∷ 38 ∷ 39 ∷ 40 ∷ 41 ∷ 42 ∷ 43 ∷ 44 ∷ 45 ∷ 46 ∷ 47 ∷ 48 ∷ 49 ∷ 50 ∷ 51 ∷ 52 ∷ 53 ∷ 54 ∷ 55 ∷ 56 ∷ 57 ∷ 58 ∷ 59 ∷ 60 ∷ 61 ∷ 62 ∷ 63 ∷ 64 ∷ 65 ∷ 66 ∷ 67 ∷ 68 ∷ 69 ∷ 70 ∷ 71 ∷ 72 ∷ 73 ∷ 74 ∷ 75 ∷ 76 ∷ 77 ∷ 78 ∷ 79 ∷ 80 ∷ 81 ∷ 82 ∷ 83 ∷ 84 ∷ 85 ∷ 86 ∷ 87 ∷ 88 ∷ 89 ∷ 90 ∷ 91 ∷ 92 ∷ 93 ∷ 94 ∷ 95 ∷ 96 ∷ 97 ∷ 98 ∷ 99 ∷ 100 ∷ 101 ∷ 102 ∷ 103 ∷ 104 ∷ 105 ∷ 106 ∷ 107 ∷ 108 ∷ 109 ∷ 110 ∷ 111 ∷ 112 ∷ 113 ∷ 114 ∷ 115 ∷ 116 ∷ 117 ∷ 118 ∷ 119 ∷ 120 ∷ 121 ∷ 122 ∷ 123 ∷ 124 ∷ 125 ∷ 126 ∷ 127 ∷ 128 ∷ 129 ∷ 130 ∷ 131 ∷ 132 ∷ 133 ∷ 134 ∷ 135 ∷ 136 ∷ 137 ∷ 138 ∷ 139 ∷ 140 ∷ 141 ∷ 142 ∷ 143 ∷ 144 ∷ 145 ∷ 146 ∷ 147 ∷ 148 ∷ 149 ∷ 150 ∷ 151 ∷ 152 ∷ 153 ∷ 154 ∷ 155 ∷ 156 ∷ 157 ∷ 158 ∷ 159 ∷ 160 ∷ 161 ∷ 162 ∷ 163 ∷ 164 ∷ 165 ∷ 166 ∷ 167 ∷ 168 ∷ 169 ∷ 170 ∷ 171 ∷ 172 ∷ 173 ∷ 174 ∷ 175 ∷ 176 ∷ 177 ∷ 178 ∷ 179 ∷ 180 ∷ 181 ∷ 182 ∷ 183 ∷ 184 ∷ 185 ∷ 186 ∷ 187 ∷ 188 ∷ 189 ∷ 190 ∷ 191 ∷ 192 ∷ 193 ∷ 194 ∷ 195 ∷ 196 ∷ 197 ∷ 198 ∷ 199 ∷ 200 ∷ 201 ∷ 202 ∷ 203 ∷ 204 ∷ 205 ∷ 206 ∷ 207 ∷ 208 ∷ 209 ∷ 210 ∷ 211 ∷ 212 ∷ 213 ∷ 214 ∷ 215 ∷ 216 ∷ 217 ∷ 218 ∷ 219 ∷ 220 ∷ 221 ∷ 222 ∷ 223 ∷ 224 ∷ 225 ∷ 226 ∷ 227 ∷ 228 ∷ 229 ∷ 230 ∷ 231 ∷ 232 ∷ 233 ∷ 234 ∷ 235 ∷ 236 ∷ 237 ∷ 238 ∷ 239 ∷ 240 ∷ 241 ∷ 242 ∷ 243 ∷ 244 ∷ 245 ∷ 246 ∷ 247 ∷ 248 ∷ 249 ∷ 250 ∷ 251 ∷ 252 ∷ 253 ∷ 254 ∷ 255 ∷ 256 ∷ 257 ∷ 258 ∷ 259 ∷ 260 ∷ 261 ∷ 262 ∷ 263 ∷ 264 ∷ 265 ∷ 266 ∷ 267 ∷ 268 ∷ 269 ∷ 270 ∷ 271 ∷ []
+table = 4 ∷ 5 ∷ 6 ∷ 7 ∷ 8 ∷ 9 ∷ 10 ∷ 11 ∷ 12 ∷ 13 ∷ 14 ∷ 15 ∷ 17 ∷ 18 ∷ 19 ∷ 20 ∷ 21 ∷ 22 ∷ 23 ∷ 24 ∷ 25 ∷ 26 ∷ 27 ∷ 28 ∷ 29 ∷ 30 ∷ 31 ∷ 32 ∷ 33 ∷ 34 ∷ 35 ∷ 36 ∷ 37 ∷ 38 ∷ 39 ∷ 40 ∷ 41 ∷ 42 ∷ 43 ∷ 44 ∷ 45 ∷ 46 ∷ 47 ∷ 48 ∷ 49 ∷ 50 ∷ 51 ∷ 52 ∷ 53 ∷ 54 ∷ 55 ∷ 56 ∷ 57 ∷ 58 ∷ 59 ∷ 60 ∷ 61 ∷ 62 ∷ 63 ∷ 64 ∷ 65 ∷ 66 ∷ 67 ∷ 68 ∷ 69 ∷ 70 ∷ 71 ∷ 72 ∷ 73 ∷ 74 ∷ 75 ∷ 76 ∷ 77 ∷ 78 ∷ 79 ∷ 80 ∷ 81 ∷ 82 ∷ 83 ∷ 84 ∷ 85 ∷ 86 ∷ 87 ∷ 88 ∷ 89 ∷ 90 ∷ 91 ∷ 92 ∷ 93 ∷ 94 ∷ 95 ∷ 96 ∷ 97 ∷ 98 ∷ 99 ∷ 100 ∷ 101 ∷ 102 ∷ 103 ∷ 104 ∷ 105 ∷ 106 ∷ 107 ∷ 108 ∷ 109 ∷ 110 ∷ 111 ∷ 112 ∷ 113 ∷ 114 ∷ 115 ∷ 116 ∷ 117 ∷ 118 ∷ 119 ∷ 120 ∷ 121 ∷ 122 ∷ 123 ∷ 124 ∷ 125 ∷ 126 ∷ 127 ∷ 128 ∷ 129 ∷ 130 ∷ 131 ∷ 132 ∷ 133 ∷ 134 ∷ 135 ∷ 136 ∷ 137 ∷ 138 ∷ 139 ∷ 140 ∷ 141 ∷ 142 ∷ 143 ∷ 144 ∷ 145 ∷ 146 ∷ 147 ∷ 148 ∷ 149 ∷ 150 ∷ 151 ∷ 152 ∷ 153 ∷ 154 ∷ 155 ∷ 156 ∷ 157 ∷ 158 ∷ 159 ∷ 160 ∷ 161 ∷ 162 ∷ 163 ∷ 164 ∷ 165 ∷ 166 ∷ 167 ∷ 168 ∷ 169 ∷ 170 ∷ 171 ∷ 172 ∷ 173 ∷ 174 ∷ 175 ∷ 176 ∷ 177 ∷ 178 ∷ 179 ∷ 180 ∷ 181 ∷ 182 ∷ 183 ∷ 184 ∷ 185 ∷ 186 ∷ 187 ∷ 188 ∷ 189 ∷ 190 ∷ 191 ∷ 192 ∷ 193 ∷ 194 ∷ 195 ∷ 196 ∷ 197 ∷ 198 ∷ 199 ∷ 200 ∷ 201 ∷ 202 ∷ 203 ∷ 204 ∷ 205 ∷ 206 ∷ 207 ∷ 208 ∷ 209 ∷ 210 ∷ 211 ∷ 212 ∷ 213 ∷ 214 ∷ 215 ∷ 216 ∷ 217 ∷ 218 ∷ 219 ∷ 220 ∷ 221 ∷ 222 ∷ 223 ∷ 224 ∷ 225 ∷ 226 ∷ 227 ∷ 228 ∷ 229 ∷ 230 ∷ 231 ∷ 232 ∷ 233 ∷ 234 ∷ 235 ∷ 236 ∷ 237 ∷ 238 ∷ 239 ∷ 240 ∷ 241 ∷ 242 ∷ 243 ∷ 244 ∷ 245 ∷ 246 ∷ 247 ∷ 248 ∷ 249 ∷ 250 ∷ 251 ∷ 252 ∷ 253 ∷ 254 ∷ 255 ∷ 256 ∷ 257 ∷ 258 ∷ 259 ∷ 260 ∷ 261 ∷ 262 ∷ 263 ∷ 264 ∷ 265 ∷ 266 ∷ 267 ∷ 268 ∷ 269 ∷ 270 ∷ 271 ∷ 272 ∷ 273 ∷ 274 ∷ 275 ∷ 276 ∷ 277 ∷ 278 ∷ 279 ∷ 280 ∷ 281 ∷ 282 ∷ 283 ∷ 284 ∷ 285 ∷ 286 ∷ 287 ∷ 288 ∷ 289 ∷ 290 ∷ 291 ∷ 292 ∷ 293 ∷ 294 ∷ 295 ∷ 296 ∷ 297 ∷ 298 ∷ 299 ∷ 300 ∷ 301 ∷ 302 ∷ 303 ∷ 304 ∷ 305 ∷ 306 ∷ 307 ∷ 308 ∷ 309 ∷ 310 ∷ 311 ∷ 312 ∷ 313 ∷ 314 ∷ 315 ∷ 316 ∷ 317 ∷ 318 ∷ 319 ∷ 320 ∷ 321 ∷ 322 ∷ 323 ∷ 324 ∷ 325 ∷ 326 ∷ 327 ∷ 328 ∷ 329 ∷ 330 ∷ 331 ∷ 332 ∷ 333 ∷ 334 ∷ 335 ∷ 336 ∷ 337 ∷ 338 ∷ 339 ∷ 340 ∷ 341 ∷ 342 ∷ 343 ∷ 344 ∷ 345 ∷ 346 ∷ 347 ∷ 348 ∷ 349 ∷ 350 ∷ 351 ∷ 352 ∷ 353 ∷ 354 ∷ 355 ∷ 356 ∷ 357 ∷ 358 ∷ 359 ∷ 360 ∷ 361 ∷ 362 ∷ 363 ∷ 364 ∷ 365 ∷ 366 ∷ 367 ∷ 368 ∷ 369 ∷ 370 ∷ 371 ∷ 372 ∷ 373 ∷ 374 ∷ 375 ∷ 376 ∷ 377 ∷ 378 ∷ 379 ∷ 380 ∷ 381 ∷ 382 ∷ 383 ∷ 384 ∷ 385 ∷ 386 ∷ 387 ∷ 388 ∷ 389 ∷ 390 ∷ 391 ∷ 392 ∷ 393 ∷ 394 ∷ 395 ∷ 396 ∷ 397 ∷ 398 ∷ 399 ∷ 400 ∷ 401 ∷ 402 ∷ 403 ∷ 404 ∷ 405 ∷ 406 ∷ 407 ∷ 408 ∷ 409 ∷ 410 ∷ 411 ∷ 412 ∷ 413 ∷ 414 ∷ 415 ∷ 416 ∷ 417 ∷ 418 ∷ 419 ∷ 420 ∷ 421 ∷ 422 ∷ 423 ∷ 424 ∷ 425 ∷ 426 ∷ 427 ∷ 428 ∷ 429 ∷ 430 ∷ 431 ∷ 432 ∷ 433 ∷ 434 ∷ 435 ∷ 436 ∷ 437 ∷ 438 ∷ 439 ∷ 440 ∷ 441 ∷ 442 ∷ 443 ∷ 444 ∷ 445 ∷ 446 ∷ 447 ∷ 448 ∷ 449 ∷ 450 ∷ 451 ∷ 452 ∷ 453 ∷ 454 ∷ 455 ∷ 456 ∷ 457 ∷ 458 ∷ 459 ∷ 460 ∷ 461 ∷ 462 ∷ 463 ∷ 464 ∷ 465 ∷ 466 ∷ 467 ∷ 468 ∷ 469 ∷ 470 ∷ 471 ∷ 472 ∷ 473 ∷ 474 ∷ 475 ∷ 476 ∷ 477 ∷ 478 ∷ 479 ∷ 480 ∷ 481 ∷ 482 ∷ 483 ∷ 484 ∷ 485 ∷ 486 ∷ 487 ∷ 488 ∷ 489 ∷ 490 ∷ 491 ∷ 492 ∷ 493 ∷ 494 ∷ 495 ∷ 496 ∷ 497 ∷ 498 ∷ 499 ∷ 500 ∷ 501 ∷ 502 ∷ 503 ∷ 504 ∷ 505 ∷ 506 ∷ 507 ∷ 508 ∷ 509 ∷ 510 ∷ 511 ∷ 512 ∷ 513 ∷ 514 ∷ 515 ∷ 516 ∷ 517 ∷ 518 ∷ 519 ∷ 520 ∷ 521 ∷ 522 ∷ 523 ∷ 524 ∷ 525 ∷ 526 ∷ 527 ∷ []
 
 right : ℕ → ℕ → Bool
 right p w = eqb w (location p)
@@ -31,44 +34,45 @@ pub table-right : Table table
 unfolding right location
 table-right p h = eqb→eq (getD table p 0) (location p) (at right table tt p h)
 
-pub location-below : (p : ℕ) → p < 267 → location p < 272
+pub location-below : (p : ℕ) → location p ≤ p + 5
 unfolding location
-location-below p h = by (ltb p 12) refl
+location-below p = by (ltb p 12) refl
   where
-    by : (b : Bool) → ltb p 12 ≡ b → cond b (p + 4) (p + 5) < 272
+    by : (b : Bool) → ltb p 12 ≡ b → cond b (p + 4) (p + 5) ≤ p + 5
     by true e = omega arith
     by false e = omega arith
 
-pub position-none : (p : ℕ) → 267 ≤ p → OutOfTemporaries ≡ positionAnswer base p
-unfolding positionAnswer
-position-none p h = rw (le-ltb p 267 h)
+module _ (g : Shape) where
+  pub position-none : (p : ℕ) → positions g ≤ p → OutOfTemporaries ≡ positionAnswer g p
+  unfolding positionAnswer
+  position-none p h = rw (le-ltb p (positions g) h)
 
-pub position-operand : {w : ℕ} (p : ℕ) → p < 267 → w ≡ location p → Operand w ≡ positionAnswer base p
-unfolding positionAnswer
-position-operand p h e = rw (lt-ltb p 267 h, e)
+  pub position-operand : {w : ℕ} (p : ℕ) → p < positions g → w ≡ location p → Operand w ≡ positionAnswer g p
+  unfolding positionAnswer
+  position-operand p h e = rw (lt-ltb p (positions g) h, e)
 
-module _ (w : ℕ) where
-  pub reserved : w < 4 → false ≡ operandOk base w
+module _ (g : Shape) (w : ℕ) where
+  pub reserved : w < 4 → false ≡ operandOk g w
   unfolding operandOk
   reserved h = rw (lt-leb 4 w h)
 
-  pub beyond : 272 ≤ w → false ≡ operandOk base w
+  pub beyond : 16 ≤ w → g .spills ≤ w - 16 → false ≡ operandOk g w
   unfolding operandOk
-  beyond h = rw (le-leb 4 w (omega arith), le-ltb w 272 h)
+  beyond l h = rw (le-leb 4 w (omega arith), le-ltb w (operands g) (omega arith))
 
-  pub register : 4 ≤ w → w < 16 → true ≡ operandOk base w
+  pub register : 4 ≤ w → w < 16 → true ≡ operandOk g w
   unfolding operandOk
-  register l h = rw (le-leb 4 w l, lt-ltb w 272 (omega arith), lt-ltb w 16 h)
+  register l h = rw (le-leb 4 w l, lt-ltb w (operands g) (omega arith), lt-ltb w 16 h)
 
-  pub spilled : 16 ≤ w → w < 272 → ltb 16 w ≡ operandOk base w
+  pub spilled : 16 ≤ w → w - 16 < g .spills → ltb 16 w ≡ operandOk g w
   unfolding operandOk
-  spilled l h = rw (le-leb 4 w (omega arith), lt-ltb w 272 h, le-ltb w 16 l)
+  spilled l h = rw (le-leb 4 w (omega arith), lt-ltb w (operands g) (omega arith), le-ltb w 16 l)
 
-  pub operand-range : {b : Bool} → b ≡ operandOk base w → b ≡ true → (4 ≤ w) × (w < 272)
+  pub operand-range : {b : Bool} → b ≡ operandOk g w → b ≡ true → (4 ≤ w) × (w < operands g)
   unfolding operandOk
   operand-range e t =
-      let r = and-left (leb 4 w && ltb w 272) (ltb w 16 || ltb 16 w) (sym e ∙ t) in
-      (leb-true 4 w (and-left (leb 4 w) (ltb w 272) r), ltb-true w 272 (and-right (leb 4 w) (ltb w 272) r))
+      let r = and-left (leb 4 w && ltb w (operands g)) (ltb w 16 || ltb 16 w) (sym e ∙ t) in
+      (leb-true 4 w (and-left (leb 4 w) (ltb w (operands g)) r), ltb-true w (operands g) (and-right (leb 4 w) (ltb w (operands g)) r))
 
 -- a search for an id: k of n bindings are passed, and the rest is to be searched
 module _ (s : List ℕ) (id k n : ℕ) {i : ℕ} (here : i ≡ bindingIn (drop (8 * k) s) .id) (h : k < n) where
@@ -84,41 +88,103 @@ pub id-none : (s : List ℕ) (id k n : ℕ) → n ≤ k → k ≡ idPlace s id k
 unfolding idPlace
 id-none s id k n h = let m : n - k ≡ 0 = omega arith in rw m
 
-module _ (s : List ℕ) (half : TemporaryNumber) where
-  pub fresh : {r : Temporary} {d : ℕ} (n : ℕ) → checkedContext s ≡ Good n → d ≡ numberOf half → r ≡ positionAnswer base (2 * n + d) → r ≡ freshTemporary base half s
+module _ (g : Shape) (s : List ℕ) (half : TemporaryNumber) where
+  pub fresh : {r : Temporary} {d : ℕ} (n : ℕ) → checkedContext s ≡ Good n → d ≡ numberOf half → r ≡ positionAnswer g (2 * n + d) → r ≡ freshTemporary g half s
   unfolding freshTemporary
   fresh n e q p = rw (e, ← q) p
 
-  pub fresh-malformed : (place : ℕ) → checkedContext s ≡ Malformed place → temporary.Malformed ≡ freshTemporary base half s
+  pub fresh-malformed : (place : ℕ) → checkedContext s ≡ Malformed place → temporary.Malformed ≡ freshTemporary g half s
   unfolding freshTemporary
   fresh-malformed place e = rw e
 
-  pub variable : {r : Temporary} {d k : ℕ} (id n : ℕ) → checkedContext s ≡ Good n → d ≡ numberOf half → k ≡ idPlace s id 0 n → r ≡ cond (ltb k n) (positionAnswer base (2 * k + d)) Missing → r ≡ variableTemporary base half s id
+  pub variable : {r : Temporary} {d k : ℕ} (id n : ℕ) → checkedContext s ≡ Good n → d ≡ numberOf half → k ≡ idPlace s id 0 n → r ≡ cond (ltb k n) (positionAnswer g (2 * k + d)) Missing → r ≡ variableTemporary g half s id
   unfolding variableTemporary
   variable id n e q i p = rw (e, ← i, ← q) p
 
-  pub variable-malformed : (id place : ℕ) → checkedContext s ≡ Malformed place → temporary.Malformed ≡ variableTemporary base half s id
+  pub variable-malformed : (id place : ℕ) → checkedContext s ≡ Malformed place → temporary.Malformed ≡ variableTemporary g half s id
   unfolding variableTemporary
   variable-malformed id place e = rw e
 
-module _ (w : ℕ) where
-  pub no-low-spill : w ≤ 16 → offset.Operand ≡ spillOffset base w
+module _ (g : Shape) (w : ℕ) where
+  pub no-low-spill : w ≤ 16 → offset.Operand ≡ spillOffset g w
   unfolding spillOffset
   no-low-spill h = rw (le-ltb 16 w h)
 
-  pub no-high-spill : 272 ≤ w → offset.Operand ≡ spillOffset base w
+  pub no-high-spill : 16 < w → g .spills ≤ w - 16 → offset.Operand ≡ spillOffset g w
   unfolding spillOffset
-  no-high-spill h = rw (lt-ltb 16 w (omega arith), le-ltb w 272 h)
+  no-high-spill l h = rw (lt-ltb 16 w l, le-ltb w (operands g) (omega arith))
 
-  pub spill-at : {n : ℕ} → 16 < w → w < 272 → n ≡ stackOffset base w → offset.At n ≡ spillOffset base w
+  pub spill-at : {n : ℕ} → 16 < w → w - 16 < g .spills → n ≡ stackOffset g w → offset.At n ≡ spillOffset g w
   unfolding spillOffset
-  spill-at l h e = rw (lt-ltb 16 w l, lt-ltb w 272 h, e)
+  spill-at l h e = rw (lt-ltb 16 w l, lt-ltb w (operands g) (omega arith), e)
 
-module _ (number : TemporaryNumber) (i : ℕ) where
-  pub no-field : 3 ≤ i → offset.Operand ≡ fieldOffset base number i
+module _ (g : Shape) (number : TemporaryNumber) (i : ℕ) where
+  pub no-field : g .fields ≤ i → offset.Operand ≡ fieldOffset g number i
   unfolding fieldOffset
-  no-field h = rw (le-ltb i 3 h)
+  no-field h = rw (le-ltb i (g .fields) h)
 
-  pub field-at : {n : ℕ} → i < 3 → n ≡ wordOffset number i → offset.At n ≡ fieldOffset base number i
+  pub field-at : {n : ℕ} → i < g .fields → n ≡ wordOffset number i → offset.At n ≡ fieldOffset g number i
   unfolding fieldOffset
-  field-at h e = rw (lt-ltb i 3 h, e)
+  field-at h e = rw (lt-ltb i (g .fields) h, e)
+
+pub base-supported : Supported base
+base-supported = record { some = omega arith; few = omega arith; frame = omega arith; even = refl; aside = omega arith }
+
+module _ (fields spills : ℕ) where
+  pub small-frame : spills ≡ 256 → Of (record { fields = fields; spills = spills }) ≡ framed fields spills
+  unfolding framed
+  small-frame h = rw (eq-eqb spills 256 h)
+
+  pub large-frame : (spills ≡ 256 → ⊥) → spills ≡ 512 → Of (record { fields = fields; spills = spills }) ≡ framed fields spills
+  unfolding framed
+  large-frame n h = rw (ne-eqb spills 256 n, eq-eqb spills 512 h)
+
+  pub no-frame : (spills ≡ 256 → ⊥) → (spills ≡ 512 → ⊥) → Frame ≡ framed fields spills
+  unfolding framed
+  no-frame n h = rw (ne-eqb spills 256 n, ne-eqb spills 512 h)
+
+module _ (edition spills : ℕ) where
+  pub first-edition : {r : Shaped} → edition ≡ 1 → r ≡ framed 3 spills → r ≡ shapeOf edition spills
+  unfolding shapeOf
+  first-edition h e = rw (eq-eqb edition 1 h) e
+
+  pub second-edition : {r : Shaped} → (edition ≡ 1 → ⊥) → edition ≡ 2 → r ≡ framed 7 spills → r ≡ shapeOf edition spills
+  unfolding shapeOf
+  second-edition n h e = rw (ne-eqb edition 1 n, eq-eqb edition 2 h) e
+
+  pub no-edition : (edition ≡ 1 → ⊥) → (edition ≡ 2 → ⊥) → Edition ≡ shapeOf edition spills
+  unfolding shapeOf
+  no-edition n h = rw (ne-eqb edition 1 n, ne-eqb edition 2 h)
+
+-- the shapes that an edition and a spill number name are among those that the claims are for
+abbrev OnlySupported : Shaped → Type 0
+OnlySupported (Of g) = Supported g
+OnlySupported Edition = Unit {0}
+OnlySupported Frame = Unit {0}
+
+framed-supported : (fields spills : ℕ) → 2 ≤ fields → fields ≤ 7 → OnlySupported (framed fields spills)
+unfolding framed
+framed-supported fields spills l h = small (eqb spills 256) refl
+  where
+    large : (b : Bool) → eqb spills 512 ≡ b → OnlySupported (cond b (Of (record { fields = fields; spills = spills })) Frame)
+    large true e = let s = eqb→eq spills 512 (rw e tt) in record { some = l; few = h; frame = omega (arith, s); even = rw s refl; aside = omega (arith, s) }
+    large false e = tt
+
+    small : (b : Bool) → eqb spills 256 ≡ b → OnlySupported (cond b (Of (record { fields = fields; spills = spills })) (cond (eqb spills 512) (Of (record { fields = fields; spills = spills })) Frame))
+    small true e = let s = eqb→eq spills 256 (rw e tt) in record { some = l; few = h; frame = omega (arith, s); even = rw s refl; aside = omega (arith, s) }
+    small false e = large (eqb spills 512) refl
+
+shape-of-supported : (edition spills : ℕ) → OnlySupported (shapeOf edition spills)
+unfolding shapeOf
+shape-of-supported edition spills = first (eqb edition 1)
+  where
+    second : (b : Bool) → OnlySupported (cond b (framed 7 spills) Edition)
+    second true = framed-supported 7 spills (omega arith) (omega arith)
+    second false = tt
+
+    first : (b : Bool) → OnlySupported (cond b (framed 3 spills) (cond (eqb edition 2) (framed 7 spills) Edition))
+    first true = framed-supported 3 spills (omega arith) (omega arith)
+    first false = second (eqb edition 2)
+
+pub named-supported : (edition spills : ℕ) {g : Shape} → shapeOf edition spills ≡ Of g → Supported g
+named-supported edition spills e = rw e at (shape-of-supported edition spills)

@@ -1,14 +1,34 @@
--- The numbers of config.rs: what an edition fixes, the reserved registers, offsets in the frame and in a block.
--- From document 01, 'Instruction record': spill p is at 2048 − 8(p+1) from STACK, field i of a block at 16+16i and 24+16i.
-use Prim.Native.Nat.{ℕ, _+_, _*_, _-_}
+-- The numbers of config.rs: what a shape decides, the reserved registers, offsets in the frame and in a block.
+-- From document 01, 'Instruction record': spill p is at 2048 − 8(p+1) from STACK, field i of a block at 16+16i and 24+16i; and from document 02, jobs 8 and 11:
+-- frames of 256 or 512 spills, blocks of 3 or 7 fields.
+use Prim.Native.Nat.{ℕ, _+_, _*_, _-_, _/_, _%_, _^_, _≤_}
+use mathlib.Core.Path.{_≡_}
+use mathlib.Core.Bool.{cond}
+use lib.Dec.{eqb}
+use Rattle.layout.specs.declared.config.Shape.{Shape}
+use Rattle.layout.specs.declared.config.Shaped.{Shaped}
+use Rattle.layout.specs.declared.config.Shaped.the-variants.{Of, Edition, Frame}
 
--- how many fields a block has, and how many spills a frame
-pub record Config : Type 0 where
-  pub fields : ℕ
-  pub spills : ℕ
-
-abbrev pub base : Config
+-- the first edition's blocks, and the smaller frame
+abbrev pub base : Shape
 base = record { fields = 3; spills = 256 }
+
+-- the shapes that every claim is for: an object's blocks but the last hold a value and the link, no address wraps, spill 0 is there to set register 4 aside,
+-- and a frame is a whole number of 16 bytes
+pub record Supported (g : Shape) : Type 0 where
+  pub some : 2 ≤ g .fields
+  pub few : g .fields ≤ 7
+  pub frame : g .spills ≤ 512
+  pub even : g .spills % 2 ≡ 0
+  pub aside : 1 ≤ g .spills
+
+-- an edition's fields: 3 in the first, 7 in the second; a frame of 256 or 512 spills
+unfoldable pub framed : ℕ → ℕ → Shaped
+framed fields spills
+    = cond (eqb spills 256) (Of (record { fields = fields; spills = spills })) (cond (eqb spills 512) (Of (record { fields = fields; spills = spills })) Frame)
+
+unfoldable pub shapeOf : ℕ → ℕ → Shaped
+shapeOf edition spills = cond (eqb edition 1) (framed 3 spills) (cond (eqb edition 2) (framed 7 spills) Edition)
 
 abbrev pub STACK : ℕ
 STACK = 0
@@ -32,13 +52,33 @@ RETURN2 = 5
 abbrev pub spill : ℕ → ℕ
 spill p = 16 + p
 
+-- the operands of a frame are those below this
+abbrev pub operands : Shape → ℕ
+operands g = g .spills + 16
+
+-- how many positions there are: 12 registers, and the spills from 1
+abbrev pub positions : Shape → ℕ
+positions g = g .spills + 11
+
+-- how many variables have both their positions: 133, and 261 in the larger frame
+abbrev pub mostVariables : Shape → ℕ
+mostVariables g = positions g / 2
+
 -- the spill that holds register 4 while a load borrows it
 abbrev pub SPILLTEMP : ℕ
 SPILLTEMP = spill 0
 
 -- where the spill that an operand names stands, from STACK
-unfoldable pub stackOffset : Config → ℕ → ℕ
+unfoldable pub stackOffset : Shape → ℕ → ℕ
 stackOffset g w = 8 * g .spills - 8 * (w - 16 + 1)
+
+-- how many words the machine's stack has: the frame, the six saved words, and what prints push
+abbrev pub stackDepth : Shape → ℕ
+stackDepth g = g .spills + 64
+
+-- where STACK is once six registers and the frame are on the stack, which begins at 2 ^ 40 − 8
+abbrev pub framePointer : Shape → ℕ
+framePointer g = 2 ^ 40 - 56 - 8 * g .spills
 
 -- where field i's two words stand in a block
 abbrev pub fstOffset : ℕ → ℕ
@@ -47,9 +87,16 @@ fstOffset i = 16 + 16 * i
 abbrev pub sndOffset : ℕ → ℕ
 sndOffset i = 24 + 16 * i
 
--- how many bytes a block has
-abbrev pub blockBytes : Config → ℕ
+-- how many bytes a block has, and how many words
+abbrev pub blockBytes : Shape → ℕ
 blockBytes g = fstOffset (g .fields)
+
+abbrev pub blockWords : Shape → ℕ
+blockWords g = 2 + 2 * g .fields
+
+-- the word of a block that holds the link: the last field's first
+abbrev pub linkWord : Shape → ℕ
+linkWord g = 2 + 2 * (g .fields - 1)
 
 -- minus one as 64 bits
 abbrev pub MINUSONE : ℕ

@@ -7,28 +7,29 @@ use mathlib.Core.List.{List, [], _∷_}
 use lib.Dec.{leb, ltb}
 use lib.ListN.{getD}
 use Rattle.records.specs.Causes.{ACCEPTED, CONTEXT, MISSING, POSITION}
+use Rattle.layout.specs.declared.config.Shape.{Shape}
 use Rattle.layout.specs.declared.utils.Temporary.{Temporary}
 use Rattle.layout.specs.declared.utils.Temporary.the-variants.{Operand, Malformed, Missing, OutOfTemporaries}
-use Rattle.layout.specs.Config.{Config}
+use Rattle.layout.specs.Config.{operands, positions}
 
 -- the operand of position p
 unfoldable pub location : ℕ → ℕ
 location p = cond (ltb p 12) (p + 4) (p + 5)
 
--- a table that gives each of 267 positions its operand
-abbrev pub Table : List ℕ → Type 0
-Table t = (p : ℕ) → p < 267 → getD t p 0 ≡ location p
+-- the positions of the largest frame
+abbrev pub entries : ℕ
+entries = 523
 
--- how many positions there are
-abbrev pub positions : Config → ℕ
-positions g = g .spills + 11
+-- a table that gives each of them its operand
+abbrev pub Table : List ℕ → Type 0
+Table t = (p : ℕ) → p < entries → getD t p 0 ≡ location p
 
 -- what a caller may give as an operand: registers 4..15, spills from 1
-unfoldable pub operandOk : Config → ℕ → Bool
-operandOk g w = leb 4 w && ltb w (g .spills + 16) && (ltb w 16 || ltb 16 w)
+unfoldable pub operandOk : Shape → ℕ → Bool
+operandOk g w = leb 4 w && ltb w (operands g) && (ltb w 16 || ltb 16 w)
 
 -- the answer for a position
-unfoldable pub positionAnswer : Config → ℕ → Temporary
+unfoldable pub positionAnswer : Shape → ℕ → Temporary
 positionAnswer g p = cond (ltb p (positions g)) (Operand (location p)) OutOfTemporaries
 
 -- document 01's number for each answer: 0, with the operand, where there is one

@@ -1,5 +1,5 @@
 -- The temporaries of a variable, and where spills and fields stand, as callers ask for them. From document 01: equal ids, `variable_temporary` takes the
--- first; `fresh_temporary` is past the last; a spill that is not 1 to 255 is 3.
+-- first; `fresh_temporary` is past the last; a spill that the frame lacks, and spill 0, is 3.
 use Prim.Native.Nat.{ℕ, zero, suc, _+_, _*_}
 use mathlib.Core.Bool.{_&&_, cond}
 use mathlib.Core.List.{List, [], _∷_}
@@ -11,12 +11,13 @@ use Rattle.records.specs.declared.check.Checked.the-variants.{Good, Malformed}
 use Rattle.records.specs.Contexts.{bindingIn, checkedContext}
 use Rattle.layout.specs.declared.config.Offset.{Offset}
 use Rattle.layout.specs.declared.config.Offset.the-variants.{At, Operand}
+use Rattle.layout.specs.declared.config.Shape.{Shape}
 use Rattle.layout.specs.declared.utils.TemporaryNumber.{TemporaryNumber}
 use Rattle.layout.specs.declared.utils.TemporaryNumber.the-variants.{Fst, Snd}
 use Rattle.layout.specs.declared.utils.Temporary.{Temporary}
 use Rattle.layout.specs.declared.utils.Temporary.the-variants.{Missing}
 use Rattle.layout.specs.declared.utils.Temporary.the-variants as temporary
-use Rattle.layout.specs.Config.{Config, stackOffset, fstOffset, sndOffset}
+use Rattle.layout.specs.Config.{operands, stackOffset, fstOffset, sndOffset}
 use Rattle.layout.specs.Positions.{positionAnswer}
 
 abbrev pub numberOf : TemporaryNumber → ℕ
@@ -32,23 +33,23 @@ abbrev pub onContext : Checked → (ℕ → Temporary) → Temporary
 onContext (Good n) f = f n
 onContext (Malformed place) f = temporary.Malformed
 
-unfoldable pub freshTemporary : Config → TemporaryNumber → List ℕ → Temporary
+unfoldable pub freshTemporary : Shape → TemporaryNumber → List ℕ → Temporary
 freshTemporary g number s = onContext (checkedContext s) (λ n. positionAnswer g (2 * n + numberOf number))
 
-unfoldable pub variableTemporary : Config → TemporaryNumber → List ℕ → ℕ → Temporary
+unfoldable pub variableTemporary : Shape → TemporaryNumber → List ℕ → ℕ → Temporary
 variableTemporary g number s id =
     onContext (checkedContext s) (λ n. cond (ltb (idPlace s id 0 n) n) (positionAnswer g (2 * idPlace s id 0 n + numberOf number)) Missing)
 
 -- where the spill that an operand names stands from STACK: spills from 1, as callers name them
-unfoldable pub spillOffset : Config → ℕ → Offset
-spillOffset g w = cond (ltb 16 w && ltb w (g .spills + 16)) (At (stackOffset g w)) Operand
+unfoldable pub spillOffset : Shape → ℕ → Offset
+spillOffset g w = cond (ltb 16 w && ltb w (operands g)) (At (stackOffset g w)) Operand
 
 abbrev pub wordOffset : TemporaryNumber → ℕ → ℕ
 wordOffset Fst i = fstOffset i
 wordOffset Snd i = sndOffset i
 
 -- where the Fst or the Snd of a block's field stands in the block
-unfoldable pub fieldOffset : Config → TemporaryNumber → ℕ → Offset
+unfoldable pub fieldOffset : Shape → TemporaryNumber → ℕ → Offset
 fieldOffset g number i = cond (ltb i (g .fields)) (At (wordOffset number i)) Operand
 
 -- document 01's number for each answer: 0, with the offset, where there is one

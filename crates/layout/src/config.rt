@@ -1,9 +1,66 @@
 // Registers, spills and offsets, from config.rs.
+ghost use mathlib.Core.Path.{_≡_};
+ghost use Prim.Native.Nat.{_≤_};
 ghost use Rattle.records.specs.Answers.{AnswersBy};
-ghost use Rattle.layout.specs.Config.{base};
+ghost use Rattle.layout.specs.Config.{Supported, base, blockWords, framed, shapeOf};
 ghost use Rattle.layout.specs.Queries.{spillOffset, fieldOffset, offsetCause};
 use crate::offset;
 use crate::utils::TemporaryNumber;
+
+// What an edition and a frame fix: how many fields a block has, and how many spills a frame.
+pub struct Shape {
+    pub fields: u64,
+    pub spills: u64,
+}
+
+// The first edition's blocks, and the frame of 256 spills.
+pub fn base() -> Shape
+    ensures { λ r. ⌜ (r ≡ base) × Supported r ⌝ }
+{
+    Shape {
+        fields: 3,
+        spills: 256,
+    }
+}
+
+// How many words a block has.
+pub fn block_words(g: Shape) -> u64
+    requires { ⌜ Supported g ⌝ }
+    ensures { λ r. ⌜ (r ≡ blockWords g) × (2 ≤ r) × (r ≤ 16) ⌝ }
+{
+    2 + 2 * g.fields
+}
+
+// The shape that an edition and a spill number name, or which of them names none.
+pub enum Shaped {
+    Of(Shape),
+    Edition,
+    Frame,
+}
+
+pub fn shape_of(edition: u64, spills: u64) -> Shaped
+    ensures { λ r. ⌜ r ≡ shapeOf edition spills ⌝ }
+{
+    if edition == 1 {
+        return framed(3, spills);
+    }
+    if edition == 2 {
+        return framed(7, spills);
+    }
+    Shaped::Edition
+}
+
+fn framed(fields: u64, spills: u64) -> Shaped
+    ensures { λ r. ⌜ r ≡ framed fields spills ⌝ }
+{
+    if spills == 256 {
+        return Shaped::Of(Shape { fields, spills });
+    }
+    if spills == 512 {
+        return Shaped::Of(Shape { fields, spills });
+    }
+    Shaped::Frame
+}
 
 pub const STACK: u8 = 0;
 
@@ -26,24 +83,38 @@ pub enum Offset {
     Operand,
 }
 
-// The offset from STACK of the spill, of 1 to 255, that an operand names.
+// The offset from STACK of the spill, from 1, that an operand names.
 pub fn stack_offset(w: u64) -> Offset
     ensures { λ r. ⌜ AnswersBy offsetCause r (spillOffset base w) ⌝ }
+{
+    stack_offset_in(base(), w)
+}
+
+fn stack_offset_in(g: Shape, w: u64) -> Offset
+    requires { ⌜ Supported g ⌝ }
+    ensures { λ r. ⌜ AnswersBy offsetCause r (spillOffset g w) ⌝ }
 {
     if w <= 16 {
         return Offset::Operand;
     }
-    if 272 <= w {
+    if g.spills <= w - 16 {
         return Offset::Operand;
     }
-    Offset::At(offset::spill_offset(w))
+    Offset::At(offset::spill_offset(g, w))
 }
 
 // The offset in a block of a field's first or second word.
 pub fn field_offset(number: TemporaryNumber, field: u64) -> Offset
     ensures { λ r. ⌜ AnswersBy offsetCause r (fieldOffset base number field) ⌝ }
 {
-    if 3 <= field {
+    field_offset_in(base(), number, field)
+}
+
+fn field_offset_in(g: Shape, number: TemporaryNumber, field: u64) -> Offset
+    requires { ⌜ Supported g ⌝ }
+    ensures { λ r. ⌜ AnswersBy offsetCause r (fieldOffset g number field) ⌝ }
+{
+    if g.fields <= field {
         return Offset::Operand;
     }
     match number {

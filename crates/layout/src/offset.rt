@@ -1,14 +1,15 @@
 // Offsets as the emitters ask for them, of operands and fields that they have checked. config.rs's own forms refuse the others.
 ghost use mathlib.Core.Path.{_≡_};
 ghost use Prim.Native.Nat.{_≤_, _<_};
-ghost use Rattle.layout.specs.Config.{base, stackOffset, fstOffset, sndOffset};
+ghost use Rattle.layout.specs.Config.{Supported, operands, stackOffset, fstOffset, sndOffset};
+use crate::config::Shape;
 
 // From STACK, of the spill that an operand names; spill 0 too, which a load borrows.
-pub fn spill_offset(w: u64) -> u64
-    requires { ⌜ (16 ≤ w) × (w < 272) ⌝ }
-    ensures { λ r. ⌜ r ≡ stackOffset base w ⌝ }
+pub fn spill_offset(g: Shape, w: u64) -> u64
+    requires { ⌜ (16 ≤ w) × (w < operands g) × Supported g ⌝ }
+    ensures { λ r. ⌜ r ≡ stackOffset g w ⌝ }
 {
-    2048 - 8 * (w - 16 + 1)
+    8 * g.spills - 8 * (w - 16 + 1)
 }
 
 // In a block, of field i's two words.

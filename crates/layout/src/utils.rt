@@ -7,13 +7,18 @@ ghost use lib.ListN.{length, drop};
 ghost use Rattle.records.specs.Answers.{AnswersBy};
 ghost use Rattle.records.specs.Contexts.{bindingIn, extAt};
 ghost use Rattle.layout.specs.declared.utils.Temporary.the-variants.{Missing};
-ghost use Rattle.layout.specs.Config.{base};
-ghost use Rattle.layout.specs.Positions.{location, Table, operandOk, positionAnswer, temporaryCause};
+ghost use Rattle.layout.specs.Config.{Supported, base, positions};
+ghost use Rattle.layout.specs.Positions.{location, entries, Table, operandOk, positionAnswer, temporaryCause};
 ghost use Rattle.layout.specs.Queries.{numberOf, idPlace, freshTemporary, variableTemporary};
+use crate::config;
+use crate::config::Shape;
 use records::check::Checked;
 
-// The operand of each position: registers 4 to 15, then spills 1 to 255.
-const POSITIONS: [u64; 267] = [
+// How many positions the largest frame has.
+pub const ENTRIES: usize = 523;
+
+// The operand of each position: registers 4 to 15, then the spills from 1. Where a frame ends, its positions do.
+const POSITIONS: [u16; ENTRIES] = [
     4,
     5,
     6,
@@ -281,6 +286,262 @@ const POSITIONS: [u64; 267] = [
     269,
     270,
     271,
+    272,
+    273,
+    274,
+    275,
+    276,
+    277,
+    278,
+    279,
+    280,
+    281,
+    282,
+    283,
+    284,
+    285,
+    286,
+    287,
+    288,
+    289,
+    290,
+    291,
+    292,
+    293,
+    294,
+    295,
+    296,
+    297,
+    298,
+    299,
+    300,
+    301,
+    302,
+    303,
+    304,
+    305,
+    306,
+    307,
+    308,
+    309,
+    310,
+    311,
+    312,
+    313,
+    314,
+    315,
+    316,
+    317,
+    318,
+    319,
+    320,
+    321,
+    322,
+    323,
+    324,
+    325,
+    326,
+    327,
+    328,
+    329,
+    330,
+    331,
+    332,
+    333,
+    334,
+    335,
+    336,
+    337,
+    338,
+    339,
+    340,
+    341,
+    342,
+    343,
+    344,
+    345,
+    346,
+    347,
+    348,
+    349,
+    350,
+    351,
+    352,
+    353,
+    354,
+    355,
+    356,
+    357,
+    358,
+    359,
+    360,
+    361,
+    362,
+    363,
+    364,
+    365,
+    366,
+    367,
+    368,
+    369,
+    370,
+    371,
+    372,
+    373,
+    374,
+    375,
+    376,
+    377,
+    378,
+    379,
+    380,
+    381,
+    382,
+    383,
+    384,
+    385,
+    386,
+    387,
+    388,
+    389,
+    390,
+    391,
+    392,
+    393,
+    394,
+    395,
+    396,
+    397,
+    398,
+    399,
+    400,
+    401,
+    402,
+    403,
+    404,
+    405,
+    406,
+    407,
+    408,
+    409,
+    410,
+    411,
+    412,
+    413,
+    414,
+    415,
+    416,
+    417,
+    418,
+    419,
+    420,
+    421,
+    422,
+    423,
+    424,
+    425,
+    426,
+    427,
+    428,
+    429,
+    430,
+    431,
+    432,
+    433,
+    434,
+    435,
+    436,
+    437,
+    438,
+    439,
+    440,
+    441,
+    442,
+    443,
+    444,
+    445,
+    446,
+    447,
+    448,
+    449,
+    450,
+    451,
+    452,
+    453,
+    454,
+    455,
+    456,
+    457,
+    458,
+    459,
+    460,
+    461,
+    462,
+    463,
+    464,
+    465,
+    466,
+    467,
+    468,
+    469,
+    470,
+    471,
+    472,
+    473,
+    474,
+    475,
+    476,
+    477,
+    478,
+    479,
+    480,
+    481,
+    482,
+    483,
+    484,
+    485,
+    486,
+    487,
+    488,
+    489,
+    490,
+    491,
+    492,
+    493,
+    494,
+    495,
+    496,
+    497,
+    498,
+    499,
+    500,
+    501,
+    502,
+    503,
+    504,
+    505,
+    506,
+    507,
+    508,
+    509,
+    510,
+    511,
+    512,
+    513,
+    514,
+    515,
+    516,
+    517,
+    518,
+    519,
+    520,
+    521,
+    522,
+    523,
+    524,
+    525,
+    526,
+    527,
 ];
 
 // An operand, or why there is none.
@@ -306,24 +567,37 @@ fn number_of(number: TemporaryNumber) -> u64
 }
 
 // The table, to be taken once and lent: a constant array is made anew at each mention.
-pub fn positions() -> [u64; 267]
+pub fn positions() -> [u16; ENTRIES]
     ensures { λ r. ⌜ Table r ⌝ }
 {
     POSITIONS
 }
 
-// The operand of a position.
-pub fn location_at(table: &[u64; 267], p: u64) -> u64
-    requires { ⌜ (Table (now table)) × (p < 267) ⌝ }
-    ensures { λ r. ⌜ (r ≡ location p) × (r < 272) ⌝ }
+fn wide(x: u16) -> u64
+    ensures { λ r. ⌜ r ≡ x ⌝ }
 {
-    table[p as usize]
+    x as u64
+}
+
+// The operand of a position.
+pub fn location_at(table: &[u16; ENTRIES], p: u64) -> u64
+    requires { ⌜ (Table (now table)) × (p < entries) ⌝ }
+    ensures { λ r. ⌜ (r ≡ location p) × (r ≤ p + 5) ⌝ }
+{
+    wide(table[p as usize])
 }
 
 pub fn position(p: u64) -> Temporary
     ensures { λ r. ⌜ AnswersBy temporaryCause r (positionAnswer base p) ⌝ }
 {
-    if 267 <= p {
+    position_in(config::base(), p)
+}
+
+fn position_in(g: Shape, p: u64) -> Temporary
+    requires { ⌜ Supported g ⌝ }
+    ensures { λ r. ⌜ AnswersBy temporaryCause r (positionAnswer g p) ⌝ }
+{
+    if g.spills + 11 <= p {
         return Temporary::OutOfTemporaries;
     }
     let table = positions();
@@ -331,17 +605,17 @@ pub fn position(p: u64) -> Temporary
 }
 
 // Whether a caller may give the word as an operand.
-pub fn operand_ok(w: u64) -> bool
-    ensures { λ r. ⌜ r ≡ operandOk base w ⌝ }
+pub fn operand_ok(g: Shape, w: u64) -> bool
+    ensures { λ r. ⌜ r ≡ operandOk g w ⌝ }
 {
     if w < 4 {
         return false;
     }
-    if 272 <= w {
-        return false;
-    }
     if w < 16 {
         return true;
+    }
+    if g.spills <= w - 16 {
+        return false;
     }
     16 < w
 }
@@ -389,9 +663,16 @@ fn id_place(context: &[u8], id: u32, n: usize) -> usize
 pub fn fresh_temporary(number: TemporaryNumber, context: &[u8]) -> Temporary
     ensures { λ r. ⌜ AnswersBy temporaryCause r (freshTemporary base number (now (context .entry))) ⌝ }
 {
+    fresh_temporary_in(config::base(), number, context)
+}
+
+fn fresh_temporary_in(g: Shape, number: TemporaryNumber, context: &[u8]) -> Temporary
+    requires { ⌜ Supported g ⌝ }
+    ensures { λ r. ⌜ AnswersBy temporaryCause r (freshTemporary g number (now (context .entry))) ⌝ }
+{
     let half = number_of(number);
     match records::binding::check_context(context) {
-        Checked::Good(n) => position(2 * (n as u64) + half),
+        Checked::Good(n) => position_in(g, 2 * (n as u64) + half),
         Checked::Malformed(_) => Temporary::Malformed,
     }
 }
@@ -400,19 +681,26 @@ pub fn fresh_temporary(number: TemporaryNumber, context: &[u8]) -> Temporary
 pub fn variable_temporary(number: TemporaryNumber, context: &[u8], id: u32) -> Temporary
     ensures { λ r. ⌜ AnswersBy temporaryCause r (variableTemporary base number (now (context .entry)) id) ⌝ }
 {
+    variable_temporary_in(config::base(), number, context, id)
+}
+
+fn variable_temporary_in(g: Shape, number: TemporaryNumber, context: &[u8], id: u32) -> Temporary
+    requires { ⌜ Supported g ⌝ }
+    ensures { λ r. ⌜ AnswersBy temporaryCause r (variableTemporary g number (now (context .entry)) id) ⌝ }
+{
     let half = number_of(number);
     match records::binding::check_context(context) {
-        Checked::Good(n) => placed(id_place(context, id, n), n, half),
+        Checked::Good(n) => placed(g, id_place(context, id, n), n, half),
         Checked::Malformed(_) => Temporary::Malformed,
     }
 }
 
-fn placed(k: usize, n: usize, half: u64) -> Temporary
-    requires { ⌜ (k ≤ n) × ((n ≤ 4096) × (half ≤ 1)) ⌝ }
-    ensures { λ r. ⌜ r ≡ cond (ltb k n) (positionAnswer base (2 * k + half)) Missing ⌝ }
+fn placed(g: Shape, k: usize, n: usize, half: u64) -> Temporary
+    requires { ⌜ (k ≤ n) × ((n ≤ 4096) × (half ≤ 1)) × Supported g ⌝ }
+    ensures { λ r. ⌜ r ≡ cond (ltb k n) (positionAnswer g (2 * k + half)) Missing ⌝ }
 {
     if k < n {
-        position(2 * (k as u64) + half)
+        position_in(g, 2 * (k as u64) + half)
     } else {
         Temporary::Missing
     }

@@ -9,30 +9,31 @@ use borrow.Author.Tests.{ne-eqb, ltb-true}
 use Rattle.records.specs.declared.check.Checked.{Checked}
 use Rattle.records.specs.declared.check.Checked.the-variants.{Good}
 use Rattle.records.specs.Contexts.{checkedContext}
-use Rattle.layout.specs.Config.{base}
+use Rattle.layout.specs.declared.config.Shape.{Shape}
+use Rattle.layout.specs.Config.{Supported, positions, mostVariables}
 use Rattle.memory.specs.Objects.{extIn, loadObject}
 use Rattle.memory.specs.Answered.{onContext, variablesIn}
 use Rattle.memory.specs.LoadAnswered.{loadTree, loadFits, loadAfter, loadAnswer}
 
-module _ (v n : ℕ) (e : loadFits base v n ≡ true) where
-  pub fits-all : (n ≡ 0 → ⊥) → v + n ≤ 133
-  fits-all z = let g : 2 * (v + n) - 1 < 267 = ltb-true (2 * (v + n) - 1) 267 (rw (ne-eqb n 0 z) at e) in omega arith
+module _ (g : Shape) (s : Supported g) (v n : ℕ) (e : loadFits g v n ≡ true) where
+  pub fits-all : (n ≡ 0 → ⊥) → 2 * (v + n) < positions g
+  fits-all z = let h : 2 * (v + n) - 1 < positions g = ltb-true (2 * (v + n) - 1) (positions g) (rw (ne-eqb n 0 z) at e) in omega (arith, s .even)
 
-  pub fits-few : n ≤ 133
+  pub fits-few : n ≤ mostVariables g
   fits-few = by (ℕ-discrete n 0)
     where
-      by : Dec (n ≡ 0) → n ≤ 133
+      by : Dec (n ≡ 0) → n ≤ mostVariables g
       by (yes z) = omega arith
-      by (no z) = let g = fits-all z in omega arith
+      by (no z) = let h = fits-all z in omega arith
 
-module _ (s e : List ℕ) (n v : ℕ) (h : checkedContext s ≡ Good n) (k : checkedContext e ≡ Good v) where
-  pub tree : loadObject base (extIn s v) v n ≡ loadTree base s e
+module _ (g : Shape) (s e : List ℕ) (n v : ℕ) (h : checkedContext s ≡ Good n) (k : checkedContext e ≡ Good v) where
+  pub tree : loadObject g (extIn s v) v n ≡ loadTree g s e
   tree =
-      ap (λ (c : Checked). loadObject base (extIn s (variablesIn c)) (variablesIn c) n) (sym k)
-      ∙ ap (λ (c : Checked). loadObject base (extIn s (variablesIn (checkedContext e))) (variablesIn (checkedContext e)) (variablesIn c)) (sym h)
+      ap (λ (c : Checked). loadObject g (extIn s (variablesIn c)) (variablesIn c) n) (sym k)
+      ∙ ap (λ (c : Checked). loadObject g (extIn s (variablesIn (checkedContext e))) (variablesIn (checkedContext e)) (variablesIn c)) (sym h)
 
-  pub answer : (counter room : ℕ) → loadAfter base counter room s v n ≡ loadAnswer base counter room s e
+  pub answer : (counter room : ℕ) → loadAfter g counter room s v n ≡ loadAnswer g counter room s e
   unfolding loadAnswer
   answer counter room =
-      ap (λ (c : Checked). onContext c (λ v. loadAfter base counter room s v n)) (sym k)
-      ∙ ap (λ (c : Checked). onContext c (λ n. onContext (checkedContext e) (λ v. loadAfter base counter room s v n))) (sym h)
+      ap (λ (c : Checked). onContext c (λ v. loadAfter g counter room s v n)) (sym k)
+      ∙ ap (λ (c : Checked). onContext c (λ n. onContext (checkedContext e) (λ v. loadAfter g counter room s v n))) (sym h)

@@ -1,5 +1,5 @@
 -- How many labels a load draws: one for each linked variable where its children are shared, else none.
-use Prim.Native.Nat.{ℕ, zero, suc, _+_, _*_, _-_, _/_, _≤_}
+use Prim.Native.Nat.{ℕ, zero, suc, _+_, _*_, _-_, _≤_}
 use mathlib.Core.Path.{_≡_, refl, ap, _∙_}
 use mathlib.Core.Bool.{Bool, true, false, cond}
 use mathlib.Core.List.{List}
@@ -8,9 +8,10 @@ use native.Mathlib.Omega.{arith}
 use lib.Dec.{ltb}
 use Rattle.records.specs.Contexts.{extAt}
 use Rattle.trees.specs.Tree.{Tree, labels}
-use Rattle.layout.specs.Config.{base}
-use Rattle.memory.specs.Objects.{fst, snd, extIn, loadFst, loadValue, loadValues, loadBody, loadSpilled, loadBlock, freed, loadOthers, loadSome, capacity}
-use Rattle.memory.specs.Sizes.{load-field-size, release-size, link-size, aside-size, restore-size}
+use Rattle.layout.specs.declared.config.Shape.{Shape}
+use Rattle.layout.specs.Config.{Supported}
+use Rattle.memory.specs.Objects.{fst, snd, extIn, loadFst, loadValue, loadValues, loadBody, loadSpilled, loadBlock, freed, loadOthers, loadSome, capacity, chunks}
+use Rattle.memory.specs.Sizes.{chunks-fill, load-field-size, release-size, link-size, aside-size, restore-size}
 use Rattle.loading.specs.Linked.{oneIfLinked, linkedIn}
 
 -- n where the children are shared
@@ -30,11 +31,11 @@ same : (b : Bool) (t u : Tree) (n : ℕ) → labels t ≡ n → labels u ≡ n �
 same true t u n p q = p
 same false t u n p q = q
 
-fst-labels : (integer shared : Bool) (v t r : ℕ) → labels (loadFst base integer shared v t r) ≡ drawn shared (oneIfLinked integer)
-fst-labels true true v t r = refl
-fst-labels true false v t r = refl
-fst-labels false true v t r = let a = load-field-size (fst v) r (16 + 16 * t) in omega arith
-fst-labels false false v t r = let a = load-field-size (fst v) r (16 + 16 * t) in omega arith
+fst-labels : (g : Shape) (integer shared : Bool) (v t r : ℕ) → labels (loadFst g integer shared v t r) ≡ drawn shared (oneIfLinked integer)
+fst-labels g true true v t r = refl
+fst-labels g true false v t r = refl
+fst-labels g false true v t r = let a = load-field-size g (fst v) r (16 + 16 * t) in omega arith
+fst-labels g false false v t r = let a = load-field-size g (fst v) r (16 + 16 * t) in omega arith
 
 -- the variables of two parts in a row
 linked-append : (ext : ℕ → Bool) (v m n : ℕ) → linkedIn ext v m + linkedIn ext (v + m) n ≡ linkedIn ext v (m + n)
@@ -45,14 +46,14 @@ linked-append ext v m (suc n) =
     let f : oneIfLinked (ext (v + m + n)) ≡ oneIfLinked (ext (v + (m + n))) = ap (λ (i : ℕ). oneIfLinked (ext i)) e in
     rw (add-suc m n) (omega arith)
 
-module _ (ext : ℕ → Bool) (shared : Bool) where
-  value-labels : (v t r : ℕ) → labels (loadValue base ext shared v t r) ≡ drawn shared (oneIfLinked (ext v))
+module _ (g : Shape) (ext : ℕ → Bool) (shared : Bool) where
+  value-labels : (v t r : ℕ) → labels (loadValue g ext shared v t r) ≡ drawn shared (oneIfLinked (ext v))
   value-labels v t r =
-      let a = load-field-size (snd v) r (24 + 16 * t) in
-      let z = fst-labels (ext v) shared v t r in
+      let a = load-field-size g (snd v) r (24 + 16 * t) in
+      let z = fst-labels g (ext v) shared v t r in
       omega arith
 
-  values-labels : (v k free r : ℕ) → labels (loadValues base ext shared v k free r) ≡ drawn shared (linkedIn ext v k)
+  values-labels : (v k free r : ℕ) → labels (loadValues g ext shared v k free r) ≡ drawn shared (linkedIn ext v k)
   values-labels v zero free r = drawn-none shared
   values-labels v (suc k) free r =
       let a = value-labels (v + k) (free - 1) r in
@@ -61,23 +62,23 @@ module _ (ext : ℕ → Bool) (shared : Bool) where
       omega arith
 
   module _ (other : Bool) where
-    body-labels : (v k r : ℕ) → labels (loadBody base ext shared other v k r) ≡ drawn shared (linkedIn ext v k)
+    body-labels : (v k r : ℕ) → labels (loadBody g ext shared other v k r) ≡ drawn shared (linkedIn ext v k)
     body-labels v k r =
         let a = release-size shared r in
-        let l = link-size other (v + k) r in
-        let z = values-labels v k (capacity base other) r in
+        let l = link-size g other (v + k) r in
+        let z = values-labels v k (capacity g other) r in
         omega (arith, a .0, l .0)
 
-    spilled-labels : (aside : Bool) (v k : ℕ) → labels (loadSpilled base ext shared other aside v k) ≡ drawn shared (linkedIn ext v k)
+    spilled-labels : (aside : Bool) (v k : ℕ) → labels (loadSpilled g ext shared other aside v k) ≡ drawn shared (linkedIn ext v k)
     spilled-labels aside v k =
-        let a = aside-size aside in
+        let a = aside-size g aside in
         let z = body-labels v k 4 in
-        let q = restore-size other in
+        let q = restore-size g other in
         omega (arith, a .0, q .0)
 
-    block-labels : (aside : Bool) (v k : ℕ) → labels (loadBlock base ext shared other aside v k) ≡ drawn shared (linkedIn ext v k)
+    block-labels : (aside : Bool) (v k : ℕ) → labels (loadBlock g ext shared other aside v k) ≡ drawn shared (linkedIn ext v k)
     block-labels aside v k =
-        same (ltb (fst v) 16) (loadBody base ext shared other v k (fst v)) (loadSpilled base ext shared other aside v k) (drawn shared (linkedIn ext v k))
+        same (ltb (fst v) 16) (loadBody g ext shared other v k (fst v)) (loadSpilled g ext shared other aside v k) (drawn shared (linkedIn ext v k))
         (body-labels v k (fst v))
         (spilled-labels aside v k)
 
@@ -88,29 +89,31 @@ module _ (ext : ℕ → Bool) (shared : Bool) where
       drawn-add shared (linkedIn ext v (n - c)) (linkedIn ext (v + (n - c)) (n - (n - c)))
       ∙ ap (drawn shared) (linked-append ext v (n - c) (n - (n - c)) ∙ ap (linkedIn ext v) e)
 
-  others-labels : (m v n : ℕ) → n ≤ 2 * m → labels (loadOthers base ext shared m v n) ≡ drawn shared (linkedIn ext v n)
+  others-labels : (m v n : ℕ) → n ≤ (g .fields - 1) * m → labels (loadOthers g ext shared m v n) ≡ drawn shared (linkedIn ext v n)
   others-labels zero v n h = let e : n ≡ 0 = omega arith in rw e (drawn-none shared)
   others-labels (suc m) v n h =
-      let a = block-labels true (freed base ext v (n - 2)) (v + (n - 2)) (n - (n - 2)) in
-      let z = others-labels m v (n - 2) (omega arith) in
-      let p = parts v n 2 in
+      let c : ℕ = g .fields - 1 in
+      let a = block-labels true (freed g ext v (n - c)) (v + (n - c)) (n - (n - c)) in
+      let z = others-labels m v (n - c) (omega arith) in
+      let p = parts v n c in
       omega arith
 
-  some-labels : (v n : ℕ) → labels (loadSome base ext shared v n) ≡ drawn shared (linkedIn ext v n)
-  some-labels v n =
-      let m = (n - 3 + 1) / 2 in
-      let a = block-labels false (freed base ext v (n - 3)) (v + (n - 3)) (n - (n - 3)) in
-      let z = others-labels m v (n - 3) (omega arith) in
-      let p = parts v n 3 in
+  some-labels : Supported g → (v n : ℕ) → labels (loadSome g ext shared v n) ≡ drawn shared (linkedIn ext v n)
+  some-labels s v n =
+      let f : ℕ = g .fields in
+      let c : ℕ = g .fields - 1 in
+      let a = block-labels false (freed g ext v (n - f)) (v + (n - f)) (n - (n - f)) in
+      let z = others-labels (chunks c (n - f)) v (n - f) (chunks-fill c (n - f) (omega (arith, s .some)) .0) in
+      let p = parts v n f in
       omega arith
 
-pub released-labels : (ext : ℕ → Bool) (v n : ℕ) → labels (loadSome base ext false v n) ≡ 0
-released-labels ext v n = some-labels ext false v n
+pub released-labels : (g : Shape) (ext : ℕ → Bool) → Supported g → (v n : ℕ) → labels (loadSome g ext false v n) ≡ 0
+released-labels g ext s v n = some-labels g ext false s v n
 
 -- the variables from v on, of which the first binding record is variable v's
 linked-from : (s : List ℕ) (v n : ℕ) → linkedIn (extIn s v) v n ≡ linkedIn (extAt s) 0 n
 linked-from s v zero = refl
 linked-from s v (suc n) = let e : v + n - v ≡ 0 + n = omega arith in rw (linked-from s v n, e)
 
-pub shared-labels : (s : List ℕ) (v n : ℕ) → labels (loadSome base (extIn s v) true v n) ≡ linkedIn (extAt s) 0 n
-shared-labels s v n = some-labels (extIn s v) true v n ∙ linked-from s v n
+pub shared-labels : (g : Shape) → Supported g → (s : List ℕ) (v n : ℕ) → labels (loadSome g (extIn s v) true v n) ≡ linkedIn (extAt s) 0 n
+shared-labels g f s v n = some-labels g (extIn s v) true f v n ∙ linked-from s v n

@@ -9,10 +9,10 @@ ghost use Rattle.records.specs.Contexts.{extAt};
 ghost use Rattle.trees.specs.Tree.{nop, leaf, seq, if-zero, flat};
 ghost use Rattle.emit.specs.Emitted.{Emits};
 ghost use Rattle.emit.specs.Answers.{Answers};
-ghost use Rattle.layout.specs.Config.{base, STACK, TEMP, MINUSONE, stackOffset};
+ghost use Rattle.layout.specs.Config.{base, Supported, STACK, TEMP, MINUSONE, stackOffset, operands, positions};
 ghost use Rattle.layout.specs.Positions.{Table};
 ghost use Rattle.memory.specs.Blocks.{blockRegister};
-ghost use Rattle.memory.specs.Objects.{extIn, loadSome, loadObject};
+ghost use Rattle.memory.specs.Objects.{extIn, objectRecords, loadSome, loadObject};
 ghost use Rattle.memory.specs.Answered.{treeAnswer};
 ghost use Rattle.memory.specs.LoadAnswered.{loadTree, loadFits, loadAfter, loadAnswer};
 ghost use Rattle.loading.specs.Linked.{oneIfLinked, linkedIn};
@@ -20,7 +20,9 @@ use emit::answer::Answer;
 use emit::cursor::Cursor;
 use emit::cursor::Row;
 use layout::config::STACK;
+use layout::config::Shape;
 use layout::config::TEMP;
+use layout::utils::ENTRIES;
 use records::check::Checked;
 use records::number::ADDIM;
 use records::number::CMPIM;
@@ -40,7 +42,7 @@ fn one_if_linked(ext: bool) -> u64
 
 // How many of the first n binding records are of linked variables.
 fn linked(kinds: &[u8], n: u64) -> u64
-    requires { ⌜ (8 * n ≤ length (now kinds)) × (n ≤ 133) ⌝ }
+    requires { ⌜ (8 * n ≤ length (now kinds)) × (n ≤ 4096) ⌝ }
     ensures { λ r. ⌜ (r ≡ linkedIn (extAt (now (kinds .entry))) 0 n) × (r ≤ n) ⌝ }
 {
     let mut count: u64 = 0;
@@ -55,37 +57,39 @@ fn linked(kinds: &[u8], n: u64) -> u64
 fn load_shared(
     out: &mut [u8],
     p: Cursor,
-    table: &[u64; 267],
+    g: Shape,
+    table: &[u16; ENTRIES],
     kinds: &[u8],
     v: u64,
     n: u64,
     r: u8,
 ) -> Cursor
-    requires { ⌜ (Table (now table)) × (8 * n ≤ length (now kinds)) × (v + n ≤ 133) × (p .at + 40024 < 2 ^ 64) × (p .counter + 200 < 2 ^ 32) ⌝ }
-    ensures { λ q. ⌜ Emits (now (out .entry)) p (now (out .exit)) q (seq (leaf (ADDIM r 0 MINUSONE) refl) (loadSome base (extIn (now (kinds .entry)) v) true v n)) ⌝ }
+    requires { ⌜ (Table (now table)) × (8 * n ≤ length (now kinds)) × (2 * (v + n) < positions g) × (p .at + 400024 < 2 ^ 64) × (p .counter + 2000 < 2 ^ 32) × Supported g ⌝ }
+    ensures { λ q. ⌜ Emits (now (out .entry)) p (now (out .exit)) q (seq (leaf (ADDIM r 0 MINUSONE) refl) (loadSome g (extIn (now (kinds .entry)) v) true v n)) ⌝ }
 {
     let q = emit::cursor::emit(out, p, Row(ADDIM, r, 0, 0, 0, MINUS_ONE));
-    fields::load_some(out, q, table, kinds, v, true, v, n)
+    fields::load_some(out, q, g, table, kinds, v, true, v, n)
 }
 
 // By the count of the object in register r. A load that releases draws no label, one that shares draws one for each linked variable.
 fn load_counted(
     out: &mut [u8],
     p: Cursor,
-    table: &[u64; 267],
+    g: Shape,
+    table: &[u16; ENTRIES],
     kinds: &[u8],
     v: u64,
     n: u64,
     r: u8,
 ) -> Cursor
-    requires { ⌜ (Table (now table)) × (8 * n ≤ length (now kinds)) × (v + n ≤ 133) × (p .at + 90000 < 2 ^ 64) × (p .counter + 400 < 2 ^ 32) ⌝ }
-    ensures { λ q. ⌜ Emits (now (out .entry)) p (now (out .exit)) q (if-zero (CMPIM r 0 0) refl (loadSome base (extIn (now (kinds .entry)) v) false v n) (seq (leaf (ADDIM r 0 MINUSONE) refl) (loadSome base (extIn (now (kinds .entry)) v) true v n))) ⌝ }
+    requires { ⌜ (Table (now table)) × (8 * n ≤ length (now kinds)) × (2 * (v + n) < positions g) × (p .at + 600000 < 2 ^ 64) × (p .counter + 2500 < 2 ^ 32) × Supported g ⌝ }
+    ensures { λ q. ⌜ Emits (now (out .entry)) p (now (out .exit)) q (if-zero (CMPIM r 0 0) refl (loadSome g (extIn (now (kinds .entry)) v) false v n) (seq (leaf (ADDIM r 0 MINUSONE) refl) (loadSome g (extIn (now (kinds .entry)) v) true v n))) ⌝ }
 {
     let counter = p.counter + linked(kinds, n) + 2;
     let end = counter as u32;
     let l = end - 1;
     let q = emit::cursor::emit2(out, p, Row(CMPIM, r, 0, 0, 0, 0), Row(JEL, 0, 0, l, 0, 0));
-    let s = load_shared(out, q, table, kinds, v, n, r);
+    let s = load_shared(out, q, g, table, kinds, v, n, r);
     let t = emit::cursor::emit2(out, s, Row(JMPL, 0, 0, end, 0, 0), Row(LAB, 0, 0, l, 0, 0));
     let u = fields::load_some(
         out,
@@ -93,6 +97,7 @@ fn load_counted(
             at: t.at,
             counter: p.counter,
         },
+        g,
         table,
         kinds,
         v,
@@ -112,14 +117,14 @@ fn register_of(w: u64) -> u8
 }
 
 // The pointer in operand w into a register.
-fn into_register(out: &mut [u8], p: Cursor, w: u64) -> Cursor
-    requires { ⌜ (w < 272) × (p .at + 24 < 2 ^ 64) ⌝ }
-    ensures { λ q. ⌜ Emits (now (out .entry)) p (now (out .exit)) q (cond (ltb w 16) nop (leaf (MOVL TEMP STACK (stackOffset base w)) refl)) ⌝ }
+fn into_register(out: &mut [u8], p: Cursor, g: Shape, w: u64) -> Cursor
+    requires { ⌜ (w < operands g) × (p .at + 24 < 2 ^ 64) × Supported g ⌝ }
+    ensures { λ q. ⌜ Emits (now (out .entry)) p (now (out .exit)) q (cond (ltb w 16) nop (leaf (MOVL TEMP STACK (stackOffset g w)) refl)) ⌝ }
 {
     if w < 16 {
         return p;
     }
-    let offset = layout::offset::spill_offset(w);
+    let offset = layout::offset::spill_offset(g, w);
     emit::cursor::emit(out, p, Row(MOVL, TEMP, STACK, 0, offset, 0))
 }
 
@@ -127,89 +132,108 @@ fn into_register(out: &mut [u8], p: Cursor, w: u64) -> Cursor
 pub fn load_object(
     out: &mut [u8],
     p: Cursor,
-    table: &[u64; 267],
+    g: Shape,
+    table: &[u16; ENTRIES],
     kinds: &[u8],
     v: u64,
     n: u64,
 ) -> Cursor
-    requires { ⌜ (Table (now table)) × (8 * n ≤ length (now kinds)) × (loadFits base v n ≡ true) × (p .at + 90024 < 2 ^ 64) × (p .counter + 400 < 2 ^ 32) ⌝ }
-    ensures { λ q. ⌜ Emits (now (out .entry)) p (now (out .exit)) q (loadObject base (extIn (now (kinds .entry)) v) v n) ⌝ }
+    requires { ⌜ (Table (now table)) × (8 * n ≤ length (now kinds)) × (loadFits g v n ≡ true) × (p .at + 600024 < 2 ^ 64) × (p .counter + 2500 < 2 ^ 32) × Supported g ⌝ }
+    ensures { λ q. ⌜ Emits (now (out .entry)) p (now (out .exit)) q (loadObject g (extIn (now (kinds .entry)) v) v n) ⌝ }
 {
     if n == 0 {
         return p;
     }
     let w = layout::utils::location_at(table, 2 * v);
-    let q = into_register(out, p, w);
-    load_counted(out, q, table, kinds, v, n, register_of(w))
+    let q = into_register(out, p, g, w);
+    load_counted(out, q, g, table, kinds, v, n, register_of(w))
 }
 
 // Whether n variables after v have positions.
-fn load_fits(v: u64, n: u64) -> bool
-    requires { ⌜ (v ≤ 4096) × (n ≤ 4096) ⌝ }
-    ensures { λ r. ⌜ r ≡ loadFits base v n ⌝ }
+fn load_fits(g: Shape, v: u64, n: u64) -> bool
+    requires { ⌜ (v ≤ 4096) × (n ≤ 4096) × Supported g ⌝ }
+    ensures { λ r. ⌜ r ≡ loadFits g v n ⌝ }
 {
+    let positions = g.spills + 11;
     if n == 0 {
         return true;
     }
-    v + n < 134
+    2 * (v + n) < positions + 1
 }
 
 // Written at once, where neither labels nor room can be wanting.
 fn load_at_once(
     out: &mut [u8],
+    g: Shape,
     counter: u64,
-    table: &[u64; 267],
+    table: &[u16; ENTRIES],
     loaded: &[u8],
     v: u64,
     n: u64,
 ) -> Answer
-    requires { ⌜ (Table (now table)) × (8 * n ≤ length (now loaded)) × (loadFits base v n ≡ true) × (counter < 2147480000) × (103199 < length (now out)) ⌝ }
-    ensures { λ r. ⌜ Answers (now (out .entry)) (now (out .exit)) r (treeAnswer counter (length (now (out .entry))) (loadObject base (extIn (now (loaded .entry)) v) v n)) (flat (loadObject base (extIn (now (loaded .entry)) v) v n) counter) ⌝ }
+    requires { ⌜ (Table (now table)) × (8 * n ≤ length (now loaded)) × (loadFits g v n ≡ true) × (counter < 2147480000) × (24 * objectRecords g n ≤ length (now out)) × Supported g ⌝ }
+    ensures { λ r. ⌜ Answers (now (out .entry)) (now (out .exit)) r (treeAnswer counter (length (now (out .entry))) (loadObject g (extIn (now (loaded .entry)) v) v n)) (flat (loadObject g (extIn (now (loaded .entry)) v) v n) counter) ⌝ }
 {
-    let q = load_object(out, Cursor { at: 0, counter }, table, loaded, v, n);
+    let q = load_object(out, Cursor { at: 0, counter }, g, table, loaded, v, n);
     Answer::Written(q.at / 24, q.counter)
 }
 
 // A first pass on another output tells the size, and the second writes.
 fn load_sized(
     out: &mut [u8],
+    g: Shape,
     counter: u64,
-    table: &[u64; 267],
+    table: &[u16; ENTRIES],
     loaded: &[u8],
     v: u64,
     n: u64,
 ) -> Answer
-    requires { ⌜ (Table (now table)) × (8 * n ≤ length (now loaded)) × (loadFits base v n ≡ true) ⌝ }
-    ensures { λ r. ⌜ Answers (now (out .entry)) (now (out .exit)) r (treeAnswer counter (length (now (out .entry))) (loadObject base (extIn (now (loaded .entry)) v) v n)) (flat (loadObject base (extIn (now (loaded .entry)) v) v n) counter) ⌝ }
+    requires { ⌜ (Table (now table)) × (8 * n ≤ length (now loaded)) × (loadFits g v n ≡ true) × Supported g ⌝ }
+    ensures { λ r. ⌜ Answers (now (out .entry)) (now (out .exit)) r (treeAnswer counter (length (now (out .entry))) (loadObject g (extIn (now (loaded .entry)) v) v n)) (flat (loadObject g (extIn (now (loaded .entry)) v) v n) counter) ⌝ }
 {
     let mut none = [0u8; 1];
-    let need = load_object(&mut none, Cursor { at: 0, counter: 0 }, table, loaded, v, n);
+    let need = load_object(
+        &mut none,
+        Cursor { at: 0, counter: 0 },
+        g,
+        table,
+        loaded,
+        v,
+        n,
+    );
     let answer = emit::answer::grant(counter, out.len(), need);
     if emit::answer::is_written(answer) {} else {
         return answer;
     }
-    load_object(out, Cursor { at: 0, counter }, table, loaded, v, n);
+    load_object(out, Cursor { at: 0, counter }, g, table, loaded, v, n);
     answer
 }
 
 // A load of n variables after v.
-fn load_after(out: &mut [u8], counter: u64, loaded: &[u8], v: u64, n: u64) -> Answer
-    requires { ⌜ (v ≤ 4096) × (n ≤ 4096) × (8 * n ≤ length (now loaded)) ⌝ }
-    ensures { λ r. ⌜ Answers (now (out .entry)) (now (out .exit)) r (loadAfter base counter (length (now (out .entry))) (now (loaded .entry)) v n) (flat (loadObject base (extIn (now (loaded .entry)) v) v n) counter) ⌝ }
+fn load_after(out: &mut [u8], g: Shape, counter: u64, loaded: &[u8], v: u64, n: u64) -> Answer
+    requires { ⌜ (v ≤ 4096) × (n ≤ 4096) × (8 * n ≤ length (now loaded)) × Supported g ⌝ }
+    ensures { λ r. ⌜ Answers (now (out .entry)) (now (out .exit)) r (loadAfter g counter (length (now (out .entry))) (now (loaded .entry)) v n) (flat (loadObject g (extIn (now (loaded .entry)) v) v n) counter) ⌝ }
 {
-    if load_fits(v, n) {} else {
+    if load_fits(g, v, n) {} else {
         return Answer::Position;
     }
     let table = layout::utils::positions();
-    if store::ample(counter, out.len()) {
-        return load_at_once(out, counter, &table, loaded, v, n);
+    if store::ample(g, counter, out.len(), n) {
+        return load_at_once(out, g, counter, &table, loaded, v, n);
     }
-    load_sized(out, counter, &table, loaded, v, n)
+    load_sized(out, g, counter, &table, loaded, v, n)
 }
 
 // The variables of one context, out of the object in the Fst past the existing context.
 pub fn load(out: &mut [u8], counter: u64, loaded: &[u8], existing: &[u8]) -> Answer
     ensures { λ r. ⌜ Answers (now (out .entry)) (now (out .exit)) r (loadAnswer base counter (length (now (out .entry))) (now (loaded .entry)) (now (existing .entry))) (flat (loadTree base (now (loaded .entry)) (now (existing .entry))) counter) ⌝ }
+{
+    load_in(out, layout::config::base(), counter, loaded, existing)
+}
+
+fn load_in(out: &mut [u8], g: Shape, counter: u64, loaded: &[u8], existing: &[u8]) -> Answer
+    requires { ⌜ Supported g ⌝ }
+    ensures { λ r. ⌜ Answers (now (out .entry)) (now (out .exit)) r (loadAnswer g counter (length (now (out .entry))) (now (loaded .entry)) (now (existing .entry))) (flat (loadTree g (now (loaded .entry)) (now (existing .entry))) counter) ⌝ }
 {
     let Checked::Good(n) = records::binding::check_context(loaded) else {
         return Answer::Context;
@@ -217,5 +241,5 @@ pub fn load(out: &mut [u8], counter: u64, loaded: &[u8], existing: &[u8]) -> Ans
     let Checked::Good(v) = records::binding::check_context(existing) else {
         return Answer::Context;
     };
-    load_after(out, counter, loaded, v as u64, n as u64)
+    load_after(out, g, counter, loaded, v as u64, n as u64)
 }

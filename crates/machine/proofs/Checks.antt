@@ -57,17 +57,17 @@ module _ (most : ℕ) (s : List ℕ) where
 leaves : {a : Answer} {v : View} {d : Done} → a ≡ d .answer → v ≡ d .last .state → Leaves a v d
 leaves e f = record { answer = e; cause = ap causeOf e; last = f }
 
-module _ (words : ℕ → ℕ) (s : List ℕ) (limit : ℕ) (R S H : List ℕ) {b : Bool} (h : b ≡ heapOk (length H)) where
-  pub ran-heap : b ≡ false → Leaves (Malformed 0) (view R S H) (ran words s limit (view R S H))
+module _ (block : ℕ) (words : ℕ → ℕ) (s : List ℕ) (limit : ℕ) (R S H : List ℕ) {b : Bool} (h : b ≡ heapOk block (length H)) where
+  pub ran-heap : b ≡ false → Leaves (Malformed 0) (view R S H) (ran block words s limit (view R S H))
   unfolding ran
   ran-heap n = rw (← h, n) (leaves refl refl)
 
   module _ {k : Checked} (t : b ≡ true) (e : k ≡ checkedCodes 65536 s) where
-    pub ran-malformed : {place : ℕ} → k ≡ checks.Malformed place → Leaves (Malformed place) (view R S H) (ran words s limit (view R S H))
+    pub ran-malformed : {place : ℕ} → k ≡ checks.Malformed place → Leaves (Malformed place) (view R S H) (ran block words s limit (view R S H))
     unfolding ran
     ran-malformed q = rw (← h, t, sym e ∙ q) (leaves refl refl)
 
     pub ran-ends : {n : ℕ} {a : Answer} {v : View} → k ≡ checks.Good n → EndsBy v a (started words (codesOf n s) limit (view R S H))
-        → Leaves a v (ran words s limit (view R S H))
+        → Leaves a v (ran block words s limit (view R S H))
     unfolding ran
     ran-ends q f = rw (← h, t, sym e ∙ q) (leaves (f .answer) (f .last))

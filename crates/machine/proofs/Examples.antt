@@ -10,6 +10,7 @@ use Rattle.instructions.specs.declared.memory.Place.the-variants.{Stack, Heap, 
 use Rattle.machine.specs.declared.state.State.{State}
 use Rattle.machine.specs.declared.run.Answer.{Answer}
 use Rattle.machine.specs.declared.run.Answer.the-variants.{Ended, Malformed, Fault, Limit}
+use Rattle.layout.specs.Config.{base}
 use Rattle.word.specs.Words.{sum, difference, signs, magnitude, negated, quotient, remainder, divides, less}
 use Rattle.instructions.specs.Memory.{heapOk, placeOf}
 use Rattle.instructions.specs.Step.{step}
@@ -26,27 +27,27 @@ abbrev answers : State → List Code → ℕ → Answer
 answers s p limit = started words p limit (see s heap) .answer
 
 abbrev registers : List Code → List ℕ
-registers p = firsts 16 (started words p 100 (see freshState heap) .last .state .reg)
+registers p = firsts 16 (started words p 100 (see (freshState base) heap) .last .state .reg)
 
 -- nothing to run has ended, whatever the limit; a record that the limit stops is not tried
-ends : (answers freshState [] 0 ≡ Ended 0) × (answers entryState (RET ∷ []) 1 ≡ Ended 1) × (answers freshState (RET ∷ []) 0 ≡ Limit 0)
+ends : (answers (freshState base) [] 0 ≡ Ended 0) × (answers (entryState base) (RET ∷ []) 1 ≡ Ended 1) × (answers (freshState base) (RET ∷ []) 0 ≡ Limit 0)
 unfolding runs step sum
 ends = (refl, refl, refl)
 
 -- a jump counts its own step and that of the LAB that it goes to
-jumps : (answers freshState (CMPI 4 0 ∷ JEL 1 ∷ ADDIM 4 0 1 ∷ LAB 1 ∷ []) 4 ≡ Ended 3) × (answers freshState (JMPL 1 ∷ []) 4 ≡ Fault 0 1)
-    × (answers freshState (JMPL 1 ∷ LAB 1 ∷ LAB 1 ∷ []) 4 ≡ Fault 0 1)
+jumps : (answers (freshState base) (CMPI 4 0 ∷ JEL 1 ∷ ADDIM 4 0 1 ∷ LAB 1 ∷ []) 4 ≡ Ended 3) × (answers (freshState base) (JMPL 1 ∷ []) 4 ≡ Fault 0 1)
+    × (answers (freshState base) (JMPL 1 ∷ LAB 1 ∷ LAB 1 ∷ []) 4 ≡ Fault 0 1)
 unfolding runs step placesOf placeOf sum
 jumps = (refl, refl, refl)
 
 -- a conditional jump uses the compare up, a move does not
-compares : (answers freshState (CMPI 4 5 ∷ JEL 1 ∷ JLL 1 ∷ LAB 1 ∷ []) 9 ≡ Fault 2 3) × (answers freshState (CMPI 4 5 ∷ MOVI 4 9 ∷ JLL 1 ∷ RET ∷ LAB 1 ∷ []) 9 ≡ Ended 4)
+compares : (answers (freshState base) (CMPI 4 5 ∷ JEL 1 ∷ JLL 1 ∷ LAB 1 ∷ []) 9 ≡ Fault 2 3) × (answers (freshState base) (CMPI 4 5 ∷ MOVI 4 9 ∷ JLL 1 ∷ RET ∷ LAB 1 ∷ []) 9 ≡ Ended 4)
 unfolding runs step placesOf placeOf sum less
 compares = (refl, refl)
 
 -- unaligned, below the heap, past the heap, past the stack
-addresses : (placeOf 16 65541 ≡ Nowhere) × (placeOf 16 65528 ≡ Nowhere) × (placeOf 16 65656 ≡ Heap 15) × (placeOf 16 65664 ≡ Nowhere)
-    × (placeOf 16 1099511625216 ≡ Stack 0) × (placeOf 16 1099511627768 ≡ Stack 319) × (placeOf 16 1099511627776 ≡ Nowhere)
+addresses : (placeOf 320 16 65541 ≡ Nowhere) × (placeOf 320 16 65528 ≡ Nowhere) × (placeOf 320 16 65656 ≡ Heap 15) × (placeOf 320 16 65664 ≡ Nowhere)
+    × (placeOf 320 16 1099511625216 ≡ Stack 319) × (placeOf 320 16 1099511627768 ≡ Stack 0) × (placeOf 320 16 1099511627776 ≡ Nowhere)
 unfolding placeOf
 addresses = (refl, refl, refl, refl, refl, refl, refl)
 
@@ -66,12 +67,12 @@ pushes-stack : registers (PUSH 0 ∷ POP 4 ∷ []) ≡ 1099511625672 ∷ 0 ∷ 6
 unfolding runs step placeOf sum difference
 pushes-stack = refl
 
-prints : (answers freshState (CALL 2147483650 ∷ []) 1 ≡ Fault 0 1) × (answers freshState (ADDI 0 8 ∷ CALL 2147483652 ∷ []) 2 ≡ Fault 1 2)
+prints : (answers (freshState base) (CALL 2147483650 ∷ []) 1 ≡ Fault 0 1) × (answers (freshState base) (ADDI 0 8 ∷ CALL 2147483652 ∷ []) 2 ≡ Fault 1 2)
     × (registers (ADDI 0 8 ∷ CALL 2147483650 ∷ []) ≡ 1099511625680 ∷ 100 ∷ 65536 ∷ 65600 ∷ 99 ∷ 98 ∷ 97 ∷ 96 ∷ 95 ∷ 94 ∷ 93 ∷ 92 ∷ replicate 4 0)
 unfolding runs step sum
 prints = (refl, refl, refl)
 
 -- 2 with place 0 before a malformed record is seen
-refuses : (ran words (1 ∷ []) 5 (see freshState (replicate 17 0)) .answer ≡ Malformed 0)
+refuses : (ran 8 words (1 ∷ []) 5 (see (freshState base) (replicate 17 0)) .answer ≡ Malformed 0)
 unfolding ran heapOk
 refuses = refl

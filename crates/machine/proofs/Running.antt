@@ -30,8 +30,8 @@ use Rattle.machine.specs.declared.run.Turn.the-variants as turn
 use Rattle.instructions.specs.View.{View, view}
 use Rattle.instructions.specs.Step.{Call, Config, config, outcomeOf, step}
 use Rattle.machine.specs.Run.{Done, done, onFound, find, follow, runs, codesOf, started}
-use Rattle.instructions.specs.Forms.{comparedOf, Sized, Goes}
-use Rattle.machine.specs.Loop.{Listed, turnTo, turnOf, Ends, Turns, EndsBy}
+use Rattle.instructions.specs.Forms.{comparedOf, Goes}
+use Rattle.machine.specs.Loop.{Listed, turnTo, turnOf, Turns, EndsBy}
 use Rattle.instructions.proofs.Flow.{jump-keeps}
 
 pub listed-ok : {s : List ℕ} {n k : ℕ} {f : Fields} → Listed s n → k < n → f ≡ fieldsIn (drop (24 * k) s) → fieldsOk f ≡ true
@@ -97,13 +97,6 @@ pub record Going (words : ℕ → ℕ) (s : List ℕ) (n limit : ℕ) (d : Done)
 
 ends : {v : View} {a : Answer} {d : Done} (c : Config) → d ≡ done a c → v ≡ c .state → EndsBy v a d
 ends c e k = record { answer = sym (ap (λ x. x .answer) e); last = k ∙ sym (ap (λ x. x .last .state) e) }
-
--- the same on lent arrays
-pub lent : {R S H : List ℕ} {a : Answer} {d : Done} → Sized R S → EndsBy (view R S H) a d → Ends R S H a d
-lent z e = record { sized = z; answer = e .answer; last = e .last }
-
-pub seen : {R S H : List ℕ} {a : Answer} {d : Done} → Ends R S H a d → EndsBy (view R S H) a d
-seen e = record { answer = e .answer; last = e .last }
 
 module _ (words : ℕ → ℕ) (s : List ℕ) (n : ℕ) where
   -- what a record does on lent arrays is one step

@@ -51,19 +51,19 @@ module _ (f : Fields) (e : fieldsOk f ≡ true) where
       let r = and-left (registerOk (eqb (u .a) 1) (f .a) && registerOk (eqb (u .b) 1) (f .b)) _ l in
       (register-named (eqb (u .a) 1) (f .a) (and-left (registerOk (eqb (u .a) 1) (f .a)) _ r), register-named (eqb (u .b) 1) (f .b) (and-right (registerOk (eqb (u .a) 1) (f .a)) _ r))
 
-module _ (words : ℕ → ℕ) (x : Code) (s : View) (q : Compared) (calls : List Call) {b : Bool} (h : b ≡ heapOk (s .size)) where
-  pub heap-refused : b ≡ false → trialOf (Malformed 0) s q calls ≡ trial words x (config s q calls)
+module _ (block : ℕ) (words : ℕ → ℕ) (x : Code) (s : View) (q : Compared) (calls : List Call) {b : Bool} (h : b ≡ heapOk block (s .size)) where
+  pub heap-refused : b ≡ false → trialOf (Malformed 0) s q calls ≡ trial block words x (config s q calls)
   unfolding trial
   heap-refused n = rw (← h, n)
 
-  pub code-refused : {f : Fields} {d : Bool} → b ≡ true → f ≡ fieldsOf x → d ≡ fieldsOk f → d ≡ false → trialOf (Malformed 1) s q calls ≡ trial words x (config s q calls)
+  pub code-refused : {f : Fields} {d : Bool} → b ≡ true → f ≡ fieldsOf x → d ≡ fieldsOk f → d ≡ false → trialOf (Malformed 1) s q calls ≡ trial block words x (config s q calls)
   unfolding trial
   code-refused t e o n = rw (← h, t, ← e, ← o, n)
 
-module _ (words : ℕ → ℕ) (x : Code) (R S H : List ℕ) {R′ S′ H′ : List ℕ} {q q′ : Compared} {p : Pair} {m : Moved} (calls : List Call) {b d : Bool} {f : Fields} where
-  pub performs : b ≡ heapOk (length H) → b ≡ true → f ≡ fieldsOf x → d ≡ fieldsOk f → d ≡ true → comparedOf p ≡ q → q′ ≡ comparedOf (m .pair)
+module _ (block : ℕ) (words : ℕ → ℕ) (x : Code) (R S H : List ℕ) {R′ S′ H′ : List ℕ} {q q′ : Compared} {p : Pair} {m : Moved} (calls : List Call) {b d : Bool} {f : Fields} where
+  pub performs : b ≡ heapOk block (length H) → b ≡ true → f ≡ fieldsOf x → d ≡ fieldsOk f → d ≡ true → comparedOf p ≡ q → q′ ≡ comparedOf (m .pair)
       → Goes R S H R′ S′ H′ p m (step words (codeOf f))
-      → trialOf (Took (m .went)) (view R′ S′ H′) q′ calls ≡ trial words x (config (view R S H) q calls)
+      → trialOf (Took (m .went)) (view R′ S′ H′) q′ calls ≡ trial block words x (config (view R S H) q calls)
   unfolding trial
   performs h t e o r k k′ g =
       rw (← h, t, ← e, ← o, r, k′, ← k) (ap took (g .goes calls ∙ ap (λ y. step words y (config (view R S H) (comparedOf p) calls)) (ap codeOf e ∙ code-fields x)))
@@ -72,7 +72,7 @@ took-same : {x y : Outcome} → took x ≡ took y → x ≡ y
 took-same e = cc
 
 -- record `place` of a checked list, beside a heap that may be lent: it is read, its step is not refused, and the state is that of the step
-module _ (words : ℕ → ℕ) (n : ℕ) (s : List ℕ) (place : ℕ) (v : View) (q : Compared) (z : Listed s n) (h : place < n) (k : heapOk (v .size) ≡ true) {r : CodeRead} (e : r ≡ codeAt s place) where
+module _ (block : ℕ) (words : ℕ → ℕ) (n : ℕ) (s : List ℕ) (place : ℕ) (v : View) (q : Compared) (z : Listed s n) (h : place < n) (k : heapOk block (v .size) ≡ true) {r : CodeRead} (e : r ≡ codeAt s place) where
   is-read : r ≡ read.Record (codeIn (drop (24 * place) s))
   unfolding codeAt
   is-read = e ∙ rw (z .starts place h)
@@ -84,14 +84,14 @@ module _ (words : ℕ → ℕ) (n : ℕ) (s : List ℕ) (place : ℕ) (v : View)
     same : x ≡ codeIn (drop (24 * place) s)
     same = let b = is-read in cc
 
-    tries : (calls : List Call) → trial words x (config v q calls) ≡ took (step words (codeIn (drop (24 * place) s)) (config v q calls))
+    tries : (calls : List Call) → trial block words x (config v q calls) ≡ took (step words (codeIn (drop (24 * place) s)) (config v q calls))
     unfolding trial
     tries calls =
         let f = fieldsIn (drop (24 * place) s) in
         let o = starts-ok (drop (24 * place) s) (z .starts place h) in
         rw (k, same, fields-code f o, o)
 
-    module _ {t : Tried} (v′ : View) (q′ : Compared) (b : (calls : List Call) → AnswersBy causeOf (trialOf t v′ q′ calls) (trial words x (config v q calls))) where
+    module _ {t : Tried} (v′ : View) (q′ : Compared) (b : (calls : List Call) → AnswersBy causeOf (trialOf t v′ q′ calls) (trial block words x (config v q calls))) where
       pub not-refused : {A : Type 0} {i : ℕ} → t ≡ Malformed i → A
       not-refused {i} m = unlike (let y : trialOf (Malformed i) v′ q′ [] ≡ took (step words (codeIn (drop (24 * place) s)) (config v q [])) = rw m at (b [] .answer ∙ tries []) in cc)
 

@@ -15,11 +15,10 @@ use Rattle.machine.specs.declared.run.Found.the-variants as found
 use Rattle.machine.specs.declared.run.Turn.{Turn}
 use Rattle.machine.specs.declared.run.Turn.the-variants as turn
 use Rattle.instructions.specs.declared.instruction.Compared.{Compared}
-use Rattle.instructions.specs.View.{View, view}
+use Rattle.instructions.specs.View.{View}
 use Rattle.instructions.specs.Step.{Call, config, outcomeOf, step}
 use Rattle.records.specs.ReadBack.{codeIn}
 use Rattle.machine.specs.Run.{Done, placesOf, find, codesOf}
-use Rattle.instructions.specs.Forms.{Sized}
 
 -- n whole, well-formed records in the bytes s
 pub record Listed (s : List ℕ) (n : ℕ) : Type 0 where
@@ -48,19 +47,13 @@ turnOf p i (Jump label) = turnTo (find label p)
 turnOf p i End = turn.End
 turnOf p i Fault = turn.Fault
 
--- registers, stack and heap are as a run leaves them, with its answer
-pub record Ends (R S H : List ℕ) (a : Answer) (d : Done) : Type 0 where
-  pub sized : Sized R S
-  pub answer : a ≡ d .answer
-  pub last : view R S H ≡ d .last .state
-
 -- one step, at record `place` of n in s: from what is seen as v, with the last compare q, to v′ and q′, and what follows
 pub record Turns (words : ℕ → ℕ) (n : ℕ) (s : List ℕ) (place : ℕ) (v : View) (q : Compared) (v′ : View) (q′ : Compared) (t : Turn) : Type 0 where
   pub went : Went
   pub goes : (calls : List Call) → outcomeOf went v′ q′ calls ≡ step words (codeIn (drop (24 * place) s)) (config v q calls)
   pub turn : t ≡ turnOf (codesOf n s) place went
 
--- a state and a heap seen as v are as a run leaves them, with its answer
+-- registers, stack and heap seen as v are as a run leaves them, with its answer
 pub record EndsBy (v : View) (a : Answer) (d : Done) : Type 0 where
   pub answer : a ≡ d .answer
   pub last : v ≡ d .last .state

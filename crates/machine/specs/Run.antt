@@ -81,10 +81,10 @@ abbrev pub onChecked : Checked → (ℕ → Done) → (ℕ → Done) → Done
 onChecked (checked.Good n) good bad = good n
 onChecked (checked.Malformed place) good bad = bad place
 
--- the whole run of the records in the bytes s
-unfoldable pub ran : (ℕ → ℕ) → List ℕ → ℕ → View → Done
-ran words s limit v =
-    cond (heapOk (v .size))
+-- the whole run of the records in the bytes s, where a block has so many words
+unfoldable pub ran : ℕ → (ℕ → ℕ) → List ℕ → ℕ → View → Done
+ran block words s limit v =
+    cond (heapOk block (v .size))
     (onChecked (checkedCodes 65536 s) (λ n. started words (codesOf n s) limit v) (λ place. done (Malformed place) (config v Absent [])))
     (done (Malformed 0) (config v Absent []))
 

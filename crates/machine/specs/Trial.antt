@@ -18,8 +18,8 @@ pub data Trial : Type 0 where
   took : Outcome → Trial
   refused : ℕ → Config → Trial
 
-unfoldable pub trial : (ℕ → ℕ) → Code → Config → Trial
-trial words x c = cond (heapOk (c .state .size)) (cond (fieldsOk (fieldsOf x)) (took (step words x c)) (refused 1 c)) (refused 0 c)
+unfoldable pub trial : ℕ → (ℕ → ℕ) → Code → Config → Trial
+trial block words x c = cond (heapOk block (c .state .size)) (cond (fieldsOk (fieldsOf x)) (took (step words x c)) (refused 1 c)) (refused 0 c)
 
 abbrev pub trialOf : Tried → View → Compared → List Call → Trial
 trialOf (Took w) s q calls = took (outcomeOf w s q calls)

@@ -5,10 +5,9 @@ ghost use Prim.Native.Nat.{_≤_, _<_};
 ghost use lib.ListN.{length};
 ghost use Rattle.instructions.specs.View.{view, wordsOf};
 ghost use Rattle.machine.specs.Run as is;
-ghost use Rattle.instructions.specs.Forms.{Sized};
 ghost use Rattle.machine.specs.State.{see};
 ghost use Rattle.instructions.specs.Memory.{heapOk};
-ghost use Rattle.machine.specs.Loop.{Listed, First, turnOf, Ends, Turns, EndsBy};
+ghost use Rattle.machine.specs.Loop.{Listed, First, turnOf, Turns, EndsBy};
 use crate::state::State;
 use crate::step;
 use crate::step::Tried;
@@ -104,6 +103,7 @@ pub struct Turned {
 
 // Record `place` of the n records of s, one step. The two refusals are never met: the records and the heap were checked.
 fn take_step(
+    block: usize,
     s: &[u8],
     n: usize,
     place: usize,
@@ -112,7 +112,7 @@ fn take_step(
     compared: Compared,
     words: [u64; 9],
 ) -> Turned
-    requires { ⌜ Listed (now s) n × (place < n) × (heapOk (length (now heap)) ≡ true) ⌝ }
+    requires { ⌜ Listed (now s) n × (place < n) × (heapOk block (length (now heap)) ≡ true) ⌝ }
     ensures { λ r. ⌜ Turns (wordsOf words) n (now (s .entry)) place (see state (now (heap .entry))) compared (see (r .state) (now (heap .exit))) (r .compared) (r .turn) ⌝ }
 {
     match code::read_code(s, place) {
@@ -122,7 +122,7 @@ fn take_step(
             turn: Turn::Fault,
         },
         CodeRead::Record(code) => {
-            let t = step::step(code, state, heap, compared, words);
+            let t = step::step(block, code, state, heap, compared, words);
             let left = t.state;
             let pair = t.compared;
             let tried = t.tried;
@@ -143,8 +143,16 @@ fn take_step(
 }
 
 // The n records of s, from the first. Each step takes the state and returns it.
-fn turns(s: &[u8], n: usize, state: State, heap: &mut [u64], words: [u64; 9], limit: u64) -> Ran
-    requires { ⌜ Listed (now s) n × (heapOk (length (now heap)) ≡ true) ⌝ }
+fn turns(
+    block: usize,
+    s: &[u8],
+    n: usize,
+    state: State,
+    heap: &mut [u64],
+    words: [u64; 9],
+    limit: u64,
+) -> Ran
+    requires { ⌜ Listed (now s) n × (heapOk block (length (now heap)) ≡ true) ⌝ }
     ensures { λ r. ⌜ EndsBy (see (r .state) (now (heap .exit))) (r .answer) (is.started (wordsOf words) (is.codesOf n (now (s .entry))) limit (see state (now (heap .entry)))) ⌝ }
 {
     let mut at = state;
@@ -158,7 +166,7 @@ fn turns(s: &[u8], n: usize, state: State, heap: &mut [u64], words: [u64; 9], li
                 answer: Answer::Limit(done),
             };
         }
-        let t = take_step(s, n, place, at, heap, compared, words);
+        let t = take_step(block, s, n, place, at, heap, compared, words);
         let left = t.state;
         let pair = t.compared;
         let turn = t.turn;
@@ -190,13 +198,13 @@ fn steps(
     s: &[u8],
     n: usize,
     registers: &mut [u64; 16],
-    stack: &mut [u64; 320],
+    stack: &mut [u64],
     heap: &mut [u64],
     words: &[u64; 9],
     limit: u64,
 ) -> Answer
-    requires { ⌜ Listed (now s) n × Sized (now registers) (now stack) ⌝ }
-    ensures { λ r. ⌜ Ends (now (registers .exit)) (now (stack .exit)) (now (heap .exit)) r (is.started (wordsOf (now (words .entry))) (is.codesOf n (now (s .entry))) limit (view (now (registers .entry)) (now (stack .entry)) (now (heap .entry)))) ⌝ }
+    requires { ⌜ Listed (now s) n × (length (now registers) ≡ 16) ⌝ }
+    ensures { λ r. ⌜ EndsBy (view (now (registers .exit)) (now (stack .exit)) (now (heap .exit))) r (is.started (wordsOf (now (words .entry))) (is.codesOf n (now (s .entry))) limit (view (now (registers .entry)) (now (stack .entry)) (now (heap .entry)))) ⌝ }
 {
     let kinds = step::KINDS;
     let mut pair = NONE;
@@ -222,11 +230,19 @@ fn steps(
     Answer::Ended(done)
 }
 
-// Document 01's run: each step takes the state and returns it, `words` are what print calls leave, and the answer stands beside the last state.
-pub fn run(records: &[u8], state: State, heap: &mut [u64], words: [u64; 9], limit: u64) -> Ran
-    ensures { λ r. ⌜ is.Leaves (r .answer) (see (r .state) (now (heap .exit))) (is.ran (wordsOf words) (now (records .entry)) limit (see state (now (heap .entry)))) ⌝ }
+// Document 01's run, where a block has so many words. Each step takes the state and returns it, `words` are what print calls leave, and the answer stands
+// beside the last state.
+pub fn run(
+    block: usize,
+    records: &[u8],
+    state: State,
+    heap: &mut [u64],
+    words: [u64; 9],
+    limit: u64,
+) -> Ran
+    ensures { λ r. ⌜ is.Leaves (r .answer) (see (r .state) (now (heap .exit))) (is.ran block (wordsOf words) (now (records .entry)) limit (see state (now (heap .entry)))) ⌝ }
 {
-    if memory::heap_ok(heap.len()) {} else {
+    if memory::heap_ok(block, heap.len()) {} else {
         return Ran {
             state,
             answer: Answer::Malformed(0),
@@ -237,15 +253,22 @@ pub fn run(records: &[u8], state: State, heap: &mut [u64], words: [u64; 9], limi
             state,
             answer: Answer::Malformed(place),
         },
-        Checked::Good(n) => turns(records, n, state, heap, words, limit),
+        Checked::Good(n) => turns(block, records, n, state, heap, words, limit),
     }
 }
 
 // The same run, with the state's arrays lent to each step, so that no step copies the state: the library for C goes by it.
-pub fn run_lent(records: &[u8], state: State, heap: &mut [u64], words: [u64; 9], limit: u64) -> Ran
-    ensures { λ r. ⌜ is.Leaves (r .answer) (see (r .state) (now (heap .exit))) (is.ran (wordsOf words) (now (records .entry)) limit (see state (now (heap .entry)))) ⌝ }
+pub fn run_lent(
+    block: usize,
+    records: &[u8],
+    state: State,
+    heap: &mut [u64],
+    words: [u64; 9],
+    limit: u64,
+) -> Ran
+    ensures { λ r. ⌜ is.Leaves (r .answer) (see (r .state) (now (heap .exit))) (is.ran block (wordsOf words) (now (records .entry)) limit (see state (now (heap .entry)))) ⌝ }
 {
-    if memory::heap_ok(heap.len()) {} else {
+    if memory::heap_ok(block, heap.len()) {} else {
         return Ran {
             state,
             answer: Answer::Malformed(0),

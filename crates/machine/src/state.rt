@@ -1,15 +1,21 @@
 // The machine's state.
 ghost use mathlib.Core.Path.{_≡_};
-ghost use Rattle.machine.specs.State.{entryState, freshState};
+ghost use Rattle.layout.specs.Config.{Supported, base};
+ghost use Rattle.machine.specs.State.{entryState, freshRegisters, freshState};
+use layout::config;
+use layout::config::Shape;
+
+// The words of the smaller frame's stack.
+pub const DEPTH: usize = 320;
 
 pub struct State {
     pub registers: [u64; 16],
-    pub stack: [u64; 320],
+    pub stack: [u64; DEPTH],
 }
 
 // With which a routine is entered: the heap's address in register 7.
 pub fn entry() -> State
-    ensures { λ r. ⌜ r ≡ entryState ⌝ }
+    ensures { λ r. ⌜ r ≡ entryState base ⌝ }
 {
     State {
         registers: [
@@ -34,29 +40,37 @@ pub fn entry() -> State
     }
 }
 
-// After the records before the body of a routine with no argument.
+// The registers after the records before the body of a routine with no argument.
+fn fresh_registers(g: Shape) -> [u64; 16]
+    requires { ⌜ Supported g ⌝ }
+    ensures { λ r. ⌜ r ≡ freshRegisters g ⌝ }
+{
+    [
+        1099511627720 - 8 * g.spills,
+        0,
+        65536,
+        65536 + (16 + 16 * g.fields),
+        0,
+        0,
+        0,
+        65536,
+        0,
+        0,
+        0,
+        0,
+        0,
+        0,
+        0,
+        0,
+    ]
+}
+
+// The state then.
 pub fn fresh() -> State
-    ensures { λ r. ⌜ r ≡ freshState ⌝ }
+    ensures { λ r. ⌜ r ≡ freshState base ⌝ }
 {
     State {
-        registers: [
-            1099511625672,
-            0,
-            65536,
-            65600,
-            0,
-            0,
-            0,
-            65536,
-            0,
-            0,
-            0,
-            0,
-            0,
-            0,
-            0,
-            0,
-        ],
+        registers: fresh_registers(config::base()),
         stack: [0; 320],
     }
 }

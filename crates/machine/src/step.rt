@@ -2,6 +2,7 @@
 ghost use mathlib.Core.Path.{_≡_};
 ghost use mathlib.Core.List.{List};
 ghost use mathlib.Core.Bool.{true};
+ghost use lib.ListN.{length};
 ghost use Prim.Native.Nat.{_<_};
 ghost use Rattle.records.specs.Answers.{AnswersBy};
 ghost use Rattle.records.specs.Codes.{codeOf};
@@ -9,7 +10,7 @@ ghost use Rattle.records.specs.Instructions.{fieldsOk};
 ghost use Rattle.instructions.specs.View.{wordsOf};
 ghost use Rattle.instructions.specs.Step as is;
 ghost use Rattle.instructions.specs.Step.{Call, config};
-ghost use Rattle.instructions.specs.Forms.{comparedOf, Sized, Goes};
+ghost use Rattle.instructions.specs.Forms.{comparedOf, Goes};
 ghost use Rattle.machine.specs.State.{see};
 ghost use Rattle.machine.specs.Tables.{tabled, performed};
 ghost use Rattle.machine.specs.Trial.{trial, trialOf, causeOf};
@@ -94,12 +95,12 @@ fn perform(
     u: u8,
     f: Fields,
     registers: &mut [u64; 16],
-    stack: &mut [u64; 320],
+    stack: &mut [u64],
     heap: &mut [u64],
     words: &[u64; 9],
     pair: Pair,
 ) -> Moved
-    requires { ⌜ (f .a < 16) × (f .b < 16) × Sized (now registers) (now stack) ⌝ }
+    requires { ⌜ (f .a < 16) × (f .b < 16) × (length (now registers) ≡ 16) ⌝ }
     ensures { λ r. ⌜ Goes (now (registers .entry)) (now (stack .entry)) (now (heap .entry)) (now (registers .exit)) (now (stack .exit)) (now (heap .exit)) pair r (performed (wordsOf (now (words .entry))) n t u f) ⌝ }
 {
     match n {
@@ -133,12 +134,12 @@ pub fn act(
     kinds: &[u16; 44],
     f: Fields,
     registers: &mut [u64; 16],
-    stack: &mut [u64; 320],
+    stack: &mut [u64],
     heap: &mut [u64],
     words: &[u64; 9],
     pair: Pair,
 ) -> Moved
-    requires { ⌜ (now kinds ≡ tabled) × (fieldsOk f ≡ true) × Sized (now registers) (now stack) ⌝ }
+    requires { ⌜ (now kinds ≡ tabled) × (fieldsOk f ≡ true) × (length (now registers) ≡ 16) ⌝ }
     ensures { λ r. ⌜ Goes (now (registers .entry)) (now (stack .entry)) (now (heap .entry)) (now (registers .exit)) (now (stack .exit)) (now (heap .exit)) pair r (is.step (wordsOf (now (words .entry))) (codeOf f)) ⌝ }
 {
     let kind = kinds[(f.code as usize) - 1];
@@ -168,17 +169,18 @@ fn compared_of(pair: Pair) -> Compared
     }
 }
 
-// One instruction, on a state that is taken and returned. A fault or a refusal returns all as it was.
+// One instruction, on a state that is taken and returned, where a block has so many words. A fault or a refusal returns all as it was.
 pub fn step(
+    block: usize,
     code: Code,
     state: State,
     heap: &mut [u64],
     compared: Compared,
     words: [u64; 9],
 ) -> Stepped
-    ensures { λ r. ⌜ ((calls : List Call) → AnswersBy causeOf (trialOf (r .tried) (see (r .state) (now (heap .exit))) (r .compared) calls) (trial (wordsOf words) code (config (see state (now (heap .entry))) compared calls))) ⌝ }
+    ensures { λ r. ⌜ ((calls : List Call) → AnswersBy causeOf (trialOf (r .tried) (see (r .state) (now (heap .exit))) (r .compared) calls) (trial block (wordsOf words) code (config (see state (now (heap .entry))) compared calls))) ⌝ }
 {
-    if memory::heap_ok(heap.len()) {} else {
+    if memory::heap_ok(block, heap.len()) {} else {
         return Stepped {
             state,
             compared,

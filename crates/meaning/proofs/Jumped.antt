@@ -13,7 +13,8 @@ use Rattle.records.specs.declared.code.Code.{Code}
 use Rattle.records.specs.declared.code.Code.the-variants.{MOVL, CMP, CMPRM, CMPMR, CMPI, CMPIM, JMPL, JMPLN}
 use Rattle.trees.specs.Tree.{Tree, leaf, seq, labels, size, flat}
 use Rattle.trees.specs.Flat.{length-flat}
-use Rattle.layout.specs.Config.{base, STACK, TEMP, stackOffset}
+use Rattle.layout.specs.declared.config.Shape.{Shape}
+use Rattle.layout.specs.Config.{STACK, TEMP, stackOffset}
 use Rattle.layout.specs.Positions.{operandOk}
 use Rattle.code.specs.declared.emitters.Condition.{Condition}
 use Rattle.code.specs.declared.emitters.Condition.the-variants.{Equal, NotEqual, Less, LessOrEqual, Greater, GreaterOrEqual}
@@ -57,35 +58,35 @@ paired d x y u = record { kept = u .kept; heap = u .heap }
 unpaired : {c d : Config} → Same c d → Same c (dropped d)
 unpaired u = record { kept = u .kept; heap = u .heap }
 
-module _ (words : ℕ → ℕ) {N : ℕ} (c : Config) (v : Placed N c) where
-  compare-does : (x y : ℕ) → Given x → Given y → Does words (compareWords base x y) c (Compares (held c x) (held c y) c)
+module _ (words : ℕ → ℕ) {G : Shape} {N : ℕ} (c : Config) (v : Placed G N c) where
+  compare-does : (x y : ℕ) → Given G x → Given G y → Does words (compareWords G x y) c (Compares (held c x) (held c y) c)
   unfolding step
   compare-does x y f g = by (ltb x 16) refl (ltb y 16) refl
     where
       by : (a : Bool) → ltb x 16 ≡ a → (b : Bool) → ltb y 16 ≡ b
           → Does words
-          (cond a (cond b (leaf (CMP x y) refl) (leaf (CMPRM x STACK (stackOffset base y)) refl))
-          (cond b (leaf (CMPMR STACK (stackOffset base x) y) refl) (seq (leaf (MOVL TEMP STACK (stackOffset base x)) refl) (leaf (CMPRM TEMP STACK (stackOffset base y)) refl))))
+          (cond a (cond b (leaf (CMP x y) refl) (leaf (CMPRM x STACK (stackOffset G y)) refl))
+          (cond b (leaf (CMPMR STACK (stackOffset G x) y) refl) (seq (leaf (MOVL TEMP STACK (stackOffset G x)) refl) (leaf (CMPRM TEMP STACK (stackOffset G y)) refl))))
           c (Compares (held c x) (held c y) c)
       by true e true h =
           one (ap evaluated (compares c (register x) (register y) (register-read c y (ltb-true y 16 h)) (register-read c x (ltb-true x 16 e)))) (refl, paired c _ _ (same c))
       by true e false h =
-          one (ap evaluated (compares c (register x) (memory STACK (stackOffset base y)) (spill-read (c .state) v y (ltb-false y 16 h) (g .below)) (register-read c x (ltb-true x 16 e)))) (refl, paired c _ _ (same c))
+          one (ap evaluated (compares c (register x) (memory STACK (stackOffset G y)) (spill-read (c .state) v y (ltb-false y 16 h) (g .below)) (register-read c x (ltb-true x 16 e)))) (refl, paired c _ _ (same c))
       by false e true h =
-          one (ap evaluated (compares c (memory STACK (stackOffset base x)) (register y) (register-read c y (ltb-true y 16 h)) (spill-read (c .state) v x (ltb-false x 16 e) (f .below)))) (refl, paired c _ _ (same c))
+          one (ap evaluated (compares c (memory STACK (stackOffset G x)) (register y) (register-read c y (ltb-true y 16 h)) (spill-read (c .state) v x (ltb-false x 16 e) (f .below)))) (refl, paired c _ _ (same c))
       by false e false h =
-          let r : Does words (leaf (MOVL TEMP STACK (stackOffset base x)) refl) c (Puts TEMP (held c x) c) = rw e at (to-does words c v TEMP x (omega arith) (f .below)) in
+          let r : Does words (leaf (MOVL TEMP STACK (stackOffset G x)) refl) c (Puts TEMP (held c x) c) = rw e at (to-does words c v TEMP x (omega arith) (f .below)) in
           then r (λ d p.
-          one (ap evaluated (compares d (register TEMP) (memory STACK (stackOffset base y)) (spill-read (d .state) (placed-after p (omega arith) v) y (ltb-false y 16 h) (g .below)) (register-read d TEMP (omega arith))))
-          (rw (p .0, puts-other p y (g .below) (omega (arith, g .above))), paired d (held d TEMP) (held d y) (p .1)))
+          one (ap evaluated (compares d (register TEMP) (memory STACK (stackOffset G y)) (spill-read (d .state) (placed-after p (omega arith) v) y (ltb-false y 16 h) (g .below)) (register-read d TEMP (omega arith))))
+          (rw (p .0, puts-other p y (omega (arith, g .above))), paired d (held d TEMP) (held d y) (p .1)))
 
-  immediate-does : (x value : ℕ) → Given x → Does words (compareImmediate base x value) c (Compares (held c x) value c)
+  immediate-does : (x value : ℕ) → Given G x → Does words (compareImmediate G x value) c (Compares (held c x) value c)
   unfolding step
   immediate-does x value f = by (ltb x 16) refl
     where
-      by : (a : Bool) → ltb x 16 ≡ a → Does words (cond a (leaf (CMPI x value) refl) (leaf (CMPIM STACK (stackOffset base x) value) refl)) c (Compares (held c x) value c)
+      by : (a : Bool) → ltb x 16 ≡ a → Does words (cond a (leaf (CMPI x value) refl) (leaf (CMPIM STACK (stackOffset G x) value) refl)) c (Compares (held c x) value c)
       by true e = one (ap evaluated (compares c (register x) (immediate value) refl (register-read c x (ltb-true x 16 e)))) (refl, paired c _ _ (same c))
-      by false e = one (ap evaluated (compares c (memory STACK (stackOffset base x)) (immediate value) refl (spill-read (c .state) v x (ltb-false x 16 e) (f .below)))) (refl, paired c _ _ (same c))
+      by false e = one (ap evaluated (compares c (memory STACK (stackOffset G x)) (immediate value) refl (spill-read (c .state) v x (ltb-false x 16 e) (f .below)))) (refl, paired c _ _ (same c))
 
 -- a conditional jump goes by the relation of the words compared last
 jump-is : (words : ℕ → ℕ) (k : Condition) (label x y : ℕ) (d : Config) → d .pair ≡ Of x y
@@ -125,8 +126,8 @@ module _ (words : ℕ → ℕ) (p : List Code) (label i j : ℕ) (c : Config) (f
   always-goes : (code : Code) → step words code c ≡ jump label (dropped c) → GoesIf true words p i j (code ∷ []) c
   always-goes code w rest e = record { at = dropped c; run = jumped words p i e c w f; rest = unpaired (same c) }
 
-  module _ {N : ℕ} (v : Placed N c) where
-    pub jumps : Jumps words p label i j c
+  module _ {G : Shape} {N : ℕ} (v : Placed G N c) where
+    pub jumps : Jumps G words p label i j c
     unfolding recordsOf step
     jumps =
         record {
@@ -138,21 +139,21 @@ module _ (words : ℕ → ℕ) (p : List Code) (label i j : ℕ) (c : Config) (f
           compare-immediate = λ k x value a. value-goes k x value a;
         }
       where
-        words-go : (k : Condition) (x y : ℕ) → operandOk base x ≡ true → operandOk base y ≡ true
-            → GoesIf (relation k (held c x) (held c y)) words p i j (flat (compareWords base x y) 0 ++ (jumpIf k label ∷ [])) c
-        words-go k x y a b = branch-goes (compareWords base x y) k (held c x) (held c y) (plain-compare base x y .none) (compare-does words c v x y (given x a) (given y b))
+        words-go : (k : Condition) (x y : ℕ) → operandOk G x ≡ true → operandOk G y ≡ true
+            → GoesIf (relation k (held c x) (held c y)) words p i j (flat (compareWords G x y) 0 ++ (jumpIf k label ∷ [])) c
+        words-go k x y a b = branch-goes (compareWords G x y) k (held c x) (held c y) (plain-compare G x y .none) (compare-does words c v x y (given G x a) (given G y b))
 
-        value-goes : (k : Condition) (x value : ℕ) → operandOk base x ≡ true
-            → GoesIf (relation k (held c x) value) words p i j (flat (compareImmediate base x value) 0 ++ (jumpIf k label ∷ [])) c
-        value-goes k x value a = branch-goes (compareImmediate base x value) k (held c x) value (plain-compare-immediate base x value .none) (immediate-does words c v x value (given x a))
+        value-goes : (k : Condition) (x value : ℕ) → operandOk G x ≡ true
+            → GoesIf (relation k (held c x) value) words p i j (flat (compareImmediate G x value) 0 ++ (jumpIf k label ∷ [])) c
+        value-goes k x value a = branch-goes (compareImmediate G x value) k (held c x) value (plain-compare-immediate G x value .none) (immediate-does words c v x value (given G x a))
 
 pub jumps-where-it-names : JumpsWhereItNames
 unfolding JumpsWhereItNames
-jumps-where-it-names words p label i j N c e v = jumps words p label i j c (ap theOne e) v
+jumps-where-it-names G words p label i j N c e v = jumps words p label i j c (ap theOne e) v
 
 pub label-does-nothing : LabelDoesNothing
 unfolding LabelDoesNothing recordsOf
-label-does-nothing words p label i c rest e =
-    let records : List Code = recordsOf base (Label label) in
+label-does-nothing G words p label i c rest e =
+    let records : List Code = recordsOf G (Label label) in
     let r : Reaches words p (length records) i (i + length records) c (dropped c) = rw (add-one i) (mark-does words p i e c) in
     record { at = dropped c; run = r; rest = unpaired (same c) }

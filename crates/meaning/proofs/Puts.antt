@@ -6,26 +6,27 @@ use mathlib.Core.Bool.{Bool, true, false, cond, _&&_, _||_}
 use native.Mathlib.Omega.{arith}
 use lib.Dec.{ltb, leb}
 use borrow.Author.Tests.{ltb-true, ltb-false, leb-true}
-use Rattle.layout.specs.Config.{base, TEMP}
+use Rattle.layout.specs.declared.config.Shape.{Shape}
+use Rattle.layout.specs.Config.{TEMP, operands}
 use Rattle.layout.specs.Positions.{operandOk}
 use Rattle.instructions.specs.declared.instruction.Compared.{Compared}
 use Rattle.instructions.specs.View.{putReg, putStk}
 use Rattle.instructions.specs.Step.{Config, config}
-use Rattle.positions.specs.Held.{stackWord, NoSpill, held, withOperand, Placed}
+use Rattle.positions.specs.Held.{stackWord, NoSpill, held, withOperand, operandsIn, Placed}
 use Rattle.positions.specs.HeldLemmas.{upd-other, operand-same, operand-other, operand-heap, keeps-trans, keeps-sub, placed-keeps}
 use Rattle.meaning.specs.Claims.{Unchanged, Sets}
 
 -- what a caller may give as an operand
-pub record Given (w : ℕ) : Type 0 where
+pub record Given (G : Shape) (w : ℕ) : Type 0 where
   pub above : 4 ≤ w
-  pub below : w < 272
+  pub below : w < operands G
 
-pub given : (w : ℕ) → operandOk base w ≡ true → Given w
+pub given : (G : Shape) (w : ℕ) → operandOk G w ≡ true → Given G w
 unfolding operandOk
-given w e = by (leb 4 w) refl (ltb w 272) refl (ltb w 16 || ltb 16 w) e
+given G w e = by (leb 4 w) refl (ltb w (operands G)) refl (ltb w 16 || ltb 16 w) e
   where
-    by : (a : Bool) → leb 4 w ≡ a → (b : Bool) → ltb w 272 ≡ b → (d : Bool) → (a && b && d) ≡ true → Given w
-    by true p true q d e = record { above = leb-true 4 w p; below = ltb-true w 272 q }
+    by : (a : Bool) → leb 4 w ≡ a → (b : Bool) → ltb w (operands G) ≡ b → (d : Bool) → (a && b && d) ≡ true → Given G w
+    by true p true q d e = record { above = leb-true 4 w p; below = ltb-true w (operands G) q }
     by true p false q d e = let z : _≡_ {A = ℕ} 0 1 = cc in absurd (omega arith)
     by false p b q d e = let z : _≡_ {A = ℕ} 0 1 = cc in absurd (omega arith)
 
@@ -40,30 +41,37 @@ module _ {P : ℕ → Type 0} {c d : Config} where
 abbrev pub Puts : ℕ → ℕ → Config → Config → Type 0
 Puts t w c d = (held d t ≡ w) × Unchanged (λ l. l ≢ t) c d
 
-pub put : (c : Config) (t w : ℕ) (q : Compared) → t < 272 → Puts t w c (config (withOperand (c .state) t w) q (c .calls))
+-- a spill is one of the frame's
+pub put : (c : Config) (t w : ℕ) (q : Compared) → (16 ≤ t → t < operandsIn (c .state .depth)) → Puts t w c (config (withOperand (c .state) t w) q (c .calls))
 put c t w q h = (
-  operand-same (c .state) t w h,
+  operand-same (c .state) t w,
   record {
-    kept = record { size-kept = operand-heap (c .state) t w .1; calls-kept = refl; kept = λ l k n. operand-other (c .state) t w h l k n; beside-kept = λ i f. by i f (ltb t 16) refl };
+    kept = record {
+      depth-kept = operand-heap (c .state) t w .2;
+      size-kept = operand-heap (c .state) t w .1;
+      calls-kept = refl;
+      kept = λ l n. operand-other (c .state) t w l n;
+      beside-kept = λ i f. by i f (ltb t 16) refl;
+    };
     heap = operand-heap (c .state) t w .0;
   },
 )
   where
-    by : (i : ℕ) → NoSpill i → (b : Bool) → ltb t 16 ≡ b
+    by : (i : ℕ) → NoSpill (operandsIn (c .state .depth)) i → (b : Bool) → ltb t 16 ≡ b
         → cond b (putReg (c .state) t w) (putStk (c .state) (stackWord t) w) .stk i ≡ c .state .stk i
     by i f true e = refl
-    by i f false e = upd-other (c .state .stk) (stackWord t) w i (f t (ltb-false t 16 e) h)
+    by i f false e = let m = ltb-false t 16 e in upd-other (c .state .stk) (stackWord t) w i (f t m (h m))
 
 module _ {c d : Config} {t v : ℕ} where
   pub puts-sets : Puts t v c d → Sets t v c d
   puts-sets p = (p .0, unchanged-sub (λ l n. n .0) (p .1))
 
-  pub placed-after : {N : ℕ} → Puts t v c d → 0 ≢ t → Placed N c → Placed N d
+  pub placed-after : {G : Shape} {N : ℕ} → Puts t v c d → 0 ≢ t → Placed G N c → Placed G N d
   placed-after p n h = placed-keeps n (p .1 .kept) h
 
   -- another operand
-  pub puts-other : Puts t v c d → (l : ℕ) → l < 272 → l ≢ t → held d l ≡ held c l
-  puts-other p l h n = p .1 .kept .kept l h n
+  pub puts-other : Puts t v c d → (l : ℕ) → l ≢ t → held d l ≡ held c l
+  puts-other p l n = p .1 .kept .kept l n
 
   -- the same operand again
   pub puts-again : {e : Config} {w : ℕ} → Puts t v c d → Puts t w d e → Puts t w c e

@@ -8,7 +8,8 @@ use lib.Dec.{ltb}
 use borrow.Author.Tests.{lt-ltb, le-ltb}
 use Rattle.records.specs.declared.code.Code.the-variants.{MOV, MOVS, MOVL, MOVI, MOVIM}
 use Rattle.trees.specs.Tree.{leaf}
-use Rattle.layout.specs.Config.{base, STACK, stackOffset}
+use Rattle.layout.specs.declared.config.Shape.{Shape}
+use Rattle.layout.specs.Config.{STACK, operands, stackOffset}
 use Rattle.code.specs.Code.{registerRegister, registerSpill, spillRegister, moveFrom, moveTo, toRegister, loadImmediate}
 use Rattle.word.specs.Words.{sum, difference, product}
 use Rattle.instructions.specs.declared.memory.Loaded.the-variants.{Word}
@@ -16,7 +17,7 @@ use Rattle.instructions.specs.Memory.{register, memory, immediate, valueOf, ass
 use Rattle.instructions.specs.Step.{Config, move, arithmetic, step}
 use Rattle.structured.specs.Evaluation.{evaluate, evaluated}
 use Rattle.positions.specs.Held.{held, operandAt, withOperand, Placed}
-use Rattle.positions.specs.HeldLemmas.{held-register}
+use Rattle.positions.specs.HeldLemmas.{held-register, in-frame}
 use Rattle.positions.specs.PlaceLemmas.{operand-read, operand-written, spill-read, spill-written}
 use Rattle.positions.specs.RecordLemmas.{moves, computes}
 use Rattle.positions.specs.Runs.{Does, one}
@@ -40,40 +41,40 @@ result times = product
 
 -- ---- a tree of one record is an instruction of its operands
 
-module _ (words : ℕ → ℕ) (c : Config) where
-  to-is : (r w : ℕ) → evaluate words (moveTo base r w) c ≡ evaluated (move (register r) (operandAt w) c)
+module _ (G : Shape) (words : ℕ → ℕ) (c : Config) where
+  to-is : (r w : ℕ) → evaluate words (moveTo G r w) c ≡ evaluated (move (register r) (operandAt G w) c)
   unfolding step
   to-is r w = by (ltb w 16)
     where
-      by : (b : Bool) → evaluate words (cond b (leaf (MOV r w) refl) (leaf (MOVL r STACK (stackOffset base w)) refl)) c
-          ≡ evaluated (move (register r) (cond b (register w) (memory STACK (stackOffset base w))) c)
+      by : (b : Bool) → evaluate words (cond b (leaf (MOV r w) refl) (leaf (MOVL r STACK (stackOffset G w)) refl)) c
+          ≡ evaluated (move (register r) (cond b (register w) (memory STACK (stackOffset G w))) c)
       by true = refl
       by false = refl
 
-  from-is : (w r : ℕ) → evaluate words (moveFrom base w r) c ≡ evaluated (move (operandAt w) (register r) c)
+  from-is : (w r : ℕ) → evaluate words (moveFrom G w r) c ≡ evaluated (move (operandAt G w) (register r) c)
   unfolding step
   from-is w r = by (ltb w 16)
     where
-      by : (b : Bool) → evaluate words (cond b (leaf (MOV w r) refl) (leaf (MOVS r STACK (stackOffset base w)) refl)) c
-          ≡ evaluated (move (cond b (register w) (memory STACK (stackOffset base w))) (register r) c)
+      by : (b : Bool) → evaluate words (cond b (leaf (MOV w r) refl) (leaf (MOVS r STACK (stackOffset G w)) refl)) c
+          ≡ evaluated (move (cond b (register w) (memory STACK (stackOffset G w))) (register r) c)
       by true = refl
       by false = refl
 
-  immediate-is : (w value : ℕ) → evaluate words (loadImmediate base w value) c ≡ evaluated (move (operandAt w) (immediate value) c)
+  immediate-is : (w value : ℕ) → evaluate words (loadImmediate G w value) c ≡ evaluated (move (operandAt G w) (immediate value) c)
   unfolding step
   immediate-is w value = by (ltb w 16)
     where
-      by : (b : Bool) → evaluate words (cond b (leaf (MOVI w value) refl) (leaf (MOVIM STACK (stackOffset base w) value) refl)) c
-          ≡ evaluated (move (cond b (register w) (memory STACK (stackOffset base w))) (immediate value) c)
+      by : (b : Bool) → evaluate words (cond b (leaf (MOVI w value) refl) (leaf (MOVIM STACK (stackOffset G w) value) refl)) c
+          ≡ evaluated (move (cond b (register w) (memory STACK (stackOffset G w))) (immediate value) c)
       by true = refl
       by false = refl
 
-  register-is : (o : Basic) (r w : ℕ) → evaluate words (toRegister base (number o) r w) c ≡ evaluated (arithmetic (result o) (register r) (operandAt w) c)
+  register-is : (o : Basic) (r w : ℕ) → evaluate words (toRegister G (number o) r w) c ≡ evaluated (arithmetic (result o) (register r) (operandAt G w) c)
   unfolding step
   register-is o r w = by o (ltb w 16)
     where
-      by : (o : Basic) (b : Bool) → evaluate words (cond b (registerRegister (number o) r w) (registerSpill (number o) r (stackOffset base w))) c
-          ≡ evaluated (arithmetic (result o) (register r) (cond b (register w) (memory STACK (stackOffset base w))) c)
+      by : (o : Basic) (b : Bool) → evaluate words (cond b (registerRegister (number o) r w) (registerSpill (number o) r (stackOffset G w))) c
+          ≡ evaluated (arithmetic (result o) (register r) (cond b (register w) (memory STACK (stackOffset G w))) c)
       by plus true = refl
       by plus false = refl
       by minus true = refl
@@ -96,32 +97,32 @@ module _ (c : Config) (r : ℕ) (h : r < 16) where
   register-written : (x : ℕ) → assigned (c .state) (register r) x ≡ some (withOperand (c .state) r x)
   register-written x = rw (lt-ltb r 16 h)
 
-module _ (words : ℕ → ℕ) {N : ℕ} (c : Config) (v : Placed N c) where
-  module _ (r w : ℕ) (h : r < 16) (k : w < 272) where
-    pub to-does : Does words (moveTo base r w) c (Puts r (held c w) c)
+module _ (words : ℕ → ℕ) {G : Shape} {N : ℕ} (c : Config) (v : Placed G N c) where
+  module _ (r w : ℕ) (h : r < 16) (k : w < operands G) where
+    pub to-does : Does words (moveTo G r w) c (Puts r (held c w) c)
     to-does =
-        one (to-is words c r w ∙ ap evaluated (moves c (register r) (operandAt w) (operand-read (c .state) v w k) (register-written c r h (held c w))))
-        (put c r (held c w) _ (omega arith))
+        one (to-is G words c r w ∙ ap evaluated (moves c (register r) (operandAt G w) (operand-read (c .state) v w k) (register-written c r h (held c w))))
+        (put c r (held c w) _ (λ m. absurd (omega arith)))
 
-    pub from-does : Does words (moveFrom base w r) c (Puts w (held c r) c)
+    pub from-does : Does words (moveFrom G w r) c (Puts w (held c r) c)
     from-does =
-        one (from-is words c w r ∙ ap evaluated (moves c (operandAt w) (register r) (register-read c r h) (operand-written (c .state) v w k (held c r))))
-        (put c w (held c r) _ k)
+        one (from-is G words c w r ∙ ap evaluated (moves c (operandAt G w) (register r) (register-read c r h) (operand-written (c .state) v w k (held c r))))
+        (put c w (held c r) _ (λ m. in-frame w v k))
 
-    pub register-does : (o : Basic) → Does words (toRegister base (number o) r w) c (Puts r (result o (held c r) (held c w)) c)
+    pub register-does : (o : Basic) → Does words (toRegister G (number o) r w) c (Puts r (result o (held c r) (held c w)) c)
     register-does o =
         let x : ℕ = result o (held c r) (held c w) in
-        one (register-is words c o r w ∙ ap evaluated (computes c (register r) (operandAt w) (result o) (operand-read (c .state) v w k) (register-read c r h) (register-written c r h x)))
-        (put c r x _ (omega arith))
+        one (register-is G words c o r w ∙ ap evaluated (computes c (register r) (operandAt G w) (result o) (operand-read (c .state) v w k) (register-read c r h) (register-written c r h x)))
+        (put c r x _ (λ m. absurd (omega arith)))
 
-    pub spill-does : (o : Basic) → 16 ≤ w → Does words (spillRegister (number o) (stackOffset base w) r) c (Puts w (result o (held c w) (held c r)) c)
+    pub spill-does : (o : Basic) → 16 ≤ w → Does words (spillRegister (number o) (stackOffset G w) r) c (Puts w (result o (held c w) (held c r)) c)
     spill-does o m =
         let x : ℕ = result o (held c w) (held c r) in
-        one (spill-is words c o (stackOffset base w) r
-        ∙ ap evaluated (computes c (memory STACK (stackOffset base w)) (register r) (result o) (register-read c r h) (spill-read (c .state) v w m k) (rw (le-ltb w 16 m) (spill-written (c .state) v w m k x))))
-        (put c w x _ k)
+        one (spill-is G words c o (stackOffset G w) r
+        ∙ ap evaluated (computes c (memory STACK (stackOffset G w)) (register r) (result o) (register-read c r h) (spill-read (c .state) v w m k) (rw (le-ltb w 16 m) (spill-written (c .state) v w m k x))))
+        (put c w x _ (λ m. in-frame w v k))
 
-  pub immediate-does : (w value : ℕ) → w < 272 → Does words (loadImmediate base w value) c (Puts w value c)
+  pub immediate-does : (w value : ℕ) → w < operands G → Does words (loadImmediate G w value) c (Puts w value c)
   immediate-does w value k =
-      one (immediate-is words c w value ∙ ap evaluated (moves c (operandAt w) (immediate value) refl (operand-written (c .state) v w k value)))
-      (put c w value _ k)
+      one (immediate-is G words c w value ∙ ap evaluated (moves c (operandAt G w) (immediate value) refl (operand-written (c .state) v w k value)))
+      (put c w value _ (λ m. in-frame w v k))

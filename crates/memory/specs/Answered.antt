@@ -9,8 +9,9 @@ use Rattle.records.specs.Contexts.{checkedContext}
 use Rattle.emit.specs.declared.answer.Answer.{Answer}
 use Rattle.emit.specs.declared.answer.Answer.the-variants.{Context, Operand, Missing, Count, Position}
 use Rattle.emit.specs.Answers.{granted}
-use Rattle.layout.specs.Config.{Config}
-use Rattle.layout.specs.Positions.{positions, operandOk}
+use Rattle.layout.specs.declared.config.Shape.{Shape}
+use Rattle.layout.specs.Config.{positions}
+use Rattle.layout.specs.Positions.{operandOk}
 use Rattle.trees.specs.Tree.{Tree, labels, size}
 use Rattle.memory.specs.Blocks.{eraseBlock, shareBlock}
 use Rattle.memory.specs.Objects.{extIn, storeObject}
@@ -19,10 +20,10 @@ use Rattle.memory.specs.Objects.{extIn, storeObject}
 abbrev pub treeAnswer : ℕ → ℕ → Tree → Answer
 treeAnswer counter room t = granted counter room (24 * size t) (labels t)
 
-unfoldable pub eraseAnswer : Config → ℕ → ℕ → ℕ → Answer
+unfoldable pub eraseAnswer : Shape → ℕ → ℕ → ℕ → Answer
 eraseAnswer g counter room w = cond (operandOk g w) (treeAnswer counter room (eraseBlock g w)) Operand
 
-unfoldable pub shareAnswer : Config → ℕ → ℕ → ℕ → ℕ → Answer
+unfoldable pub shareAnswer : Shape → ℕ → ℕ → ℕ → ℕ → Answer
 shareAnswer g counter room w n =
     cond (operandOk g w) (cond (ltb 2147483647 n) Count (treeAnswer counter room (shareBlock g w n))) Operand
 
@@ -36,14 +37,14 @@ variablesIn (Good k) = k
 variablesIn (Malformed place) = 0
 
 -- the last n variables of a context into an object
-abbrev pub storeTree : Config → List ℕ → ℕ → Tree
+abbrev pub storeTree : Shape → List ℕ → ℕ → Tree
 storeTree g context n = storeObject g (extIn context 0) (variablesIn (checkedContext context) - n) n
 
 -- the highest position that a store of n of k variables asks for: the last one's Snd, or the Fst past them where none is stored
 abbrev pub storeHighest : ℕ → ℕ → ℕ
 storeHighest k n = cond (eqb n 0) (2 * k) (2 * k - 1)
 
-unfoldable pub storeAnswer : Config → ℕ → ℕ → List ℕ → ℕ → Answer
+unfoldable pub storeAnswer : Shape → ℕ → ℕ → List ℕ → ℕ → Answer
 storeAnswer g counter room context n =
     onContext (checkedContext context)
     (λ k. cond (ltb k n) Missing

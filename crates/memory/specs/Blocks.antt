@@ -6,7 +6,8 @@ use mathlib.Core.Bool.{cond}
 use lib.Dec.{ltb}
 use Rattle.records.specs.declared.code.Code.the-variants.{ADDI, ADDIM, MOV, MOVS, MOVL, MOVIM, CMPI, CMPIM}
 use Rattle.trees.specs.Tree.{Tree, nop, leaf, seq, skip-if-zero, if-zero}
-use Rattle.layout.specs.Config.{Config, STACK, TEMP, HEAP, FREE, stackOffset, fstOffset, blockBytes, MINUSONE}
+use Rattle.layout.specs.declared.config.Shape.{Shape}
+use Rattle.layout.specs.Config.{STACK, TEMP, HEAP, FREE, stackOffset, fstOffset, blockBytes, MINUSONE}
 
 -- erase the object that a register points to, if it points to one: onto the lazy list, or one reference fewer
 abbrev pub eraseRegister : ℕ → Tree
@@ -30,7 +31,7 @@ eraseFields (suc n) = seq (eraseFields n) (eraseChild n)
 abbrev pub blockRegister : ℕ → ℕ
 blockRegister w = cond (ltb w 16) w TEMP
 
-module _ (g : Config) where
+module _ (g : Shape) where
   abbrev pub eraseBlock : ℕ → Tree
   eraseBlock w = cond (ltb w 16) (eraseRegister w) (seq (leaf (MOVL TEMP STACK (stackOffset g w)) refl) (eraseRegister TEMP))
 

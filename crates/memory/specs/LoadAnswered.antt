@@ -6,27 +6,27 @@ use lib.Dec.{ltb, eqb}
 use Rattle.records.specs.Contexts.{checkedContext}
 use Rattle.emit.specs.declared.answer.Answer.{Answer}
 use Rattle.emit.specs.declared.answer.Answer.the-variants.{Position}
-use Rattle.layout.specs.Config.{Config}
-use Rattle.layout.specs.Positions.{positions}
+use Rattle.layout.specs.declared.config.Shape.{Shape}
+use Rattle.layout.specs.Config.{positions}
 use Rattle.trees.specs.Tree.{Tree}
 use Rattle.memory.specs.Objects.{extIn, loadObject}
 use Rattle.memory.specs.Answered.{treeAnswer, onContext, variablesIn}
 
 -- the variables of one context, out of the object in the Fst past another context
-abbrev pub loadTree : Config → List ℕ → List ℕ → Tree
+abbrev pub loadTree : Shape → List ℕ → List ℕ → Tree
 loadTree g loaded existing =
     loadObject g (extIn loaded (variablesIn (checkedContext existing))) (variablesIn (checkedContext existing)) (variablesIn (checkedContext loaded))
 
 -- whether n variables after v have positions, the last one's Snd too; none need none
-abbrev pub loadFits : Config → ℕ → ℕ → Bool
+abbrev pub loadFits : Shape → ℕ → ℕ → Bool
 loadFits g v n = cond (eqb n 0) true (ltb (2 * (v + n) - 1) (positions g))
 
 -- the answer for n variables after v
-abbrev pub loadAfter : Config → ℕ → ℕ → List ℕ → ℕ → ℕ → Answer
+abbrev pub loadAfter : Shape → ℕ → ℕ → List ℕ → ℕ → ℕ → Answer
 loadAfter g counter room loaded v n =
     cond (loadFits g v n) (treeAnswer counter room (loadObject g (extIn loaded v) v n)) Position
 
-unfoldable pub loadAnswer : Config → ℕ → ℕ → List ℕ → List ℕ → Answer
+unfoldable pub loadAnswer : Shape → ℕ → ℕ → List ℕ → List ℕ → Answer
 loadAnswer g counter room loaded existing =
     onContext (checkedContext loaded)
     (λ n. onContext (checkedContext existing) (λ v. loadAfter g counter room loaded v n))

@@ -9,7 +9,8 @@ use lib.Dec.{ltb, eqb}
 use Rattle.records.specs.declared.code.Code.the-variants.{ADDIM, MOVS, MOVL, MOVIM, CMPIM}
 use Rattle.records.specs.Contexts.{extAt}
 use Rattle.trees.specs.Tree.{Tree, nop, leaf, seq, if-zero}
-use Rattle.layout.specs.Config.{Config, STACK, TEMP, HEAP, RETURN1, SPILLTEMP, stackOffset, fstOffset, sndOffset, MINUSONE}
+use Rattle.layout.specs.declared.config.Shape.{Shape}
+use Rattle.layout.specs.Config.{STACK, TEMP, HEAP, RETURN1, SPILLTEMP, stackOffset, fstOffset, sndOffset, MINUSONE}
 use Rattle.layout.specs.Positions.{location}
 use Rattle.code.specs.Code.{loadImmediate}
 use Rattle.memory.specs.Blocks.{shareRegister, blockRegister, acquireBlock, storeField, loadField, releaseBlock}
@@ -33,8 +34,12 @@ storeZeros (suc n) = seq (storeZeros n) (leaf (MOVIM HEAP (fstOffset n) 0) refl)
 abbrev pub chunks : ℕ → ℕ → ℕ
 chunks c n = (n + (c - 1)) / c
 
+-- how many records are enough for a store or a load of n variables: for each block those that store its fields and acquire it, since to load them twice takes fewer
+abbrev pub objectRecords : Shape → ℕ → ℕ
+objectRecords g n = (16 * g .fields + 17) * (chunks (g .fields - 1) (n - g .fields) + 1) + 4
+
 -- a variable's pointer into field t of HEAP's block, or zero where it is an integer
-abbrev pub storeFst : Config → Bool → ℕ → ℕ → Tree
+abbrev pub storeFst : Shape → Bool → ℕ → ℕ → Tree
 storeFst g integer v t = cond integer (leaf (MOVIM HEAP (fstOffset t) 0) refl) (storeField g (fst v) HEAP (fstOffset t))
 
 -- a pointer just loaded to an operand is shared where it stays in its block too
@@ -42,7 +47,7 @@ abbrev pub shareLoaded : Bool → ℕ → Tree
 shareLoaded shared w = cond shared (shareRegister (blockRegister w) 1) nop
 
 -- field t's pointer into variable v, unless it is an integer
-abbrev pub loadFst : Config → Bool → Bool → ℕ → ℕ → ℕ → Tree
+abbrev pub loadFst : Shape → Bool → Bool → ℕ → ℕ → ℕ → Tree
 loadFst g integer shared v t r =
     cond integer nop (seq (loadField g (fst v) r (fstOffset t)) (shareLoaded shared (fst v)))
 
@@ -50,21 +55,21 @@ abbrev pub releaseUnless : Bool → ℕ → Tree
 releaseUnless shared r = cond shared nop (releaseBlock r)
 
 -- `other` says that a block is not the last: the link to the next one goes into variable v's Fst
-abbrev pub loadLink : Config → Bool → ℕ → ℕ → Tree
+abbrev pub loadLink : Shape → Bool → ℕ → ℕ → Tree
 loadLink g other v r = cond other (loadField g (fst v) r (fstOffset (g .fields - 1))) nop
 
 -- how many variables a block holds
-abbrev pub capacity : Config → Bool → ℕ
+abbrev pub capacity : Shape → Bool → ℕ
 capacity g other = cond other (g .fields - 1) (g .fields)
 
 -- register 4 into spill 0, unless it is there already; and back after the last block
-abbrev pub setAside : Config → Bool → Tree
+abbrev pub setAside : Shape → Bool → Tree
 setAside g aside = cond aside nop (leaf (MOVS RETURN1 STACK (stackOffset g SPILLTEMP)) refl)
 
-abbrev pub restore : Config → Bool → Tree
+abbrev pub restore : Shape → Bool → Tree
 restore g other = cond other nop (leaf (MOVL RETURN1 STACK (stackOffset g SPILLTEMP)) refl)
 
-module _ (g : Config) (ext : ℕ → Bool) where
+module _ (g : Shape) (ext : ℕ → Bool) where
   -- variable v into field t of HEAP's block
   abbrev pub storeValue : ℕ → ℕ → Tree
   storeValue v t = seq (storeField g (snd v) HEAP (sndOffset t)) (storeFst g (ext v) v t)

@@ -1,9 +1,9 @@
 // One block, from memory.rs: erased, shared, acquired, released; a field stored and loaded.
-ghost use Prim.Native.Nat.{_+_, _<_, _≤_, _^_};
+ghost use Prim.Native.Nat.{_+_, _*_, _<_, _≤_, _^_};
 ghost use Rattle.emit.specs.Emitted.{fieldsList, Emitted, Emits};
 ghost use lib.ListN.{length};
 ghost use Rattle.emit.specs.Answers.{Answers};
-ghost use Rattle.layout.specs.Config.{base};
+ghost use Rattle.layout.specs.Config.{Supported, base, operands};
 ghost use Rattle.memory.specs.Answered.{eraseAnswer, shareAnswer};
 ghost use Rattle.memory.specs.Flattened.{nextBegin, nextEnd};
 ghost use Rattle.trees.specs.Tree.{flat};
@@ -14,6 +14,7 @@ use emit::cursor::Row;
 use layout::config::FREE;
 use layout::config::HEAP;
 use layout::config::STACK;
+use layout::config::Shape;
 use layout::config::TEMP;
 use records::number::ADDI;
 use records::number::ADDIM;
@@ -62,14 +63,14 @@ pub fn erase_register(out: &mut [u8], p: Cursor, r: u8) -> Cursor
     emit::cursor::draw(t, 3)
 }
 
-pub fn erase(out: &mut [u8], p: Cursor, w: u64) -> Cursor
-    requires { ⌜ (p .at + 288 < 2 ^ 64) × (p .counter + 3 < 2 ^ 32) × (w < 272) ⌝ }
-    ensures { λ q. ⌜ Emits (now (out .entry)) p (now (out .exit)) q (eraseBlock base w) ⌝ }
+pub fn erase(out: &mut [u8], p: Cursor, g: Shape, w: u64) -> Cursor
+    requires { ⌜ (p .at + 288 < 2 ^ 64) × (p .counter + 3 < 2 ^ 32) × (w < operands g) × Supported g ⌝ }
+    ensures { λ q. ⌜ Emits (now (out .entry)) p (now (out .exit)) q (eraseBlock g w) ⌝ }
 {
     if w < 16 {
         erase_register(out, p, w as u8)
     } else {
-        let offset = layout::offset::spill_offset(w);
+        let offset = layout::offset::spill_offset(g, w);
         let q = emit::cursor::emit(out, p, Row(MOVL, TEMP, STACK, 0, offset, 0));
         erase_register(out, q, TEMP)
     }
@@ -91,12 +92,12 @@ pub fn share_register(out: &mut [u8], p: Cursor, r: u8, n: u64) -> Cursor
     emit::cursor::draw(q, 1)
 }
 
-fn share_spill(out: &mut [u8], p: Cursor, w: u64, n: u64) -> Cursor
-    requires { ⌜ (p .at + 120 < 2 ^ 64) × (p .counter + 1 < 2 ^ 32) × (16 ≤ w) × (w < 272) ⌝ }
-    ensures { λ q. ⌜ Emits (now (out .entry)) p (now (out .exit)) q (shareSpill base w n) ⌝ }
+fn share_spill(out: &mut [u8], p: Cursor, g: Shape, w: u64, n: u64) -> Cursor
+    requires { ⌜ (p .at + 120 < 2 ^ 64) × (p .counter + 1 < 2 ^ 32) × (16 ≤ w) × (w < operands g) × Supported g ⌝ }
+    ensures { λ q. ⌜ Emits (now (out .entry)) p (now (out .exit)) q (shareSpill g w n) ⌝ }
 {
     let l = (p.counter + 1) as u32;
-    let offset = layout::offset::spill_offset(w);
+    let offset = layout::offset::spill_offset(g, w);
     let q = emit::cursor::emit4(
         out,
         p,
@@ -109,14 +110,14 @@ fn share_spill(out: &mut [u8], p: Cursor, w: u64, n: u64) -> Cursor
     emit::cursor::draw(s, 1)
 }
 
-pub fn share(out: &mut [u8], p: Cursor, w: u64, n: u64) -> Cursor
-    requires { ⌜ (p .at + 120 < 2 ^ 64) × (p .counter + 1 < 2 ^ 32) × (w < 272) ⌝ }
-    ensures { λ q. ⌜ Emits (now (out .entry)) p (now (out .exit)) q (shareBlock base w n) ⌝ }
+pub fn share(out: &mut [u8], p: Cursor, g: Shape, w: u64, n: u64) -> Cursor
+    requires { ⌜ (p .at + 120 < 2 ^ 64) × (p .counter + 1 < 2 ^ 32) × (w < operands g) × Supported g ⌝ }
+    ensures { λ q. ⌜ Emits (now (out .entry)) p (now (out .exit)) q (shareBlock g w n) ⌝ }
 {
     if w < 16 {
         share_register(out, p, w as u8, n)
     } else {
-        share_spill(out, p, w, n)
+        share_spill(out, p, g, w, n)
     }
 }
 
@@ -129,24 +130,26 @@ fn erase_child(out: &mut [u8], p: Cursor, i: u64) -> Cursor
     erase_register(out, q, TEMP)
 }
 
-fn erase_fields(out: &mut [u8], p: Cursor) -> Cursor
-    requires { ⌜ (p .at + 864 < 2 ^ 64) × (p .counter + 9 < 2 ^ 32) ⌝ }
-    ensures { λ q. ⌜ Emits (now (out .entry)) p (now (out .exit)) q (eraseFields (base .fields)) ⌝ }
+fn erase_fields(out: &mut [u8], p: Cursor, n: u64) -> Cursor
+    requires { ⌜ (n ≤ 65536) × (p .at + 288 * n < 2 ^ 64) × (p .counter + 3 * n < 2 ^ 32) ⌝ }
+    ensures { λ q. ⌜ Emits (now (out .entry)) p (now (out .exit)) q (eraseFields n) ⌝ }
 {
-    let q = erase_child(out, p, 0);
-    let s = erase_child(out, q, 1);
-    erase_child(out, s, 2)
+    let mut q = p;
+    for i in 0..n {
+        q = erase_child(out, q, i);
+    }
+    q
 }
 
 // HEAP's block goes into w.
-fn take_block(out: &mut [u8], p: Cursor, w: u64) -> Cursor
-    requires { ⌜ (p .at + 48 < 2 ^ 64) × (w < 272) ⌝ }
-    ensures { λ q. ⌜ Emits (now (out .entry)) p (now (out .exit)) q (takeBlock base w) ⌝ }
+fn take_block(out: &mut [u8], p: Cursor, g: Shape, w: u64) -> Cursor
+    requires { ⌜ (p .at + 48 < 2 ^ 64) × (w < operands g) × Supported g ⌝ }
+    ensures { λ q. ⌜ Emits (now (out .entry)) p (now (out .exit)) q (takeBlock g w) ⌝ }
 {
     if w < 16 {
         emit::cursor::emit(out, p, Row(MOV, w as u8, HEAP, 0, 0, 0))
     } else {
-        let offset = layout::offset::spill_offset(w);
+        let offset = layout::offset::spill_offset(g, w);
         emit::cursor::emit2(
             out,
             p,
@@ -156,27 +159,27 @@ fn take_block(out: &mut [u8], p: Cursor, w: u64) -> Cursor
     }
 }
 
-// The records of `next_block` before the children are erased.
-fn next_begin(out: &mut [u8], p: Cursor, r: u8) -> Cursor
-    requires { ⌜ (p .at + 264 < 2 ^ 64) × (p .counter + 13 < 2 ^ 32) ⌝ }
-    ensures { λ q. ⌜ Emitted (now (out .entry)) p (now (out .exit)) q (fieldsList (nextBegin r (p .counter))) 0 ⌝ }
+// The records of `next_block` before the children are erased; n is three labels for each.
+fn next_begin(out: &mut [u8], p: Cursor, n: u64, r: u8) -> Cursor
+    requires { ⌜ (p .at + 264 < 2 ^ 64) × (p .counter + n + 4 < 2 ^ 32) ⌝ }
+    ensures { λ q. ⌜ Emitted (now (out .entry)) p (now (out .exit)) q (fieldsList (nextBegin n r (p .counter))) 0 ⌝ }
 {
-    let l10 = (p.counter + 10) as u32;
-    let l12 = (p.counter + 12) as u32;
-    let l13 = (p.counter + 13) as u32;
+    let frontier = (p.counter + (n + 1)) as u32;
+    let lazy = (p.counter + (n + 3)) as u32;
+    let done = (p.counter + (n + 4)) as u32;
     let q = emit::cursor::emit4(
         out,
         p,
         Row(MOVL, HEAP, HEAP, 0, 0, 0),
         Row(CMPI, HEAP, 0, 0, 0, 0),
-        Row(JEL, 0, 0, l12, 0, 0),
+        Row(JEL, 0, 0, lazy, 0, 0),
         Row(MOVIM, r, 0, 0, 0, 0),
     );
     let s = emit::cursor::emit4(
         out,
         q,
-        Row(JMPL, 0, 0, l13, 0, 0),
-        Row(LAB, 0, 0, l12, 0, 0),
+        Row(JMPL, 0, 0, done, 0, 0),
+        Row(LAB, 0, 0, lazy, 0, 0),
         Row(MOV, HEAP, FREE, 0, 0, 0),
         Row(MOVL, FREE, FREE, 0, 0, 0),
     );
@@ -184,68 +187,70 @@ fn next_begin(out: &mut [u8], p: Cursor, r: u8) -> Cursor
         out,
         s,
         Row(CMPI, FREE, 0, 0, 0, 0),
-        Row(JEL, 0, 0, l10, 0, 0),
+        Row(JEL, 0, 0, frontier, 0, 0),
         Row(MOVIM, HEAP, 0, 0, 0, 0),
     )
 }
 
-// The records of `next_block` after them; l is the counter before all.
-fn next_end(out: &mut [u8], p: Cursor, l: u64) -> Cursor
-    requires { ⌜ (p .at + 144 < 2 ^ 64) × (l + 13 < 2 ^ 32) × (p .counter + 4 < 2 ^ 64) ⌝ }
-    ensures { λ q. ⌜ Emitted (now (out .entry)) p (now (out .exit)) q (fieldsList (nextEnd l)) 4 ⌝ }
+// The records of `next_block` after them; l is the counter before all, and bytes a block's.
+fn next_end(out: &mut [u8], p: Cursor, n: u64, l: u64, bytes: u64) -> Cursor
+    requires { ⌜ (p .at + 144 < 2 ^ 64) × (l + n + 4 < 2 ^ 32) × (p .counter + 4 < 2 ^ 64) ⌝ }
+    ensures { λ q. ⌜ Emitted (now (out .entry)) p (now (out .exit)) q (fieldsList (nextEnd n bytes l)) 4 ⌝ }
 {
-    let l10 = (l + 10) as u32;
-    let l11 = (l + 11) as u32;
-    let l13 = (l + 13) as u32;
+    let frontier = (l + (n + 1)) as u32;
+    let joined = (l + (n + 2)) as u32;
+    let done = (l + (n + 4)) as u32;
     let q = emit::cursor::emit3(
         out,
         p,
-        Row(JMPL, 0, 0, l11, 0, 0),
-        Row(LAB, 0, 0, l10, 0, 0),
+        Row(JMPL, 0, 0, joined, 0, 0),
+        Row(LAB, 0, 0, frontier, 0, 0),
         Row(MOV, FREE, HEAP, 0, 0, 0),
     );
     let s = emit::cursor::emit3(
         out,
         q,
-        Row(ADDI, FREE, 0, 0, 0, 64),
-        Row(LAB, 0, 0, l11, 0, 0),
-        Row(LAB, 0, 0, l13, 0, 0),
+        Row(ADDI, FREE, 0, 0, 0, bytes),
+        Row(LAB, 0, 0, joined, 0, 0),
+        Row(LAB, 0, 0, done, 0, 0),
     );
     emit::cursor::draw(s, 4)
 }
 
 // HEAP goes on to the next block; r holds the one just taken.
-fn next_block(out: &mut [u8], p: Cursor, r: u8) -> Cursor
-    requires { ⌜ (p .at + 1272 < 2 ^ 64) × (p .counter + 13 < 2 ^ 32) ⌝ }
-    ensures { λ q. ⌜ Emits (now (out .entry)) p (now (out .exit)) q (nextBlock base r) ⌝ }
+fn next_block(out: &mut [u8], p: Cursor, g: Shape, r: u8) -> Cursor
+    requires { ⌜ (p .at + 2424 < 2 ^ 64) × (p .counter + 25 < 2 ^ 32) × Supported g ⌝ }
+    ensures { λ q. ⌜ Emits (now (out .entry)) p (now (out .exit)) q (nextBlock g r) ⌝ }
 {
+    let fields = g.fields;
+    let bytes = layout::offset::fst_offset(fields);
     let l = p.counter;
-    let q = next_begin(out, p, r);
-    let s = erase_fields(out, q);
-    next_end(out, s, l)
+    let q = next_begin(out, p, 3 * fields, r);
+    let s = erase_fields(out, q, fields);
+    next_end(out, s, 3 * fields, l, bytes)
 }
 
-pub fn acquire_block(out: &mut [u8], p: Cursor, w: u64) -> Cursor
-    requires { ⌜ (p .at + 1320 < 2 ^ 64) × (p .counter + 13 < 2 ^ 32) × (w < 272) ⌝ }
-    ensures { λ q. ⌜ Emits (now (out .entry)) p (now (out .exit)) q (acquireBlock base w) ⌝ }
+pub fn acquire_block(out: &mut [u8], p: Cursor, g: Shape, w: u64) -> Cursor
+    requires { ⌜ (p .at + 2472 < 2 ^ 64) × (p .counter + 25 < 2 ^ 32) × (w < operands g) × Supported g ⌝ }
+    ensures { λ q. ⌜ Emits (now (out .entry)) p (now (out .exit)) q (acquireBlock g w) ⌝ }
 {
-    let q = take_block(out, p, w);
+    let q = take_block(out, p, g, w);
     if w < 16 {
-        next_block(out, q, w as u8)
+        next_block(out, q, g, w as u8)
     } else {
-        next_block(out, q, TEMP)
+        next_block(out, q, g, TEMP)
     }
 }
 
 // A word from an operand into memory.
-pub fn store_field(out: &mut [u8], p: Cursor, w: u64, r: u8, offset: u64) -> Cursor
-    requires { ⌜ (p .at + 48 < 2 ^ 64) × (w < 272) ⌝ }
-    ensures { λ q. ⌜ Emits (now (out .entry)) p (now (out .exit)) q (storeField base w r offset) ⌝ }
+pub fn store_field(out: &mut [u8], p: Cursor, g: Shape, w: u64, r: u8, offset: u64) -> Cursor
+    requires { ⌜ (p .at + 48 < 2 ^ 64) × (w < operands g) × Supported g ⌝ }
+    ensures { λ q. ⌜ Emits (now (out .entry)) p (now (out .exit)) q (storeField g w r offset) ⌝ }
 {
     if w < 16 {
         emit::cursor::emit(out, p, Row(MOVS, w as u8, r, 0, offset, 0))
     } else {
-        let from = layout::offset::spill_offset(w);
+        let from = layout::offset::spill_offset(g, w);
         emit::cursor::emit2(
             out,
             p,
@@ -256,14 +261,14 @@ pub fn store_field(out: &mut [u8], p: Cursor, w: u64, r: u8, offset: u64) -> Cur
 }
 
 // And back.
-pub fn load_field(out: &mut [u8], p: Cursor, w: u64, r: u8, offset: u64) -> Cursor
-    requires { ⌜ (p .at + 48 < 2 ^ 64) × (w < 272) ⌝ }
-    ensures { λ q. ⌜ Emits (now (out .entry)) p (now (out .exit)) q (loadField base w r offset) ⌝ }
+pub fn load_field(out: &mut [u8], p: Cursor, g: Shape, w: u64, r: u8, offset: u64) -> Cursor
+    requires { ⌜ (p .at + 48 < 2 ^ 64) × (w < operands g) × Supported g ⌝ }
+    ensures { λ q. ⌜ Emits (now (out .entry)) p (now (out .exit)) q (loadField g w r offset) ⌝ }
 {
     if w < 16 {
         emit::cursor::emit(out, p, Row(MOVL, w as u8, r, 0, offset, 0))
     } else {
-        let to = layout::offset::spill_offset(w);
+        let to = layout::offset::spill_offset(g, w);
         emit::cursor::emit2(
             out,
             p,
@@ -290,16 +295,23 @@ pub fn release_block(out: &mut [u8], p: Cursor, r: u8) -> Cursor
 pub fn erase_block(out: &mut [u8], counter: u64, w: u64) -> Answer
     ensures { λ r. ⌜ Answers (now (out .entry)) (now (out .exit)) r (eraseAnswer base counter (length (now (out .entry))) w) (flat (eraseBlock base w) counter) ⌝ }
 {
-    if layout::utils::operand_ok(w) {} else {
+    erase_block_in(out, layout::config::base(), counter, w)
+}
+
+fn erase_block_in(out: &mut [u8], g: Shape, counter: u64, w: u64) -> Answer
+    requires { ⌜ Supported g ⌝ }
+    ensures { λ r. ⌜ Answers (now (out .entry)) (now (out .exit)) r (eraseAnswer g counter (length (now (out .entry))) w) (flat (eraseBlock g w) counter) ⌝ }
+{
+    if layout::utils::operand_ok(g, w) {} else {
         return Answer::Operand;
     }
     let mut none = [0u8; 1];
-    let need = erase(&mut none, Cursor { at: 0, counter: 0 }, w);
+    let need = erase(&mut none, Cursor { at: 0, counter: 0 }, g, w);
     let answer = emit::answer::grant(counter, out.len(), need);
     if emit::answer::is_written(answer) {} else {
         return answer;
     }
-    erase(out, Cursor { at: 0, counter }, w);
+    erase(out, Cursor { at: 0, counter }, g, w);
     answer
 }
 
@@ -307,18 +319,25 @@ pub fn erase_block(out: &mut [u8], counter: u64, w: u64) -> Answer
 pub fn share_block_n(out: &mut [u8], counter: u64, w: u64, n: u64) -> Answer
     ensures { λ r. ⌜ Answers (now (out .entry)) (now (out .exit)) r (shareAnswer base counter (length (now (out .entry))) w n) (flat (shareBlock base w n) counter) ⌝ }
 {
-    if layout::utils::operand_ok(w) {} else {
+    share_block_n_in(out, layout::config::base(), counter, w, n)
+}
+
+fn share_block_n_in(out: &mut [u8], g: Shape, counter: u64, w: u64, n: u64) -> Answer
+    requires { ⌜ Supported g ⌝ }
+    ensures { λ r. ⌜ Answers (now (out .entry)) (now (out .exit)) r (shareAnswer g counter (length (now (out .entry))) w n) (flat (shareBlock g w n) counter) ⌝ }
+{
+    if layout::utils::operand_ok(g, w) {} else {
         return Answer::Operand;
     }
     if 2147483647 < n {
         return Answer::Count;
     }
     let mut none = [0u8; 1];
-    let need = share(&mut none, Cursor { at: 0, counter: 0 }, w, n);
+    let need = share(&mut none, Cursor { at: 0, counter: 0 }, g, w, n);
     let answer = emit::answer::grant(counter, out.len(), need);
     if emit::answer::is_written(answer) {} else {
         return answer;
     }
-    share(out, Cursor { at: 0, counter }, w, n);
+    share(out, Cursor { at: 0, counter }, g, w, n);
     answer
 }

@@ -11,7 +11,7 @@ use Rattle.emit.specs.declared.answer.Answer.{Answer}
 use Rattle.emit.specs.declared.answer.Answer.the-variants.{Operand}
 use Rattle.emit.specs.Answers.{causeOf}
 use Rattle.trees.specs.Tree.{flat}
-use Rattle.layout.specs.Config.{base}
+use Rattle.layout.specs.declared.config.Shape.{Shape}
 use Rattle.operations.specs.declared.operation.Operation.{Operation}
 use Rattle.operations.specs.declared.operation.Operation.the-variants.{Label, Jump, JumpLabel, JumpLabelFixed, JumpLabelIf, JumpLabelIfZero, LoadImmediate, LoadLabel, AddAndJump, Arithmetic, Mov, Compare, CompareImmediate}
 use Rattle.memory.specs.Blocks.{eraseBlock, shareBlock}
@@ -64,16 +64,16 @@ unfoldable pub operationNumbered : ℕ → ℕ → ℕ → ℕ → ℕ → ℕ �
 operationNumbered number x y z l value = getD (Label 0 ∷ operations x y z l value) number (Label 0)
 
 -- the answers and the records of memory.rs: 1 erase_block, 2 share_block_n, 3 store, 4 load; any other number is refused with 3
-unfoldable pub memoryAnswer : ℕ → ℕ → ℕ → ℕ → ℕ → List ℕ → List ℕ → Answer
-memoryAnswer number counter room w n context loaded =
-    cond (eqb number 1) (eraseAnswer base counter room w)
-    (cond (eqb number 2) (shareAnswer base counter room w n)
-    (cond (eqb number 3) (storeAnswer base counter room context n)
-    (cond (eqb number 4) (loadAnswer base counter room loaded context) Operand)))
+unfoldable pub memoryAnswer : Shape → ℕ → ℕ → ℕ → ℕ → ℕ → List ℕ → List ℕ → Answer
+memoryAnswer g number counter room w n context loaded =
+    cond (eqb number 1) (eraseAnswer g counter room w)
+    (cond (eqb number 2) (shareAnswer g counter room w n)
+    (cond (eqb number 3) (storeAnswer g counter room context n)
+    (cond (eqb number 4) (loadAnswer g counter room loaded context) Operand)))
 
-unfoldable pub memoryRecords : ℕ → ℕ → ℕ → ℕ → List ℕ → List ℕ → List Code
-memoryRecords number counter w n context loaded =
-    cond (eqb number 1) (flat (eraseBlock base w) counter)
-    (cond (eqb number 2) (flat (shareBlock base w n) counter)
-    (cond (eqb number 3) (flat (storeTree base context n) counter)
-    (cond (eqb number 4) (flat (loadTree base loaded context) counter) [])))
+unfoldable pub memoryRecords : Shape → ℕ → ℕ → ℕ → ℕ → List ℕ → List ℕ → List Code
+memoryRecords g number counter w n context loaded =
+    cond (eqb number 1) (flat (eraseBlock g w) counter)
+    (cond (eqb number 2) (flat (shareBlock g w n) counter)
+    (cond (eqb number 3) (flat (storeTree g context n) counter)
+    (cond (eqb number 4) (flat (loadTree g loaded context) counter) [])))

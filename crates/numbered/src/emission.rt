@@ -3,6 +3,7 @@ ghost use mathlib.Core.Path.{_≡_};
 ghost use mathlib.Core.List.{[], _∷_};
 ghost use lib.ListN.{length};
 ghost use Rattle.emit.specs.Answers.{Answers};
+ghost use Rattle.layout.specs.Config.{base};
 ghost use Rattle.numbered.specs.Emission.{answerNumbers, counterAfter, operationNumbered, memoryAnswer, memoryRecords};
 use code::emitters::Condition;
 use emit::answer::Answer;
@@ -107,7 +108,7 @@ pub fn memory(
     context: &[u8],
     loaded: &[u8],
 ) -> Answer
-    ensures { λ r. ⌜ Answers (now (out .entry)) (now (out .exit)) r (memoryAnswer operation counter (length (now (out .entry))) operand n (now (context .entry)) (now (loaded .entry))) (memoryRecords operation counter operand n (now (context .entry)) (now (loaded .entry))) ⌝ }
+    ensures { λ r. ⌜ Answers (now (out .entry)) (now (out .exit)) r (memoryAnswer base operation counter (length (now (out .entry))) operand n (now (context .entry)) (now (loaded .entry))) (memoryRecords base operation counter operand n (now (context .entry)) (now (loaded .entry))) ⌝ }
 {
     match operation {
         1 => memory::block::erase_block(out, counter, operand),

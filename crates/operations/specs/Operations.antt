@@ -10,13 +10,13 @@ use Rattle.trees.specs.Tree.{flat}
 use Rattle.emit.specs.declared.answer.Answer.{Answer}
 use Rattle.emit.specs.declared.answer.Answer.the-variants as answer
 use Rattle.emit.specs.Answers.{granted, Answers}
-use Rattle.layout.specs.Config.{Config, base}
+use Rattle.layout.specs.declared.config.Shape.{Shape}
 use Rattle.layout.specs.Positions.{operandOk}
 use Rattle.operations.specs.declared.operation.Operation.{Operation}
 use Rattle.operations.specs.declared.operation.Operation.the-variants.{Label, Jump, JumpLabel, JumpLabelFixed, JumpLabelIf, JumpLabelIfZero, LoadImmediate, LoadLabel, AddAndJump, Arithmetic, Mov, Compare, CompareImmediate}
 use Rattle.code.specs.Code.{compareWords, compareImmediate, loadImmediate, loadLabel, moved, arithmetic, jumpTo, addAndJump, jumpIfWords, jumpIfZero}
 
-module _ (g : Config) where
+module _ (g : Shape) where
   -- its records
   unfoldable pub recordsOf : Operation → List Code
   recordsOf (Label l) = LAB l ∷ []
@@ -54,5 +54,5 @@ module _ (g : Config) where
   answerOf room o = cond (operandsOk o) (granted 0 room (24 * length (recordsOf o)) 0) answer.Operand
 
 -- what an operation ensures of the output before and after, and of its answer
-abbrev pub Operates : List ℕ → List ℕ → Answer → Operation → Type 0
-Operates s s′ r o = Answers s s′ r (answerOf base (length s) o) (recordsOf base o)
+abbrev pub Operates : Shape → List ℕ → List ℕ → Answer → Operation → Type 0
+Operates g s s′ r o = Answers s s′ r (answerOf g (length s) o) (recordsOf g o)

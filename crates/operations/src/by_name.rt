@@ -1,6 +1,7 @@
 // The operations of code.rs by name, each an answer and its records in a lent output. An immediate is 64-bit two's complement.
 ghost use Rattle.records.specs.declared.order.Operation.the-variants.{Add, Sub, Mul, Div, Rem};
 ghost use Rattle.code.specs.declared.emitters.Condition.the-variants.{Equal, NotEqual, Less, LessOrEqual, Greater, GreaterOrEqual};
+ghost use Rattle.layout.specs.Config.{base};
 ghost use Rattle.operations.specs.declared.operation.Operation.the-variants.{Label, Jump, JumpLabel, JumpLabelFixed, JumpLabelIf, JumpLabelIfZero, LoadImmediate, LoadLabel, AddAndJump, Arithmetic, Mov, Compare, CompareImmediate};
 ghost use Rattle.operations.specs.Operations.{Operates};
 use crate::operation;
@@ -10,31 +11,31 @@ use emit::answer::Answer;
 use records::order;
 
 pub fn label(out: &mut [u8], name: u32) -> Answer
-    ensures { λ r. ⌜ Operates (now (out .entry)) (now (out .exit)) r (Label name) ⌝ }
+    ensures { λ r. ⌜ Operates base (now (out .entry)) (now (out .exit)) r (Label name) ⌝ }
 {
     operation::operate(out, Operation::Label(name))
 }
 
 pub fn jump(out: &mut [u8], temporary: u64) -> Answer
-    ensures { λ r. ⌜ Operates (now (out .entry)) (now (out .exit)) r (Jump temporary) ⌝ }
+    ensures { λ r. ⌜ Operates base (now (out .entry)) (now (out .exit)) r (Jump temporary) ⌝ }
 {
     operation::operate(out, Operation::Jump(temporary))
 }
 
 pub fn jump_label(out: &mut [u8], name: u32) -> Answer
-    ensures { λ r. ⌜ Operates (now (out .entry)) (now (out .exit)) r (JumpLabel name) ⌝ }
+    ensures { λ r. ⌜ Operates base (now (out .entry)) (now (out .exit)) r (JumpLabel name) ⌝ }
 {
     operation::operate(out, Operation::JumpLabel(name))
 }
 
 pub fn jump_label_fixed(out: &mut [u8], name: u32) -> Answer
-    ensures { λ r. ⌜ Operates (now (out .entry)) (now (out .exit)) r (JumpLabelFixed name) ⌝ }
+    ensures { λ r. ⌜ Operates base (now (out .entry)) (now (out .exit)) r (JumpLabelFixed name) ⌝ }
 {
     operation::operate(out, Operation::JumpLabelFixed(name))
 }
 
 pub fn jump_label_if_equal(out: &mut [u8], fst: u64, snd: u64, name: u32) -> Answer
-    ensures { λ r. ⌜ Operates (now (out .entry)) (now (out .exit)) r (JumpLabelIf Equal fst snd name) ⌝ }
+    ensures { λ r. ⌜ Operates base (now (out .entry)) (now (out .exit)) r (JumpLabelIf Equal fst snd name) ⌝ }
 {
     operation::operate(
         out,
@@ -43,7 +44,7 @@ pub fn jump_label_if_equal(out: &mut [u8], fst: u64, snd: u64, name: u32) -> Ans
 }
 
 pub fn jump_label_if_not_equal(out: &mut [u8], fst: u64, snd: u64, name: u32) -> Answer
-    ensures { λ r. ⌜ Operates (now (out .entry)) (now (out .exit)) r (JumpLabelIf NotEqual fst snd name) ⌝ }
+    ensures { λ r. ⌜ Operates base (now (out .entry)) (now (out .exit)) r (JumpLabelIf NotEqual fst snd name) ⌝ }
 {
     operation::operate(
         out,
@@ -52,13 +53,13 @@ pub fn jump_label_if_not_equal(out: &mut [u8], fst: u64, snd: u64, name: u32) ->
 }
 
 pub fn jump_label_if_less(out: &mut [u8], fst: u64, snd: u64, name: u32) -> Answer
-    ensures { λ r. ⌜ Operates (now (out .entry)) (now (out .exit)) r (JumpLabelIf Less fst snd name) ⌝ }
+    ensures { λ r. ⌜ Operates base (now (out .entry)) (now (out .exit)) r (JumpLabelIf Less fst snd name) ⌝ }
 {
     operation::operate(out, Operation::JumpLabelIf(Condition::Less, fst, snd, name))
 }
 
 pub fn jump_label_if_less_or_equal(out: &mut [u8], fst: u64, snd: u64, name: u32) -> Answer
-    ensures { λ r. ⌜ Operates (now (out .entry)) (now (out .exit)) r (JumpLabelIf LessOrEqual fst snd name) ⌝ }
+    ensures { λ r. ⌜ Operates base (now (out .entry)) (now (out .exit)) r (JumpLabelIf LessOrEqual fst snd name) ⌝ }
 {
     operation::operate(
         out,
@@ -67,7 +68,7 @@ pub fn jump_label_if_less_or_equal(out: &mut [u8], fst: u64, snd: u64, name: u32
 }
 
 pub fn jump_label_if_greater(out: &mut [u8], fst: u64, snd: u64, name: u32) -> Answer
-    ensures { λ r. ⌜ Operates (now (out .entry)) (now (out .exit)) r (JumpLabelIf Greater fst snd name) ⌝ }
+    ensures { λ r. ⌜ Operates base (now (out .entry)) (now (out .exit)) r (JumpLabelIf Greater fst snd name) ⌝ }
 {
     operation::operate(
         out,
@@ -76,7 +77,7 @@ pub fn jump_label_if_greater(out: &mut [u8], fst: u64, snd: u64, name: u32) -> A
 }
 
 pub fn jump_label_if_greater_or_equal(out: &mut [u8], fst: u64, snd: u64, name: u32) -> Answer
-    ensures { λ r. ⌜ Operates (now (out .entry)) (now (out .exit)) r (JumpLabelIf GreaterOrEqual fst snd name) ⌝ }
+    ensures { λ r. ⌜ Operates base (now (out .entry)) (now (out .exit)) r (JumpLabelIf GreaterOrEqual fst snd name) ⌝ }
 {
     operation::operate(
         out,
@@ -85,7 +86,7 @@ pub fn jump_label_if_greater_or_equal(out: &mut [u8], fst: u64, snd: u64, name: 
 }
 
 pub fn jump_label_if_zero(out: &mut [u8], temporary: u64, name: u32) -> Answer
-    ensures { λ r. ⌜ Operates (now (out .entry)) (now (out .exit)) r (JumpLabelIfZero Equal temporary name) ⌝ }
+    ensures { λ r. ⌜ Operates base (now (out .entry)) (now (out .exit)) r (JumpLabelIfZero Equal temporary name) ⌝ }
 {
     operation::operate(
         out,
@@ -94,7 +95,7 @@ pub fn jump_label_if_zero(out: &mut [u8], temporary: u64, name: u32) -> Answer
 }
 
 pub fn jump_label_if_not_zero(out: &mut [u8], temporary: u64, name: u32) -> Answer
-    ensures { λ r. ⌜ Operates (now (out .entry)) (now (out .exit)) r (JumpLabelIfZero NotEqual temporary name) ⌝ }
+    ensures { λ r. ⌜ Operates base (now (out .entry)) (now (out .exit)) r (JumpLabelIfZero NotEqual temporary name) ⌝ }
 {
     operation::operate(
         out,
@@ -103,7 +104,7 @@ pub fn jump_label_if_not_zero(out: &mut [u8], temporary: u64, name: u32) -> Answ
 }
 
 pub fn jump_label_if_less_zero(out: &mut [u8], temporary: u64, name: u32) -> Answer
-    ensures { λ r. ⌜ Operates (now (out .entry)) (now (out .exit)) r (JumpLabelIfZero Less temporary name) ⌝ }
+    ensures { λ r. ⌜ Operates base (now (out .entry)) (now (out .exit)) r (JumpLabelIfZero Less temporary name) ⌝ }
 {
     operation::operate(
         out,
@@ -112,7 +113,7 @@ pub fn jump_label_if_less_zero(out: &mut [u8], temporary: u64, name: u32) -> Ans
 }
 
 pub fn jump_label_if_less_or_equal_zero(out: &mut [u8], temporary: u64, name: u32) -> Answer
-    ensures { λ r. ⌜ Operates (now (out .entry)) (now (out .exit)) r (JumpLabelIfZero LessOrEqual temporary name) ⌝ }
+    ensures { λ r. ⌜ Operates base (now (out .entry)) (now (out .exit)) r (JumpLabelIfZero LessOrEqual temporary name) ⌝ }
 {
     operation::operate(
         out,
@@ -121,7 +122,7 @@ pub fn jump_label_if_less_or_equal_zero(out: &mut [u8], temporary: u64, name: u3
 }
 
 pub fn jump_label_if_greater_zero(out: &mut [u8], temporary: u64, name: u32) -> Answer
-    ensures { λ r. ⌜ Operates (now (out .entry)) (now (out .exit)) r (JumpLabelIfZero Greater temporary name) ⌝ }
+    ensures { λ r. ⌜ Operates base (now (out .entry)) (now (out .exit)) r (JumpLabelIfZero Greater temporary name) ⌝ }
 {
     operation::operate(
         out,
@@ -130,7 +131,7 @@ pub fn jump_label_if_greater_zero(out: &mut [u8], temporary: u64, name: u32) -> 
 }
 
 pub fn jump_label_if_greater_or_equal_zero(out: &mut [u8], temporary: u64, name: u32) -> Answer
-    ensures { λ r. ⌜ Operates (now (out .entry)) (now (out .exit)) r (JumpLabelIfZero GreaterOrEqual temporary name) ⌝ }
+    ensures { λ r. ⌜ Operates base (now (out .entry)) (now (out .exit)) r (JumpLabelIfZero GreaterOrEqual temporary name) ⌝ }
 {
     operation::operate(
         out,
@@ -139,25 +140,25 @@ pub fn jump_label_if_greater_or_equal_zero(out: &mut [u8], temporary: u64, name:
 }
 
 pub fn load_immediate(out: &mut [u8], temporary: u64, immediate: u64) -> Answer
-    ensures { λ r. ⌜ Operates (now (out .entry)) (now (out .exit)) r (LoadImmediate temporary immediate) ⌝ }
+    ensures { λ r. ⌜ Operates base (now (out .entry)) (now (out .exit)) r (LoadImmediate temporary immediate) ⌝ }
 {
     operation::operate(out, Operation::LoadImmediate(temporary, immediate))
 }
 
 pub fn load_label(out: &mut [u8], temporary: u64, name: u32) -> Answer
-    ensures { λ r. ⌜ Operates (now (out .entry)) (now (out .exit)) r (LoadLabel temporary name) ⌝ }
+    ensures { λ r. ⌜ Operates base (now (out .entry)) (now (out .exit)) r (LoadLabel temporary name) ⌝ }
 {
     operation::operate(out, Operation::LoadLabel(temporary, name))
 }
 
 pub fn add_and_jump(out: &mut [u8], temporary: u64, immediate: u64) -> Answer
-    ensures { λ r. ⌜ Operates (now (out .entry)) (now (out .exit)) r (AddAndJump temporary immediate) ⌝ }
+    ensures { λ r. ⌜ Operates base (now (out .entry)) (now (out .exit)) r (AddAndJump temporary immediate) ⌝ }
 {
     operation::operate(out, Operation::AddAndJump(temporary, immediate))
 }
 
 pub fn add(out: &mut [u8], target: u64, source_1: u64, source_2: u64) -> Answer
-    ensures { λ r. ⌜ Operates (now (out .entry)) (now (out .exit)) r (Arithmetic Add target source_1 source_2) ⌝ }
+    ensures { λ r. ⌜ Operates base (now (out .entry)) (now (out .exit)) r (Arithmetic Add target source_1 source_2) ⌝ }
 {
     operation::operate(
         out,
@@ -166,7 +167,7 @@ pub fn add(out: &mut [u8], target: u64, source_1: u64, source_2: u64) -> Answer
 }
 
 pub fn sub(out: &mut [u8], target: u64, source_1: u64, source_2: u64) -> Answer
-    ensures { λ r. ⌜ Operates (now (out .entry)) (now (out .exit)) r (Arithmetic Sub target source_1 source_2) ⌝ }
+    ensures { λ r. ⌜ Operates base (now (out .entry)) (now (out .exit)) r (Arithmetic Sub target source_1 source_2) ⌝ }
 {
     operation::operate(
         out,
@@ -175,7 +176,7 @@ pub fn sub(out: &mut [u8], target: u64, source_1: u64, source_2: u64) -> Answer
 }
 
 pub fn mul(out: &mut [u8], target: u64, source_1: u64, source_2: u64) -> Answer
-    ensures { λ r. ⌜ Operates (now (out .entry)) (now (out .exit)) r (Arithmetic Mul target source_1 source_2) ⌝ }
+    ensures { λ r. ⌜ Operates base (now (out .entry)) (now (out .exit)) r (Arithmetic Mul target source_1 source_2) ⌝ }
 {
     operation::operate(
         out,
@@ -184,7 +185,7 @@ pub fn mul(out: &mut [u8], target: u64, source_1: u64, source_2: u64) -> Answer
 }
 
 pub fn div(out: &mut [u8], target: u64, source_1: u64, source_2: u64) -> Answer
-    ensures { λ r. ⌜ Operates (now (out .entry)) (now (out .exit)) r (Arithmetic Div target source_1 source_2) ⌝ }
+    ensures { λ r. ⌜ Operates base (now (out .entry)) (now (out .exit)) r (Arithmetic Div target source_1 source_2) ⌝ }
 {
     operation::operate(
         out,
@@ -193,7 +194,7 @@ pub fn div(out: &mut [u8], target: u64, source_1: u64, source_2: u64) -> Answer
 }
 
 pub fn rem(out: &mut [u8], target: u64, source_1: u64, source_2: u64) -> Answer
-    ensures { λ r. ⌜ Operates (now (out .entry)) (now (out .exit)) r (Arithmetic Rem target source_1 source_2) ⌝ }
+    ensures { λ r. ⌜ Operates base (now (out .entry)) (now (out .exit)) r (Arithmetic Rem target source_1 source_2) ⌝ }
 {
     operation::operate(
         out,
@@ -202,19 +203,19 @@ pub fn rem(out: &mut [u8], target: u64, source_1: u64, source_2: u64) -> Answer
 }
 
 pub fn mov(out: &mut [u8], target: u64, source: u64) -> Answer
-    ensures { λ r. ⌜ Operates (now (out .entry)) (now (out .exit)) r (Mov target source) ⌝ }
+    ensures { λ r. ⌜ Operates base (now (out .entry)) (now (out .exit)) r (Mov target source) ⌝ }
 {
     operation::operate(out, Operation::Mov(target, source))
 }
 
 pub fn compare(out: &mut [u8], fst: u64, snd: u64) -> Answer
-    ensures { λ r. ⌜ Operates (now (out .entry)) (now (out .exit)) r (Compare fst snd) ⌝ }
+    ensures { λ r. ⌜ Operates base (now (out .entry)) (now (out .exit)) r (Compare fst snd) ⌝ }
 {
     operation::operate(out, Operation::Compare(fst, snd))
 }
 
 pub fn compare_immediate(out: &mut [u8], temporary: u64, immediate: u64) -> Answer
-    ensures { λ r. ⌜ Operates (now (out .entry)) (now (out .exit)) r (CompareImmediate temporary immediate) ⌝ }
+    ensures { λ r. ⌜ Operates base (now (out .entry)) (now (out .exit)) r (CompareImmediate temporary immediate) ⌝ }
 {
     operation::operate(out, Operation::CompareImmediate(temporary, immediate))
 }

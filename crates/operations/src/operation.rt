@@ -3,7 +3,7 @@ ghost use mathlib.Core.Path.{_≡_};
 ghost use mathlib.Core.Bool.{true, _&&_};
 ghost use Prim.Native.Nat.{_+_, _<_, _^_};
 ghost use Rattle.emit.specs.Emitted.{fieldsList, Emitted};
-ghost use Rattle.layout.specs.Config.{base};
+ghost use Rattle.layout.specs.Config.{Supported, base};
 ghost use Rattle.layout.specs.Positions.{operandOk};
 ghost use Rattle.operations.specs.Operations.{recordsOf, operandsOk, Operates};
 use code::emitters;
@@ -11,6 +11,7 @@ use code::emitters::Condition;
 use emit::answer::Answer;
 use emit::cursor::Cursor;
 use emit::cursor::Row;
+use layout::config::Shape;
 use records::number::JMPL;
 use records::number::JMPLN;
 use records::number::LAB;
@@ -43,73 +44,96 @@ fn both(x: bool, y: bool) -> bool
 }
 
 // Whether two words are operands that a caller may give.
-fn two_ok(x: u64, y: u64) -> bool
-    ensures { λ r. ⌜ r ≡ operandOk base x && operandOk base y ⌝ }
+fn two_ok(g: Shape, x: u64, y: u64) -> bool
+    ensures { λ r. ⌜ r ≡ operandOk g x && operandOk g y ⌝ }
 {
-    both(layout::utils::operand_ok(x), layout::utils::operand_ok(y))
+    both(
+        layout::utils::operand_ok(g, x),
+        layout::utils::operand_ok(g, y),
+    )
 }
 
 // Whether its operands are those that a caller may give, and its label one that a record may hold.
-fn operands_ok(operation: Operation) -> bool
-    ensures { λ r. ⌜ r ≡ operandsOk base operation ⌝ }
+fn operands_ok(g: Shape, operation: Operation) -> bool
+    ensures { λ r. ⌜ r ≡ operandsOk g operation ⌝ }
 {
     match operation {
         Operation::Label(l) => records::code::label_held(l),
-        Operation::Jump(w) => layout::utils::operand_ok(w),
+        Operation::Jump(w) => layout::utils::operand_ok(g, w),
         Operation::JumpLabel(l) => records::code::label_held(l),
         Operation::JumpLabelFixed(l) => records::code::label_held(l),
-        Operation::JumpLabelIf(_, x, y, l) => both(two_ok(x, y), records::code::label_held(l)),
+        Operation::JumpLabelIf(_, x, y, l) => both(two_ok(g, x, y), records::code::label_held(l)),
         Operation::JumpLabelIfZero(_, w, l) => both(
-            layout::utils::operand_ok(w),
+            layout::utils::operand_ok(g, w),
             records::code::label_held(l),
         ),
-        Operation::LoadImmediate(w, _) => layout::utils::operand_ok(w),
+        Operation::LoadImmediate(w, _) => layout::utils::operand_ok(g, w),
         Operation::LoadLabel(w, l) => both(
-            layout::utils::operand_ok(w),
+            layout::utils::operand_ok(g, w),
             records::code::label_held(l),
         ),
-        Operation::AddAndJump(w, _) => layout::utils::operand_ok(w),
-        Operation::Arithmetic(_, w, x, y) => both(layout::utils::operand_ok(w), two_ok(x, y)),
-        Operation::Mov(w, x) => two_ok(w, x),
-        Operation::Compare(x, y) => two_ok(x, y),
-        Operation::CompareImmediate(w, _) => layout::utils::operand_ok(w),
+        Operation::AddAndJump(w, _) => layout::utils::operand_ok(g, w),
+        Operation::Arithmetic(_, w, x, y) => both(layout::utils::operand_ok(g, w), two_ok(g, x, y)),
+        Operation::Mov(w, x) => two_ok(g, w, x),
+        Operation::Compare(x, y) => two_ok(g, x, y),
+        Operation::CompareImmediate(w, _) => layout::utils::operand_ok(g, w),
     }
 }
 
-fn emit_operation(out: &mut [u8], p: Cursor, operation: Operation) -> Cursor
-    requires { ⌜ (p .at + 216 < 2 ^ 64) × (operandsOk base operation ≡ true) ⌝ }
-    ensures { λ q. ⌜ Emitted (now (out .entry)) p (now (out .exit)) q (fieldsList (recordsOf base operation)) 0 ⌝ }
+fn emit_operation(out: &mut [u8], p: Cursor, g: Shape, operation: Operation) -> Cursor
+    requires { ⌜ (p .at + 216 < 2 ^ 64) × (operandsOk g operation ≡ true) × Supported g ⌝ }
+    ensures { λ q. ⌜ Emitted (now (out .entry)) p (now (out .exit)) q (fieldsList (recordsOf g operation)) 0 ⌝ }
 {
     match operation {
         Operation::Label(l) => emit::cursor::emit(out, p, Row(LAB, 0, 0, l, 0, 0)),
-        Operation::Jump(w) => emitters::emit_jump(out, p, w),
+        Operation::Jump(w) => emitters::emit_jump(out, p, g, w),
         Operation::JumpLabel(l) => emit::cursor::emit(out, p, Row(JMPL, 0, 0, l, 0, 0)),
         Operation::JumpLabelFixed(l) => emit::cursor::emit(out, p, Row(JMPLN, 0, 0, l, 0, 0)),
-        Operation::JumpLabelIf(k, x, y, l) => emitters::emit_jump_label_if(out, p, k, x, y, l),
-        Operation::JumpLabelIfZero(k, w, l) => emitters::emit_jump_label_if_zero(out, p, k, w, l),
-        Operation::LoadImmediate(w, value) => emitters::emit_load_immediate(out, p, w, value),
-        Operation::LoadLabel(w, l) => emitters::emit_load_label(out, p, w, l),
-        Operation::AddAndJump(w, value) => emitters::emit_add_and_jump(out, p, w, value),
-        Operation::Arithmetic(o, w, x, y) => emitters::emit_arithmetic(out, p, o, w, x, y),
-        Operation::Mov(w, x) => emitters::emit_mov(out, p, w, x),
-        Operation::Compare(x, y) => emitters::emit_compare(out, p, x, y),
-        Operation::CompareImmediate(w, value) => emitters::emit_compare_immediate(out, p, w, value),
+        Operation::JumpLabelIf(k, x, y, l) => emitters::emit_jump_label_if(out, p, g, k, x, y, l),
+        Operation::JumpLabelIfZero(k, w, l) => emitters::emit_jump_label_if_zero(
+            out,
+            p,
+            g,
+            k,
+            w,
+            l,
+        ),
+        Operation::LoadImmediate(w, value) => emitters::emit_load_immediate(out, p, g, w, value),
+        Operation::LoadLabel(w, l) => emitters::emit_load_label(out, p, g, w, l),
+        Operation::AddAndJump(w, value) => emitters::emit_add_and_jump(out, p, g, w, value),
+        Operation::Arithmetic(o, w, x, y) => emitters::emit_arithmetic(out, p, g, o, w, x, y),
+        Operation::Mov(w, x) => emitters::emit_mov(out, p, g, w, x),
+        Operation::Compare(x, y) => emitters::emit_compare(out, p, g, x, y),
+        Operation::CompareImmediate(w, value) => emitters::emit_compare_immediate(
+            out,
+            p,
+            g,
+            w,
+            value,
+        ),
     }
 }
 
 // No operation here draws a label: none takes a counter, and the answer's is 0.
 pub fn operate(out: &mut [u8], operation: Operation) -> Answer
-    ensures { λ r. ⌜ Operates (now (out .entry)) (now (out .exit)) r operation ⌝ }
+    ensures { λ r. ⌜ Operates base (now (out .entry)) (now (out .exit)) r operation ⌝ }
 {
-    if operands_ok(operation) {} else {
+    operate_in(out, layout::config::base(), operation)
+}
+
+fn operate_in(out: &mut [u8], g: Shape, operation: Operation) -> Answer
+    requires { ⌜ Supported g ⌝ }
+    ensures { λ r. ⌜ Operates g (now (out .entry)) (now (out .exit)) r operation ⌝ }
+{
+    if operands_ok(g, operation) {} else {
         return Answer::Operand;
     }
     let mut none = [0u8; 1];
-    let need = emit_operation(&mut none, Cursor { at: 0, counter: 0 }, operation);
+    let need = emit_operation(&mut none, Cursor { at: 0, counter: 0 }, g, operation);
     let answer = emit::answer::grant(0, out.len(), need);
     if emit::answer::is_written(answer) {} else {
         return answer;
     }
-    emit_operation(out, Cursor { at: 0, counter: 0 }, operation);
+    emit_operation(out, Cursor { at: 0, counter: 0 }, g, operation);
     answer
 }

@@ -9,12 +9,12 @@ use Rattle.trees.specs.Tree.{seq}
 use Rattle.emit.specs.declared.cursor.Cursor.{Cursor}
 use Rattle.emit.specs.Emitted.{Emits}
 use Rattle.emit.specs.Laws.{emits-nop}
-use Rattle.layout.specs.Config.{base}
+use Rattle.layout.specs.declared.config.Shape.{Shape}
 use Rattle.orders.specs.Writes.{copyVariable, copyTo}
 
-pub next-copy : (ext : Bool) (a v n : ℕ) → 0 < n → copyTo base ext a v n ≡ seq (copyVariable base ext a v) (copyTo base ext a (v + 1) (n - 1))
-next-copy ext a v zero h = absurd (omega arith)
-next-copy ext a v (suc n) h = let e : suc n - 1 ≡ n = omega arith in rw (e, add-one v)
+pub next-copy : (g : Shape) (ext : Bool) (a v n : ℕ) → 0 < n → copyTo g ext a v n ≡ seq (copyVariable g ext a v) (copyTo g ext a (v + 1) (n - 1))
+next-copy g ext a v zero h = absurd (omega arith)
+next-copy g ext a v (suc n) h = let e : suc n - 1 ≡ n = omega arith in rw (e, add-one v)
 
-pub none-copied : {o : List ℕ} {p : Cursor} (ext : Bool) (a v : ℕ) {n : ℕ} → n ≡ 0 → Emits o p o p (copyTo base ext a v n)
-none-copied ext a v e = rw e emits-nop
+pub none-copied : {o : List ℕ} {p : Cursor} (g : Shape) (ext : Bool) (a v : ℕ) {n : ℕ} → n ≡ 0 → Emits o p o p (copyTo g ext a v n)
+none-copied g ext a v e = rw e emits-nop

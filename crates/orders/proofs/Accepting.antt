@@ -13,7 +13,8 @@ use Rattle.records.specs.Contexts.{checkedContext}
 use Rattle.records.specs.Orders.{orderStarts}
 use Rattle.records.proofs.Conditions.{chosen, passed}
 use Rattle.trees.specs.Tree.{Tree, labels, size}
-use Rattle.layout.specs.Config.{base}
+use Rattle.layout.specs.declared.config.Shape.{Shape}
+use Rattle.layout.specs.Config.{positions}
 use Rattle.orders.specs.declared.answer.Answer.{Answer}
 use Rattle.orders.specs.declared.answer.Answer.the-variants.{Accepted, Malformed, Missing, Kind, Count, Position, Labels, Room}
 use Rattle.orders.specs.Writes.{wanted, countOk, treeOf, contextAfter, present, kindsOk, asked}
@@ -23,18 +24,18 @@ use Rattle.orders.specs.Answered.{Asked, accepted, orderIs, granted, dec
 abbrev pub acceptance : Asked → Tree → List ℕ → Answer
 acceptance q t after = Accepted (size t) (q .counter + labels t) (length after / 8)
 
-pub record Taken (context : List ℕ) (q : Asked) (k : ℕ) : Type 0 where
+pub record Taken (G : Shape) (context : List ℕ) (q : Asked) (k : ℕ) : Type 0 where
   pub bindings-good : checkedContext (q .bindings) ≡ checked.Good (wanted (orderIs q))
   pub starts : orderStarts (q .order) ≡ true
   pub alone : eqb (length (q .order)) 24 ≡ true
   pub there : present context k (q .bindings) (orderIs q) ≡ true
   pub of-kind : kindsOk context k (q .bindings) (orderIs q) ≡ true
   pub counted : countOk (orderIs q) ≡ true
-  pub placed : asked context k (q .bindings) (orderIs q) ≤ 267
-  pub labelled : q .counter + labels (treeOf base context k (q .bindings) (orderIs q)) ≤ 2147483647
-  pub records-fit : 24 * size (treeOf base context k (q .bindings) (orderIs q)) ≤ q .recordsRoom
+  pub placed : asked context k (q .bindings) (orderIs q) ≤ positions G
+  pub labelled : q .counter + labels (treeOf G context k (q .bindings) (orderIs q)) ≤ 2147483647
+  pub records-fit : 24 * size (treeOf G context k (q .bindings) (orderIs q)) ≤ q .recordsRoom
   pub context-fits : length (contextAfter context k (q .bindings) (orderIs q)) ≤ q .contextRoom
-  pub answer : answerTo base context q ≡ acceptance q (treeOf base context k (q .bindings) (orderIs q)) (contextAfter context k (q .bindings) (orderIs q))
+  pub answer : answerTo G context q ≡ acceptance q (treeOf G context k (q .bindings) (orderIs q)) (contextAfter context k (q .bindings) (orderIs q))
 
 on-good : (c : Checked) (f : ℕ → Answer) → accepted (onContext c f) ≡ true → (k : ℕ) × (c ≡ checked.Good k) × (accepted (f k) ≡ true)
 on-good (checked.Good k) f e = (k, refl, e)
@@ -59,51 +60,51 @@ module _ (q : Asked) (t : Tree) (after : List ℕ) where
         answer = rw (a .0, b .0, c .0);
       }
 
-module _ (context : List ℕ) (q : Asked) (k : ℕ) where
+module _ (G : Shape) (context : List ℕ) (q : Asked) (k : ℕ) where
   pub record Decided : Type 0 where
     pub there : present context k (q .bindings) (orderIs q) ≡ true
     pub of-kind : kindsOk context k (q .bindings) (orderIs q) ≡ true
     pub counted : countOk (orderIs q) ≡ true
-    pub placed : asked context k (q .bindings) (orderIs q) ≤ 267
-    pub grants : Granted q (treeOf base context k (q .bindings) (orderIs q)) (contextAfter context k (q .bindings) (orderIs q))
-    pub answer : decided base context k q ≡ acceptance q (treeOf base context k (q .bindings) (orderIs q)) (contextAfter context k (q .bindings) (orderIs q))
+    pub placed : asked context k (q .bindings) (orderIs q) ≤ positions G
+    pub grants : Granted q (treeOf G context k (q .bindings) (orderIs q)) (contextAfter context k (q .bindings) (orderIs q))
+    pub answer : decided G context k q ≡ acceptance q (treeOf G context k (q .bindings) (orderIs q)) (contextAfter context k (q .bindings) (orderIs q))
 
-  decided-if : accepted (decided base context k q) ≡ true → Decided
+  decided-if : accepted (decided G context k q) ≡ true → Decided
   decided-if e =
       let a = chosen accepted (present context k (q .bindings) (orderIs q)) _ Missing refl e in
       let b = chosen accepted (kindsOk context k (q .bindings) (orderIs q)) _ Kind refl (a .1) in
       let c = chosen accepted (countOk (orderIs q)) _ Count refl (b .1) in
-      let d = chosen accepted (leb (asked context k (q .bindings) (orderIs q)) 267) _ Position refl (c .1) in
-      let g = granted-if q (treeOf base context k (q .bindings) (orderIs q)) (contextAfter context k (q .bindings) (orderIs q)) (d .1) in
+      let d = chosen accepted (leb (asked context k (q .bindings) (orderIs q)) (positions G)) _ Position refl (c .1) in
+      let g = granted-if q (treeOf G context k (q .bindings) (orderIs q)) (contextAfter context k (q .bindings) (orderIs q)) (d .1) in
       record {
         there = a .0;
         of-kind = b .0;
         counted = c .0;
-        placed = leb-true (asked context k (q .bindings) (orderIs q)) 267 (d .0);
+        placed = leb-true (asked context k (q .bindings) (orderIs q)) (positions G) (d .0);
         grants = g;
         answer = rw (a .0, b .0, c .0, d .0) (g .answer);
       }
 
 -- an order that passes 1 and 2
-all-passed : (context : List ℕ) (q : Asked) {k m : ℕ} → checkedContext context ≡ checked.Good k → checkedContext (q .bindings) ≡ checked.Good m → orderStarts (q .order) ≡ true
-    → eqb m (wanted (orderIs q)) ≡ true → eqb (length (q .order)) 24 ≡ true → answerTo base context q ≡ decided base context k q
+all-passed : (G : Shape) (context : List ℕ) (q : Asked) {k m : ℕ} → checkedContext context ≡ checked.Good k → checkedContext (q .bindings) ≡ checked.Good m → orderStarts (q .order) ≡ true
+    → eqb m (wanted (orderIs q)) ≡ true → eqb (length (q .order)) 24 ≡ true → answerTo G context q ≡ decided G context k q
 unfolding answerTo
-all-passed context q c b s n w = rw (c, b, s, n, w)
+all-passed G context q c b s n w = rw (c, b, s, n, w)
 
-pub good-context : (context : List ℕ) (q : Asked) → accepted (answerTo base context q) ≡ true → (k : ℕ) × (checkedContext context ≡ checked.Good k)
+pub good-context : (G : Shape) (context : List ℕ) (q : Asked) → accepted (answerTo G context q) ≡ true → (k : ℕ) × (checkedContext context ≡ checked.Good k)
 unfolding answerTo
-good-context context q e = let a = on-good (checkedContext context) _ e in (a .0, a .1)
+good-context G context q e = let a = on-good (checkedContext context) _ e in (a .0, a .1)
 
-pub taken : (context : List ℕ) (q : Asked) (k : ℕ) → checkedContext context ≡ checked.Good k → accepted (answerTo base context q) ≡ true → Taken context q k
+pub taken : (G : Shape) (context : List ℕ) (q : Asked) (k : ℕ) → checkedContext context ≡ checked.Good k → accepted (answerTo G context q) ≡ true → Taken G context q k
 unfolding answerTo
-taken context q k good e =
+taken G context q k good e =
     let a = on-good (checkedContext context) _ e in
     let same : a .0 ≡ k = good-same (sym (a .1) ∙ good) in
     let b = on-good (checkedContext (q .bindings)) _ (a .2) in
     let c = chosen accepted (orderStarts (q .order)) _ (Malformed 1) refl (b .2) in
     let d = chosen accepted (eqb (b .0) (wanted (orderIs q))) _ (Malformed 1) refl (c .1) in
     let f = chosen accepted (eqb (length (q .order)) 24) _ (Malformed 2) refl (d .1) in
-    let g = decided-if context q k (rw same at (f .1)) in
+    let g = decided-if G context q k (rw same at (f .1)) in
     record {
       bindings-good = b .1 ∙ ap checked.Good (eqb-true (b .0) (wanted (orderIs q)) (d .0));
       starts = c .0;
@@ -115,7 +116,7 @@ taken context q k good e =
       labelled = g .grants .labelled;
       records-fit = g .grants .records-fit;
       context-fits = g .grants .context-fits;
-      answer = all-passed context q good (b .1) (c .0) (d .0) (f .0) ∙ g .answer;
+      answer = all-passed G context q good (b .1) (c .0) (d .0) (f .0) ∙ g .answer;
     }
   where
     good-same : {j : ℕ} → checked.Good j ≡ checked.Good k → j ≡ k

@@ -13,8 +13,8 @@ use Rattle.records.specs.Contexts.{checkedContext}
 use Rattle.records.specs.Orders.{orderOf, orderIn, orderStarts}
 use Rattle.records.specs.ReadBack.{joined, codeBytes}
 use Rattle.trees.specs.Tree.{Tree, labels, size, flat}
-use Rattle.layout.specs.Config.{Config}
-use Rattle.layout.specs.Positions.{positions}
+use Rattle.layout.specs.declared.config.Shape.{Shape}
+use Rattle.layout.specs.Config.{positions}
 use Rattle.memory.specs.Answered.{variablesIn}
 use Rattle.orders.specs.declared.answer.Answer.{Answer}
 use Rattle.orders.specs.declared.answer.Answer.the-variants.{Accepted, Context, Malformed, Missing, Kind, Count, Position, Labels, Room}
@@ -64,7 +64,7 @@ abbrev pub placesIn : List ℕ → ℕ
 placesIn context = variablesIn (checkedContext context)
 
 -- the records of an order as a tree, and the context after it
-abbrev pub orderTree : Config → List ℕ → Asked → Tree
+abbrev pub orderTree : Shape → List ℕ → Asked → Tree
 orderTree g context q = treeOf g context (placesIn context) (q .bindings) (orderIs q)
 
 abbrev pub orderContext : List ℕ → Asked → List ℕ
@@ -78,7 +78,7 @@ granted q t after =
     (cond (ltb (q .contextRoom) (length after)) (Room (length after)) (Accepted (size t) (q .counter + labels t) (length after / 8))))
 
 -- 4 to 10, for a well-formed order on k variables
-abbrev pub decided : Config → List ℕ → ℕ → Asked → Answer
+abbrev pub decided : Shape → List ℕ → ℕ → Asked → Answer
 decided g context k q =
     cond (present context k (q .bindings) (orderIs q))
     (cond (kindsOk context k (q .bindings) (orderIs q))
@@ -92,7 +92,7 @@ onContext (checked.Good k) answer = answer k
 onContext (checked.Malformed place) answer = Context
 
 -- 1 for the context and the bindings, 2 for the order: record 1, the number of its bindings, a record too many
-unfoldable pub answerTo : Config → List ℕ → Asked → Answer
+unfoldable pub answerTo : Shape → List ℕ → Asked → Answer
 answerTo g context q =
     onContext (checkedContext context)
     (λ k. onContext (checkedContext (q .bindings))
@@ -103,12 +103,12 @@ answerTo g context q =
     (Malformed 1)))
 
 -- the records' bytes
-abbrev pub recordsOf : Config → List ℕ → Asked → List ℕ
+abbrev pub recordsOf : Shape → List ℕ → Asked → List ℕ
 recordsOf g context q = joined codeBytes (flat (orderTree g context q) (q .counter))
 
 -- the two outputs: what is written from their start where the order is accepted, else as they were
-abbrev pub recordsOutput : Config → List ℕ → Asked → List ℕ → List ℕ
+abbrev pub recordsOutput : Shape → List ℕ → Asked → List ℕ → List ℕ
 recordsOutput g context q o = cond (accepted (answerTo g context q)) (sets o 0 (recordsOf g context q)) o
 
-abbrev pub contextOutput : Config → List ℕ → Asked → List ℕ → List ℕ
+abbrev pub contextOutput : Shape → List ℕ → Asked → List ℕ → List ℕ
 contextOutput g context q o = cond (accepted (answerTo g context q)) (sets o 0 (orderContext context q)) o

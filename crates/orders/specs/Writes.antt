@@ -11,7 +11,7 @@ use Rattle.records.specs.declared.order.Order.{Order}
 use Rattle.records.specs.declared.order.Order.the-variants.{Put, Compute, Copy, Drop, Store, Load, Print}
 use Rattle.records.specs.Contexts.{bindingBytes, extAt}
 use Rattle.trees.specs.Tree.{Tree, nop, seq}
-use Rattle.layout.specs.Config.{Config}
+use Rattle.layout.specs.declared.config.Shape.{Shape}
 use Rattle.code.specs.Code.{loadImmediate, moved, arithmetic}
 use Rattle.memory.specs.Blocks.{eraseBlock, shareBlock}
 use Rattle.memory.specs.Objects.{fst, snd, extIn, storeObject, loadObject}
@@ -45,7 +45,7 @@ countOk (Store n tag) = true
 countOk (Load n) = true
 countOk (Print newline a) = true
 
-module _ (g : Config) where
+module _ (g : Shape) where
   -- variable a into variable v: an integer's Snd alone, else Fst before Snd
   abbrev pub copyVariable : Bool → ℕ → ℕ → Tree
   copyVariable ext a v = cond ext (moved g (snd v) (snd a)) (seq (moved g (fst v) (fst a)) (moved g (snd v) (snd a)))

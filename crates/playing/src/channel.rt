@@ -2,11 +2,13 @@
 ghost use mathlib.Core.Path.{_≡_};
 ghost use Prim.Native.Nat.{ℕ, _*_, _≤_};
 ghost use lib.ListN.{length, replicate, take};
+ghost use Rattle.layout.specs.Config.{base, blockWords};
 ghost use Rattle.instructions.specs.View.{wordsOf};
 ghost use Rattle.machine.specs.State.{see};
 ghost use Rattle.machine.specs.Run.{ran, Leaves};
 ghost use Rattle.answering.specs.Answers as answering;
 ghost use Rattle.playing.specs.Playing as is;
+use layout::config;
 use machine::run::Ran;
 use machine::state::State;
 use orders::answer::Answer;
@@ -27,7 +29,7 @@ pub struct Played {
 
 // With which a list of orders starts, on a zeroed heap.
 pub fn fresh() -> Channel
-    ensures { λ r. ⌜ ((blocks : ℕ) → is.channelOf r (replicate (8 * blocks) 0) ≡ is.fresh blocks) ⌝ }
+    ensures { λ r. ⌜ ((blocks : ℕ) → is.channelOf r (replicate (blockWords base * blocks) 0) ≡ is.fresh base blocks) ⌝ }
 {
     Channel {
         used: 0,
@@ -46,7 +48,7 @@ fn ask(
     order: &[u8],
     bindings: &[u8],
 ) -> Answer
-    ensures { λ r. ⌜ answering.AnswersOrder (take used (now (context .entry))) (answering.asking (now (order .entry)) (now (bindings .entry)) counter (now («records_out» .entry)) (now («context_out» .entry))) r (now («records_out» .entry)) (now («records_out» .exit)) (now («context_out» .entry)) (now («context_out» .exit)) ⌝ }
+    ensures { λ r. ⌜ answering.AnswersOrder base (take used (now (context .entry))) (answering.asking (now (order .entry)) (now (bindings .entry)) counter (now («records_out» .entry)) (now («context_out» .entry))) r (now («records_out» .entry)) (now («records_out» .exit)) (now («context_out» .entry)) (now («context_out» .exit)) ⌝ }
 {
     if used <= context.len() {
         return answering::order::order(
@@ -64,10 +66,11 @@ fn ask(
 // The first `count` records run, with their number as the step limit.
 fn run_records(records: &[u8], count: usize, state: State, heap: &mut [u64], words: [u64; 9]) -> Ran
     requires { ⌜ 24 * count ≤ length (now records) ⌝ }
-    ensures { λ r. ⌜ Leaves (r .answer) (see (r .state) (now (heap .exit))) (ran (wordsOf words) (take (24 * count) (now (records .entry))) count (see state (now (heap .entry)))) ⌝ }
+    ensures { λ r. ⌜ Leaves (r .answer) (see (r .state) (now (heap .exit))) (ran (blockWords base) (wordsOf words) (take (24 * count) (now (records .entry))) count (see state (now (heap .entry)))) ⌝ }
 {
     let end = 24 * count;
-    machine::run::run(&records[..end], state, heap, words, count as u64)
+    let block = config::block_words(config::base()) as usize;
+    machine::run::run(block, &records[..end], state, heap, words, count as u64)
 }
 
 // An order's bytes and the bindings that follow it, played on a channel: its records go into `records_out`, and run on the heap.
@@ -80,7 +83,7 @@ pub fn play(
     bindings: &[u8],
     words: [u64; 9],
 ) -> Played
-    ensures { λ r. ⌜ is.Plays (is.channelOf channel (now (heap .entry))) (is.asking (now (order .entry)) (now (bindings .entry)) counter (now («records_out» .entry))) (wordsOf words) (is.channelOf (r .channel) (now (heap .exit))) (r .answer) (r .ran) (now («records_out» .entry)) (now («records_out» .exit)) ⌝ }
+    ensures { λ r. ⌜ is.Plays base (is.channelOf channel (now (heap .entry))) (is.asking base (now (order .entry)) (now (bindings .entry)) counter (now («records_out» .entry))) (wordsOf words) (is.channelOf (r .channel) (now (heap .exit))) (r .answer) (r .ran) (now («records_out» .entry)) (now («records_out» .exit)) ⌝ }
 {
     let context = channel.context;
     let state = channel.state;

@@ -7,7 +7,7 @@ use lib.Seq.{sets}
 use Rattle.records.specs.declared.code.Code.{Code}
 use Rattle.emit.specs.declared.answer.Answer.{Answer}
 use Rattle.emit.specs.Answers.{accepted, output}
-use Rattle.layout.specs.Config.{base}
+use Rattle.layout.specs.declared.config.Shape.{Shape}
 use Rattle.routine.specs.Routine.{routineBytes}
 use Rattle.numbered.specs.Emission.{answerNumbers}
 
@@ -17,6 +17,6 @@ pub record Tells (o o′ : List ℕ) (number value : ℕ) (expected : Answer) (c
   pub bytes : o′ ≡ output expected o cs
 
 -- the same for a routine
-pub record TellsRoutine (o o′ : List ℕ) (number value : ℕ) (expected : Answer) (n : ℕ) (body : List ℕ) : Type 0 where
+pub record TellsRoutine (g : Shape) (o o′ : List ℕ) (number value : ℕ) (expected : Answer) (n : ℕ) (body : List ℕ) : Type 0 where
   pub numbers : number ∷ value ∷ [] ≡ answerNumbers expected
-  pub bytes : o′ ≡ cond (accepted expected) (sets o 0 (routineBytes base n body)) o
+  pub bytes : o′ ≡ cond (accepted expected) (sets o 0 (routineBytes g n body)) o

@@ -3,16 +3,16 @@ use Prim.Native.Nat.{ℕ}
 use mathlib.Core.Bool.{Bool, cond}
 use mathlib.Core.List.{List}
 use lib.Dec.{eqb}
-use Rattle.layout.specs.Config.{base}
+use Rattle.layout.specs.declared.config.Shape.{Shape}
 use Rattle.layout.specs.Positions.{positionAnswer}
 use Rattle.layout.specs.Queries.{freshTemporary, variableTemporary, spillOffset, fieldOffset}
 use Rattle.numbered.specs.Numbers.{unknown}
 use Rattle.numbered.specs.Query.{temporaryNumbers, offsetNumbers, halfOf}
 
 -- the queries: 1 position, 2 fresh_temporary, 3 variable_temporary, 4 stack_offset, 5 field_offset; any other number is refused
-unfoldable pub queryNumbers : ℕ → Bool → ℕ → ℕ → List ℕ → List ℕ
-queryNumbers query second at id context =
-    cond (eqb query 1) (temporaryNumbers (positionAnswer base at))
-    (cond (eqb query 2) (temporaryNumbers (freshTemporary base (halfOf second) context))
-    (cond (eqb query 3) (temporaryNumbers (variableTemporary base (halfOf second) context id))
-    (cond (eqb query 4) (offsetNumbers (spillOffset base at)) (cond (eqb query 5) (offsetNumbers (fieldOffset base (halfOf second) at)) unknown))))
+unfoldable pub queryNumbers : Shape → ℕ → Bool → ℕ → ℕ → List ℕ → List ℕ
+queryNumbers g query second at id context =
+    cond (eqb query 1) (temporaryNumbers (positionAnswer g at))
+    (cond (eqb query 2) (temporaryNumbers (freshTemporary g (halfOf second) context))
+    (cond (eqb query 3) (temporaryNumbers (variableTemporary g (halfOf second) context id))
+    (cond (eqb query 4) (offsetNumbers (spillOffset g at)) (cond (eqb query 5) (offsetNumbers (fieldOffset g (halfOf second) at)) unknown))))

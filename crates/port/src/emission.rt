@@ -48,8 +48,8 @@ pub extern "C" fn axcut_memory(
     out: &mut [u8],
     value: &mut u64,
 ) -> u64
-    ensures answer { λ r. ⌜ Tells (now (out .entry)) (now (out .exit)) r (now (value .exit)) (memoryAnswer operation (now (counter .entry)) (length (now (out .entry))) operand n (now (context .entry)) (now (loaded .entry))) (memoryRecords operation (now (counter .entry)) operand n (now (context .entry)) (now (loaded .entry))) ⌝ }
-    ensures counter { λ r. ⌜ now (counter .exit) ≡ counterAfter (now (counter .entry)) (memoryAnswer operation (now (counter .entry)) (length (now (out .entry))) operand n (now (context .entry)) (now (loaded .entry))) ⌝ }
+    ensures answer { λ r. ⌜ Tells (now (out .entry)) (now (out .exit)) r (now (value .exit)) (memoryAnswer base operation (now (counter .entry)) (length (now (out .entry))) operand n (now (context .entry)) (now (loaded .entry))) (memoryRecords base operation (now (counter .entry)) operand n (now (context .entry)) (now (loaded .entry))) ⌝ }
+    ensures counter { λ r. ⌜ now (counter .exit) ≡ counterAfter (now (counter .entry)) (memoryAnswer base operation (now (counter .entry)) (length (now (out .entry))) operand n (now (context .entry)) (now (loaded .entry))) ⌝ }
 {
     let before = *counter;
     let answer = numbered::emission::memory(out, operation, before, operand, n, context, loaded);
@@ -79,7 +79,7 @@ pub extern "C" fn axcut_routine(
     out: &mut [u8],
     value: &mut u64,
 ) -> u64
-    ensures { λ r. ⌜ TellsRoutine (now (out .entry)) (now (out .exit)) r (now (value .exit)) (routineAnswer base (length (now (out .entry))) arguments (now (body .entry))) arguments (now (body .entry)) ⌝ }
+    ensures { λ r. ⌜ TellsRoutine base (now (out .entry)) (now (out .exit)) r (now (value .exit)) (routineAnswer base (length (now (out .entry))) arguments (now (body .entry))) arguments (now (body .entry)) ⌝ }
 {
     let answer = routine::into_routine::into_x86_64_routine(out, body, arguments);
     numbered::emission::told(answer, value)

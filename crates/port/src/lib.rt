@@ -9,7 +9,7 @@ ghost use Rattle.machine.specs.Run.{ran};
 ghost use Rattle.numbered.specs.Numbers.{numberIn, valueIn};
 ghost use Rattle.numbered.specs.List.{listedNumbers};
 ghost use Prim.Native.Nat.{_/_};
-ghost use Rattle.layout.specs.Config.{HEAP, FREE};
+ghost use Rattle.layout.specs.Config.{base, blockWords, HEAP, FREE};
 ghost use Rattle.chains.specs.Blocks.{counted, fitIn};
 ghost use Rattle.port.specs.Blocks.{blockNumbers};
 ghost use Rattle.port.specs.Run.{startState, Gives};
@@ -19,6 +19,8 @@ pub mod emission; // the operations of code.rs, memory.rs and into_routine.rs
 pub mod query; // the queries of utils.rs and config.rs
 pub mod order; // the seven orders
 
+use layout::config;
+use machine::state::DEPTH;
 use machine::state::State;
 
 // The listing of at most 2,730 records: its bytes, the place of a bad record, or the bytes needed.
@@ -33,7 +35,7 @@ pub extern "C" fn axcut_list(records: &[u8], text: &mut [u8], value: &mut u64) -
 }
 
 fn start(fresh: bool) -> State
-    ensures { λ r. ⌜ r ≡ startState fresh ⌝ }
+    ensures { λ r. ⌜ r ≡ startState base fresh ⌝ }
 {
     if fresh {
         machine::state::fresh()
@@ -44,9 +46,9 @@ fn start(fresh: bool) -> State
 
 // The state with which a routine is entered, or that a list of orders starts from.
 #[no_mangle]
-pub extern "C" fn axcut_start(fresh: bool, registers: &mut [u64; 16], stack: &mut [u64; 320])
-    ensures registers { λ r. ⌜ now (registers .exit) ≡ startState fresh .registers ⌝ }
-    ensures stack { λ r. ⌜ now (stack .exit) ≡ startState fresh .stack ⌝ }
+pub extern "C" fn axcut_start(fresh: bool, registers: &mut [u64; 16], stack: &mut [u64; DEPTH])
+    ensures registers { λ r. ⌜ now (registers .exit) ≡ startState base fresh .registers ⌝ }
+    ensures stack { λ r. ⌜ now (stack .exit) ≡ startState base fresh .stack ⌝ }
 {
     let state = start(fresh);
     let words = state.registers;
@@ -60,14 +62,14 @@ pub extern "C" fn axcut_start(fresh: bool, registers: &mut [u64; 16], stack: &mu
 pub extern "C" fn axcut_run(
     records: &[u8],
     registers: &mut [u64; 16],
-    stack: &mut [u64; 320],
+    stack: &mut [u64; DEPTH],
     heap: &mut [u64],
     words: &[u64; 9],
     limit: u64,
     steps: &mut u64,
     place: &mut u64,
 ) -> u64
-    ensures { λ r. ⌜ Gives r (now (steps .exit)) (now (place .exit)) (view (now (registers .exit)) (now (stack .exit)) (now (heap .exit))) (ran (wordsOf (now (words .entry))) (now (records .entry)) limit (view (now (registers .entry)) (now (stack .entry)) (now (heap .entry)))) ⌝ }
+    ensures { λ r. ⌜ Gives r (now (steps .exit)) (now (place .exit)) (view (now (registers .exit)) (now (stack .exit)) (now (heap .exit))) (ran (blockWords base) (wordsOf (now (words .entry))) (now (records .entry)) limit (view (now (registers .entry)) (now (stack .entry)) (now (heap .entry)))) ⌝ }
 {
     let taken = *registers;
     let held = *stack;
@@ -75,7 +77,8 @@ pub extern "C" fn axcut_run(
         registers: taken,
         stack: held,
     };
-    let ran = machine::run::run_lent(records, state, heap, *words, limit);
+    let block = config::block_words(config::base()) as usize;
+    let ran = machine::run::run_lent(block, records, state, heap, *words, limit);
     let left = ran.state;
     let after = left.registers;
     let below = left.stack;
@@ -88,7 +91,7 @@ pub extern "C" fn axcut_run(
 // The blocks of a channel's heap between two runs, counted, and the most that were reachable at once.
 #[no_mangle]
 pub extern "C" fn axcut_blocks(registers: &[u64; 16], heap: &[u64], counts: &mut [u64; 5])
-    ensures { λ r. ⌜ now (counts .exit) ≡ blockNumbers (counted (length (now (heap .entry)) / 8) (wordsOf (now (heap .entry))) (wordsOf (now (registers .entry)) HEAP) (wordsOf (now (registers .entry)) FREE)) (fitIn 3 (length (now (heap .entry)) / 8) (wordsOf (now (heap .entry))) (wordsOf (now (registers .entry)) FREE)) ⌝ }
+    ensures { λ r. ⌜ now (counts .exit) ≡ blockNumbers (counted (base .fields) (length (now (heap .entry)) / blockWords base) (wordsOf (now (heap .entry))) (wordsOf (now (registers .entry)) HEAP) (wordsOf (now (registers .entry)) FREE)) (fitIn (base .fields) (length (now (heap .entry)) / blockWords base) (wordsOf (now (heap .entry))) (wordsOf (now (registers .entry)) FREE)) ⌝ }
 {
     let blocks = chains::count_blocks(registers, heap);
     let fit = chains::to_fit(registers, heap);

@@ -1,6 +1,7 @@
 // Where variables and fields stand, for C and Rust: the queries of utils.rs and config.rs.
 ghost use mathlib.Core.Path.{_≡_};
 ghost use mathlib.Core.List.{[], _∷_};
+ghost use Rattle.layout.specs.Config.{base};
 ghost use Rattle.port.specs.Query.{queryNumbers};
 
 // 1 the operand of a position, 2 the fresh temporary past a context, 3 the temporary of a variable by its id, 4 a spill's offset from STACK,
@@ -14,7 +15,7 @@ pub extern "C" fn axcut_query(
     context: &[u8],
     value: &mut u64,
 ) -> u64
-    ensures { λ r. ⌜ r ∷ now (value .exit) ∷ [] ≡ queryNumbers query second at id (now (context .entry)) ⌝ }
+    ensures { λ r. ⌜ r ∷ now (value .exit) ∷ [] ≡ queryNumbers base query second at id (now (context .entry)) ⌝ }
 {
     let half = numbered::query::half_of(second);
     match query {

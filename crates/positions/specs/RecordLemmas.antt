@@ -1,16 +1,18 @@
 -- What a record does, by its form: a move, a sum or a compare, of registers, spills and words of a block.
 use mathlib.Core.Path.{_≡_, refl, ap}
 use mathlib.Core.Option.{some}
-use Prim.Native.Nat.{ℕ, _+_, _*_, _≤_, _<_}
+use Prim.Native.Nat.{ℕ, _*_, _≤_, _<_}
 use Rattle.records.specs.declared.code.Code.the-variants.{ADDI, ADDIM, MOV, MOVS, MOVL, MOVI, MOVIM, CMPI, CMPIM}
 use Rattle.word.specs.Words.{sum}
 use Rattle.trees.specs.Tree.{leaf}
-use Rattle.layout.specs.Config.{base, stackOffset}
+use Rattle.layout.specs.declared.config.Shape.{Shape}
+use Rattle.layout.specs.Config.{operands, blockWords, stackOffset}
 use Rattle.instructions.specs.declared.memory.Loaded.the-variants.{Word}
 use Rattle.instructions.specs.View.{View}
 use Rattle.instructions.specs.Memory.{Operand, register, memory, valueOf, assigned}
 use Rattle.instructions.specs.Step.{Config, moved, changed, dropped, next, move, arithmetic, compare, step}
 use Rattle.structured.specs.Evaluation.{evaluate, evaluated, done}
+use Rattle.heap.specs.Words.{wordAt}
 use Rattle.positions.specs.Held.{held, withRegister, withSpill, withHeap, withPair, Placed, blockAddress}
 use Rattle.positions.specs.PlaceLemmas.{block-read, block-written, spill-read, spill-written}
 
@@ -42,42 +44,42 @@ module _ (words : ℕ → ℕ) where
   unfolding step
   register-compared c a x = refl
 
-  module _ {N : ℕ} (c : Config) (v : Placed N c) where
+  module _ {G : Shape} {N : ℕ} (c : Config) (v : Placed G N c) where
     -- word w of block j, whose address register r holds
-    module _ (r j o w : ℕ) (p : c .state .reg r ≡ blockAddress j) (h : j < N) (q : o ≡ 8 * w) (f : w < 8) where
-      pub block-MOVL : (a : ℕ) → evaluate words (leaf (MOVL a r o) refl) c ≡ done (withRegister c a (c .state .mem (8 * j + w)))
+    module _ (r j o w : ℕ) (p : c .state .reg r ≡ blockAddress G j) (h : j < N) (q : o ≡ 8 * w) (f : w < blockWords G) where
+      pub block-MOVL : (a : ℕ) → evaluate words (leaf (MOVL a r o) refl) c ≡ done (withRegister c a (c .state .mem (wordAt (G .fields) j w)))
       unfolding step
       block-MOVL a = ap evaluated (moves c (register a) (memory r o) (block-read (c .state) v r j o w p h q f) refl)
 
-      pub block-MOVS : (a : ℕ) → evaluate words (leaf (MOVS a r o) refl) c ≡ done (withHeap c (8 * j + w) (c .state .reg a))
+      pub block-MOVS : (a : ℕ) → evaluate words (leaf (MOVS a r o) refl) c ≡ done (withHeap c (wordAt (G .fields) j w) (c .state .reg a))
       unfolding step
       block-MOVS a = ap evaluated (moves c (memory r o) (register a) refl (block-written (c .state) v r j o w p h q f (c .state .reg a)))
 
-      pub block-MOVIM : (x : ℕ) → evaluate words (leaf (MOVIM r o x) refl) c ≡ done (withHeap c (8 * j + w) x)
+      pub block-MOVIM : (x : ℕ) → evaluate words (leaf (MOVIM r o x) refl) c ≡ done (withHeap c (wordAt (G .fields) j w) x)
       unfolding step
       block-MOVIM x = rw (block-written (c .state) v r j o w p h q f x)
 
-      pub block-ADDIM : (x : ℕ) → evaluate words (leaf (ADDIM r o x) refl) c ≡ done (dropped (withHeap c (8 * j + w) (sum (c .state .mem (8 * j + w)) x)))
+      pub block-ADDIM : (x : ℕ) → evaluate words (leaf (ADDIM r o x) refl) c ≡ done (dropped (withHeap c (wordAt (G .fields) j w) (sum (c .state .mem (wordAt (G .fields) j w)) x)))
       unfolding step
-      block-ADDIM x = rw (block-read (c .state) v r j o w p h q f, block-written (c .state) v r j o w p h q f (sum (c .state .mem (8 * j + w)) x))
+      block-ADDIM x = rw (block-read (c .state) v r j o w p h q f, block-written (c .state) v r j o w p h q f (sum (c .state .mem (wordAt (G .fields) j w)) x))
 
-      pub block-compared : (x : ℕ) → step words (CMPIM r o x) c ≡ next (withPair c (c .state .mem (8 * j + w)) x)
+      pub block-compared : (x : ℕ) → step words (CMPIM r o x) c ≡ next (withPair c (c .state .mem (wordAt (G .fields) j w)) x)
       unfolding step
       block-compared x = rw (block-read (c .state) v r j o w p h q f)
 
-    module _ (l : ℕ) (a : 16 ≤ l) (b : l < 272) where
-      pub spill-MOVL : (x : ℕ) → evaluate words (leaf (MOVL x 0 (stackOffset base l)) refl) c ≡ done (withRegister c x (held c l))
+    module _ (l : ℕ) (a : 16 ≤ l) (b : l < operands G) where
+      pub spill-MOVL : (x : ℕ) → evaluate words (leaf (MOVL x 0 (stackOffset G l)) refl) c ≡ done (withRegister c x (held c l))
       unfolding step
       spill-MOVL x = rw (spill-read (c .state) v l a b)
 
-      pub spill-MOVS : (x : ℕ) → evaluate words (leaf (MOVS x 0 (stackOffset base l)) refl) c ≡ done (withSpill c l (c .state .reg x))
+      pub spill-MOVS : (x : ℕ) → evaluate words (leaf (MOVS x 0 (stackOffset G l)) refl) c ≡ done (withSpill c l (c .state .reg x))
       unfolding step
       spill-MOVS x = rw (spill-written (c .state) v l a b (c .state .reg x))
 
-      pub spill-MOVIM : (x : ℕ) → evaluate words (leaf (MOVIM 0 (stackOffset base l) x) refl) c ≡ done (withSpill c l x)
+      pub spill-MOVIM : (x : ℕ) → evaluate words (leaf (MOVIM 0 (stackOffset G l) x) refl) c ≡ done (withSpill c l x)
       unfolding step
       spill-MOVIM x = rw (spill-written (c .state) v l a b x)
 
-      pub spill-compared : (x : ℕ) → step words (CMPIM 0 (stackOffset base l) x) c ≡ next (withPair c (held c l) x)
+      pub spill-compared : (x : ℕ) → step words (CMPIM 0 (stackOffset G l) x) c ≡ next (withPair c (held c l) x)
       unfolding step
       spill-compared x = rw (spill-read (c .state) v l a b)

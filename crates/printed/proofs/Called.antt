@@ -1,5 +1,5 @@
 -- STACK brought to a multiple of 16 and back, and the call between.
-use Prim.Native.Nat.{ℕ, suc, _-_, _%_, _≤_, _<_}
+use Prim.Native.Nat.{ℕ, suc, _+_, _%_, _≤_, _<_}
 use mathlib.Core.Path.{_≡_, refl, ap, _∙_}
 use mathlib.Core.Logic.{_≢_}
 use mathlib.Core.Bool.{Bool, true, false, cond}
@@ -28,54 +28,50 @@ pub record Shifted (n : ℕ) (d e : Config) : Type 0 where
   pub stack-at : e .state .reg 0 ≡ stackAddress n
   pub others : (j : ℕ) → j ≢ 0 → e .state .reg j ≡ d .state .reg j
   pub stack-kept : e .state .stk ≡ d .state .stk
-  pub beside : (o : View) (z : List Call) → Beside o z d → Beside o z e
+  pub beside : (B : ℕ) (o : View) (z : List Call) → Beside B o z d → Beside B o z e
 
 -- the stack's word at a call, where STACK was at word n
 abbrev pub atCall : Bool → ℕ → ℕ
-atCall even n = choose even (n - 1) n
+atCall even n = choose even (suc n) n
 
 shifted : (d : Config) (n : ℕ) → Shifted n d (changed d (putReg (d .state) 0 (stackAddress n)))
 shifted d n = record {
   stack-at = upd-same (d .state .reg) 0 (stackAddress n);
   others = λ j k. upd-other (d .state .reg) 0 (stackAddress n) j k;
   stack-kept = refl;
-  beside = λ o z b. b;
+  beside = λ B o z b. b;
 }
 
 unshifted : (d : Config) (n : ℕ) → d .state .reg 0 ≡ stackAddress n → Shifted n d d
-unshifted d n e = record { stack-at = e; others = λ j k. refl; stack-kept = refl; beside = λ o z b. b }
+unshifted d n e = record { stack-at = e; others = λ j k. refl; stack-kept = refl; beside = λ B o z b. b }
 
-module _ (words : ℕ → ℕ) (d : Config) (n : ℕ) (h : 0 < n) (k : n < 320) where
+module _ (words : ℕ → ℕ) (d : Config) (n : ℕ) (h : n < 1024) where
   pub lowers : (even : Bool) → d .state .reg 0 ≡ stackAddress n → Does words (cond even (leaf (SUBI STACK 8) refl) nop) d (Shifted (atCall even n) d)
   unfolding step
-  lowers true s =
-      let e : n ≡ suc (n - 1) = omega arith in
-      one {d = changed d (putReg (d .state) 0 (stackAddress (n - 1)))} (rw (s ∙ ap stackAddress e, lowered (n - 1) (omega arith))) (shifted d (n - 1))
+  lowers true s = one {d = changed d (putReg (d .state) 0 (stackAddress (suc n)))} (rw (s, lowered n h)) (shifted d (suc n))
   lowers false s = one refl (unshifted d n s)
 
   pub raises : (even : Bool) → d .state .reg 0 ≡ stackAddress (atCall even n) → Does words (cond even (leaf (ADDI STACK 8) refl) nop) d (Shifted n d)
   unfolding step
-  raises true s =
-      let e : suc (n - 1) ≡ n = omega arith in
-      one {d = changed d (putReg (d .state) 0 (stackAddress n))} (rw (s, raised (n - 1) (omega arith), e)) (shifted d n)
+  raises true s = one {d = changed d (putReg (d .state) 0 (stackAddress n))} (rw (s, raised n h)) (shifted d n)
   raises false s = one refl (unshifted d n s)
 
--- after m pushes from word 57 on
-pub aligned-at : (m : ℕ) → m ≤ 8 → stackAddress (atCall (eqb (m % 2) 0) (57 - m)) % 16 ≡ 0
-aligned-at m h = by (eqb (m % 2) 0) refl
+-- after m pushes from word B on
+pub aligned-at : (B m : ℕ) → B % 2 ≡ 0 → B + m < 1023 → stackAddress (atCall (eqb (m % 2) 0) (B + m)) % 16 ≡ 0
+aligned-at B m o h = by (eqb (m % 2) 0) refl
   where
-    by : (even : Bool) → eqb (m % 2) 0 ≡ even → stackAddress (atCall even (57 - m)) % 16 ≡ 0
-    by true e = let q : m % 2 ≡ 0 = eqb-true (m % 2) 0 e in aligned (57 - m - 1) (omega arith)
-    by false e = let q : m % 2 ≢ 0 = eqb-false (m % 2) 0 e in aligned (57 - m) (omega arith)
+    by : (even : Bool) → eqb (m % 2) 0 ≡ even → stackAddress (atCall even (B + m)) % 16 ≡ 0
+    by true e = let q : m % 2 ≡ 0 = eqb-true (m % 2) 0 e in aligned (suc (B + m)) (omega arith) (omega arith)
+    by false e = let q : m % 2 ≢ 0 = eqb-false (m % 2) 0 e in aligned (B + m) (omega arith) (omega arith)
 
 abbrev pub callOf : Bool → ℕ → Call
 callOf newline w = record { name = printName newline; number = w }
 
-pub record Called (o : View) (z : List Call) (newline : Bool) (w : ℕ) (registers stack : ℕ → ℕ) (e : Config) : Type 0 where
+pub record Called (B : ℕ) (o : View) (z : List Call) (newline : Bool) (w : ℕ) (registers stack : ℕ → ℕ) (e : Config) : Type 0 where
   pub reserved : (j : ℕ) → j ≢ 1 → j < 4 → e .state .reg j ≡ registers j
   pub high : (j : ℕ) → 12 ≤ j → e .state .reg j ≡ registers j
   pub stack-kept : e .state .stk ≡ stack
-  pub beside : Beside o (z ++ (callOf newline w ∷ [])) e
+  pub beside : Beside B o (z ++ (callOf newline w ∷ [])) e
 
 -- what the call leaves, where STACK is a multiple of 16
 call-is : (words : ℕ → ℕ) (newline : Bool) (c : Config) → c .state .reg 0 % 16 ≡ 0
@@ -101,9 +97,9 @@ module _ (words : ℕ → ℕ) (s : View) where
       )
 
 -- the word w in register x
-pub call-does : (words : ℕ → ℕ) (o : View) (z : List Call) (newline : Bool) (x w : ℕ) (d : Config) → d .state .reg 0 % 16 ≡ 0 → d .state .reg x ≡ w → Beside o z d
-    → Does words (seq (leaf (MOV 7 x) refl) (leaf (CALL (printName newline)) refl)) d (Called o z newline w (d .state .reg) (d .state .stk))
-call-does words o z newline x w d e q b =
+pub call-does : (words : ℕ → ℕ) (B : ℕ) (o : View) (z : List Call) (newline : Bool) (x w : ℕ) (d : Config) → d .state .reg 0 % 16 ≡ 0 → d .state .reg x ≡ w → Beside B o z d
+    → Does words (seq (leaf (MOV 7 x) refl) (leaf (CALL (printName newline)) refl)) d (Called B o z newline w (d .state .reg) (d .state .stk))
+call-does words B o z newline x w d e q b =
     let y : ℕ = d .state .reg x in
     let c : Config = withRegister d 7 y in
     go (register-MOV words d 7 x)
@@ -114,6 +110,7 @@ call-does words o z newline x w d e q b =
       beside = record {
         spills = b .spills;
         heap-kept = b .heap-kept;
+        depth-kept = b .depth-kept;
         size-kept = b .size-kept;
         calls-are = ap (λ (l : List Call). l ++ (callOf newline y ∷ [])) (b .calls-are) ∙ ap (λ (v : ℕ). z ++ (callOf newline v ∷ [])) q;
       };

@@ -7,8 +7,9 @@ use mathlib.Core.Bool.{Bool, false}
 use mathlib.Core.List.{List, [], _∷_, _++_}
 use Rattle.records.specs.declared.check.Checked.the-variants.{Good}
 use Rattle.records.specs.Contexts.{checkedContext, extAt}
-use Rattle.layout.specs.Config.{base, STACK, HEAP, FREE}
-use Rattle.layout.specs.Positions.{location, positions}
+use Rattle.layout.specs.declared.config.Shape.{Shape}
+use Rattle.layout.specs.Config.{Supported, STACK, HEAP, FREE, operands, positions}
+use Rattle.layout.specs.Positions.{location}
 use Rattle.printing.specs.Print.{printName, printRecords}
 use Rattle.instructions.specs.View.{View}
 use Rattle.instructions.specs.Step.{Config}
@@ -16,23 +17,24 @@ use Rattle.positions.specs.Held.{held}
 use Rattle.meaning.specs.Claims.{fresh, Ready, EndsWith}
 
 -- from c to d a word was printed, and the n variables of these kinds and the heap are as they were
-pub record Prints (newline : Bool) (word : ℕ) (ext : ℕ → Bool) (n : ℕ) (c d : Config) : Type 0 where
+pub record Prints (G : Shape) (newline : Bool) (word : ℕ) (ext : ℕ → Bool) (n : ℕ) (c d : Config) : Type 0 where
   -- one call more, of the print asked for
   pub called : d .calls ≡ c .calls ++ (record { name = printName newline; number = word } ∷ [])
-  pub snd-kept : (v : ℕ) → v < n → 2 * v + 1 < positions base → held d (location (2 * v + 1)) ≡ held c (location (2 * v + 1))
-  pub fst-kept : (v : ℕ) → v < n → 2 * v < positions base → ext v ≡ false → held d (location (2 * v)) ≡ held c (location (2 * v))
-  -- spills 0..255, of variables or not
-  pub spills-kept : (l : ℕ) → 16 ≤ l → l < 272 → held d l ≡ held c l
+  pub snd-kept : (v : ℕ) → v < n → 2 * v + 1 < positions G → held d (location (2 * v + 1)) ≡ held c (location (2 * v + 1))
+  pub fst-kept : (v : ℕ) → v < n → 2 * v < positions G → ext v ≡ false → held d (location (2 * v)) ≡ held c (location (2 * v))
+  -- the frame's spills, of variables or not
+  pub spills-kept : (l : ℕ) → 16 ≤ l → l < operands G → held d l ≡ held c l
   pub stack-kept : d .state .reg STACK ≡ c .state .reg STACK
   pub HEAP-kept : d .state .reg HEAP ≡ c .state .reg HEAP
   pub FREE-kept : d .state .reg FREE ≡ c .state .reg FREE
   pub heap-kept : d .state .mem ≡ c .state .mem
   pub size-kept : d .state .size ≡ c .state .size
+  pub depth-kept : d .state .depth ≡ c .state .depth
 
 -- the bytes that print_i64 writes for any position of a context of n variables, run in a state that operations run in
 unfoldable pub PrintKeepsAllVariables : Type 0
 PrintKeepsAllVariables =
-    (words : ℕ → ℕ) (v : View) (context : List ℕ) (n p : ℕ) (newline : Bool) → Ready v
-    → checkedContext context ≡ Good n → p < 2 * n → p < positions base
-    → EndsWith words (printRecords base newline (location p) context (checkedContext context)) v
-    (Prints newline (held (fresh v) (location p)) (extAt context) n (fresh v))
+    (G : Shape) → Supported G → (words : ℕ → ℕ) (v : View) (context : List ℕ) (n p : ℕ) (newline : Bool) → Ready G v
+    → checkedContext context ≡ Good n → p < 2 * n → p < positions G
+    → EndsWith G words (printRecords G newline (location p) context (checkedContext context)) v
+    (Prints G newline (held (fresh v) (location p)) (extAt context) n (fresh v))

@@ -11,13 +11,13 @@ use Rattle.emit.specs.declared.answer.Answer.{Answer}
 use Rattle.emit.specs.declared.cursor.Cursor.{Cursor}
 use Rattle.emit.specs.Answers.{granted, Answers}
 use Rattle.emit.specs.Emitted.{Emits}
-use Rattle.layout.specs.Config.{Config}
+use Rattle.layout.specs.declared.config.Shape.{Shape}
 use Rattle.printing.specs.Registers.{registersToSave, setOf, members, firstBackup, backupsUsed}
 use Rattle.printing.specs.Print.{printSaving, printI64}
 use Rattle.printing.proofs.Sets.{ones-members, members-saved}
 
 -- the set is that of the registers to save, and its ones say how many go to free registers
-pub printed : {o o′ : List ℕ} {p q : Cursor} (g : Config) (newline : Bool) (w : ℕ) (ext : ℕ → Bool) (n : ℕ) {set first used : ℕ} → set < 65536
+pub printed : {o o′ : List ℕ} {p q : Cursor} (g : Shape) (newline : Bool) (w : ℕ) (ext : ℕ → Bool) (n : ℕ) {set first used : ℕ} → set < 65536
     → set ≡ setOf (registersToSave ext n) → first ≡ firstBackup n → used ≡ backupsUsed n (ones set)
     → Emits o p o′ q (printSaving g newline w first used (members 16 set))
     → Emits o p o′ q (printI64 g newline w ext n)

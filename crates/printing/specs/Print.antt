@@ -15,7 +15,8 @@ use Rattle.trees.specs.Tree.{Tree, straight, nop, leaf, seq, size, flat}
 use Rattle.emit.specs.declared.answer.Answer.{Answer}
 use Rattle.emit.specs.declared.answer.Answer.the-variants.{Context, Operand}
 use Rattle.emit.specs.Answers.{granted, Answers}
-use Rattle.layout.specs.Config.{Config, base, STACK, TEMP, stackOffset}
+use Rattle.layout.specs.declared.config.Shape.{Shape}
+use Rattle.layout.specs.Config.{STACK, TEMP, stackOffset}
 use Rattle.layout.specs.Positions.{operandOk}
 use Rattle.printing.specs.Registers.{registersToSave, firstBackup, backupsUsed}
 
@@ -53,7 +54,7 @@ restoreRegisters f used rs =
     seq (movesBack f (take used rs)) (seq (ifEven (length rs - used) (ADDI STACK 8) refl) (pops (drop used rs)))
 
 -- a source in a spill goes to TEMP before STACK is changed
-abbrev pub sourceToTemp : Config → ℕ → Tree
+abbrev pub sourceToTemp : Shape → ℕ → Tree
 sourceToTemp g w = cond (ltb w 16) nop (leaf (MOVL TEMP STACK (stackOffset g w)) refl)
 
 -- where the source is at the call
@@ -69,27 +70,27 @@ abbrev pub callPrint : Bool → ℕ → Tree
 callPrint newline w = seq (leaf (MOV 7 (sourceRegister w)) refl) (leaf (CALL (printName newline)) refl)
 
 -- the call with the registers rs saved around it
-abbrev pub printSaving : Config → Bool → ℕ → ℕ → ℕ → List ℕ → Tree
+abbrev pub printSaving : Shape → Bool → ℕ → ℕ → ℕ → List ℕ → Tree
 printSaving g newline w f used rs =
     seq (sourceToTemp g w) (seq (saveRegisters f used rs) (seq (callPrint newline w) (restoreRegisters f used rs)))
 
 -- print_i64 of the operand w, in a context of n variables
-abbrev pub printI64 : Config → Bool → ℕ → (ℕ → Bool) → ℕ → Tree
+abbrev pub printI64 : Shape → Bool → ℕ → (ℕ → Bool) → ℕ → Tree
 printI64 g newline w ext n =
     printSaving g newline w (firstBackup n) (backupsUsed n (length (registersToSave ext n))) (registersToSave ext n)
 
 -- its answer for an output of so many bytes, where the context's check came out so
-abbrev pub printAnswer : Config → ℕ → Bool → ℕ → List ℕ → Checked → Answer
+abbrev pub printAnswer : Shape → ℕ → Bool → ℕ → List ℕ → Checked → Answer
 printAnswer g room newline w s (Good n) =
     cond (operandOk g w) (granted 0 room (24 * size (printI64 g newline w (extAt s) n)) 0) Operand
 printAnswer g room newline w s (Malformed place) = Context
 
 -- its records
-abbrev pub printRecords : Config → Bool → ℕ → List ℕ → Checked → List Code
+abbrev pub printRecords : Shape → Bool → ℕ → List ℕ → Checked → List Code
 printRecords g newline w s (Good n) = flat (printI64 g newline w (extAt s) n) 0
 printRecords g newline w s (Malformed place) = []
 
 -- what print_i64 ensures of the output before and after, and of its answer, in the context s
-abbrev pub Prints : List ℕ → List ℕ → Answer → Bool → ℕ → List ℕ → Type 0
-Prints o o′ r newline w s =
-    Answers o o′ r (printAnswer base (length o) newline w s (checkedContext s)) (printRecords base newline w s (checkedContext s))
+abbrev pub Prints : Shape → List ℕ → List ℕ → Answer → Bool → ℕ → List ℕ → Type 0
+Prints g o o′ r newline w s =
+    Answers o o′ r (printAnswer g (length o) newline w s (checkedContext s)) (printRecords g newline w s (checkedContext s))

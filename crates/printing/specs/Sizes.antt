@@ -9,7 +9,8 @@ use lib.ListN.{length, length-append, take, drop}
 use Rattle.records.specs.declared.code.Code.{Code}
 use Rattle.records.specs.declared.code.Code.the-variants.{ADDI, SUBI, MOVL}
 use Rattle.trees.specs.Tree.{straight, nop, leaf, labels, size}
-use Rattle.layout.specs.Config.{Config, STACK, TEMP, stackOffset}
+use Rattle.layout.specs.declared.config.Shape.{Shape}
+use Rattle.layout.specs.Config.{STACK, TEMP, stackOffset}
 use Rattle.printing.specs.Registers.{registersOf, registersTo, registersToSave, firstBackup, backupsUsed}
 use Rattle.printing.specs.Print.{moves, movesBack, pushes, pops, ifEven, saveRegisters, restoreRegisters, sourceToTemp, printSaving, printI64}
 
@@ -59,7 +60,7 @@ restore-size f u rs =
     let e = even-size (length rs - u) (ADDI STACK 8) refl in
     (omega arith, omega (arith, parts u rs))
 
-module _ (g : Config) where
+module _ (g : Shape) where
   pub source-size : (w : ℕ) → (labels (sourceToTemp g w) ≡ 0) × (size (sourceToTemp g w) ≤ 1)
   source-size w = neither (ltb w 16) (MOVL TEMP STACK (stackOffset g w)) refl
 
@@ -80,7 +81,7 @@ registers-most ext zero = omega arith
 registers-most ext (suc k) = omega (arith, length-append (registersTo ext k) (registersOf (ext k) k), own-most (ext k) k, registers-most ext k)
 
 -- no labels, and at most 21 records
-pub print-size : (g : Config) (newline : Bool) (w : ℕ) (ext : ℕ → Bool) (n : ℕ) → (labels (printI64 g newline w ext n) ≡ 0) × (size (printI64 g newline w ext n) ≤ 21)
+pub print-size : (g : Shape) (newline : Bool) (w : ℕ) (ext : ℕ → Bool) (n : ℕ) → (labels (printI64 g newline w ext n) ≡ 0) × (size (printI64 g newline w ext n) ≤ 21)
 print-size g newline w ext n =
     let rs = registersToSave ext n in
     let z = saving-size g newline w (firstBackup n) (backupsUsed n (length rs)) rs in

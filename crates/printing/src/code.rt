@@ -6,7 +6,7 @@ ghost use Rattle.records.specs.declared.check.Checked.the-variants.{Good};
 ghost use Rattle.records.specs.Contexts.{extAt};
 ghost use Rattle.emit.specs.Answers.{Answers};
 ghost use Rattle.emit.specs.Emitted.{Emits};
-ghost use Rattle.layout.specs.Config.{base};
+ghost use Rattle.layout.specs.Config.{Supported, base, operands};
 ghost use Rattle.printing.specs.Print.{sourceToTemp, sourceRegister, printName, callPrint, printI64, printAnswer, printRecords, Prints};
 use crate::registers;
 use crate::save;
@@ -14,6 +14,7 @@ use emit::answer::Answer;
 use emit::cursor::Cursor;
 use emit::cursor::Row;
 use layout::config::STACK;
+use layout::config::Shape;
 use layout::config::TEMP;
 use records::check::Checked;
 use records::number::CALL;
@@ -28,14 +29,14 @@ const PRINTLN_I64: u32 = 2147483651;
 const ARG_0: u8 = 7;
 
 // A source in a spill goes to TEMP before STACK is changed.
-fn source_to_temp(out: &mut [u8], p: Cursor, w: u64) -> Cursor
-    requires { ⌜ (p .at + 24 < 2 ^ 64) × (w < 272) ⌝ }
-    ensures { λ q. ⌜ Emits (now (out .entry)) p (now (out .exit)) q (sourceToTemp base w) ⌝ }
+fn source_to_temp(out: &mut [u8], p: Cursor, g: Shape, w: u64) -> Cursor
+    requires { ⌜ (p .at + 24 < 2 ^ 64) × (w < operands g) × Supported g ⌝ }
+    ensures { λ q. ⌜ Emits (now (out .entry)) p (now (out .exit)) q (sourceToTemp g w) ⌝ }
 {
     if w < 16 {
         return p;
     }
-    let offset = layout::offset::spill_offset(w);
+    let offset = layout::offset::spill_offset(g, w);
     emit::cursor::emit(out, p, Row(MOVL, TEMP, STACK, 0, offset, 0))
 }
 
@@ -69,34 +70,43 @@ fn call_print(out: &mut [u8], p: Cursor, newline: bool, w: u64) -> Cursor
 pub fn emit_print_i64(
     out: &mut [u8],
     p: Cursor,
+    g: Shape,
     newline: bool,
     w: u64,
     context: &[u8],
     n: usize,
 ) -> Cursor
-    requires { ⌜ (p .at + 1272 < 2 ^ 64) × (w < 272) × (8 * n ≤ length (now context)) × (n ≤ 4096) ⌝ }
-    ensures { λ q. ⌜ Emits (now (out .entry)) p (now (out .exit)) q (printI64 base newline w (extAt (now (context .entry))) n) ⌝ }
+    requires { ⌜ (p .at + 1272 < 2 ^ 64) × (w < operands g) × (8 * n ≤ length (now context)) × (n ≤ 4096) × Supported g ⌝ }
+    ensures { λ q. ⌜ Emits (now (out .entry)) p (now (out .exit)) q (printI64 g newline w (extAt (now (context .entry))) n) ⌝ }
 {
     let set = registers::registers_to_save(context, n);
     let first = registers::first_backup_register(n);
     let used = registers::backup_registers_used(n, u16::count_ones(set) as u64);
-    let q1 = source_to_temp(out, p, w);
+    let q1 = source_to_temp(out, p, g, w);
     let q2 = save::save_caller_save_registers(out, q1, set, first, used);
     let q3 = call_print(out, q2, newline, w);
     save::restore_caller_save_registers(out, q3, set, first, used)
 }
 
-fn print_checked(out: &mut [u8], newline: bool, w: u64, context: &[u8], n: usize) -> Answer
-    requires { ⌜ (8 * n ≤ length (now context)) × (n ≤ 4096) ⌝ }
-    ensures { λ r. ⌜ Answers (now (out .entry)) (now (out .exit)) r (printAnswer base (length (now (out .entry))) newline w (now (context .entry)) (Good n)) (printRecords base newline w (now (context .entry)) (Good n)) ⌝ }
+fn print_checked(
+    out: &mut [u8],
+    g: Shape,
+    newline: bool,
+    w: u64,
+    context: &[u8],
+    n: usize,
+) -> Answer
+    requires { ⌜ (8 * n ≤ length (now context)) × (n ≤ 4096) × Supported g ⌝ }
+    ensures { λ r. ⌜ Answers (now (out .entry)) (now (out .exit)) r (printAnswer g (length (now (out .entry))) newline w (now (context .entry)) (Good n)) (printRecords g newline w (now (context .entry)) (Good n)) ⌝ }
 {
-    if layout::utils::operand_ok(w) {} else {
+    if layout::utils::operand_ok(g, w) {} else {
         return Answer::Operand;
     }
     let mut none = [0u8; 1];
     let need = emit_print_i64(
         &mut none,
         Cursor { at: 0, counter: 0 },
+        g,
         newline,
         w,
         context,
@@ -106,16 +116,23 @@ fn print_checked(out: &mut [u8], newline: bool, w: u64, context: &[u8], n: usize
     if emit::answer::is_written(answer) {} else {
         return answer;
     }
-    emit_print_i64(out, Cursor { at: 0, counter: 0 }, newline, w, context, n);
+    emit_print_i64(out, Cursor { at: 0, counter: 0 }, g, newline, w, context, n);
     answer
 }
 
 // Prints the integer in the source operand, with a newline if asked. The context's variables are kept.
 pub fn print_i64(out: &mut [u8], newline: bool, source: u64, context: &[u8]) -> Answer
-    ensures { λ r. ⌜ Prints (now (out .entry)) (now (out .exit)) r newline source (now (context .entry)) ⌝ }
+    ensures { λ r. ⌜ Prints base (now (out .entry)) (now (out .exit)) r newline source (now (context .entry)) ⌝ }
+{
+    print_i64_in(out, layout::config::base(), newline, source, context)
+}
+
+fn print_i64_in(out: &mut [u8], g: Shape, newline: bool, source: u64, context: &[u8]) -> Answer
+    requires { ⌜ Supported g ⌝ }
+    ensures { λ r. ⌜ Prints g (now (out .entry)) (now (out .exit)) r newline source (now (context .entry)) ⌝ }
 {
     match records::binding::check_context(context) {
-        Checked::Good(n) => print_checked(out, newline, source, context, n),
+        Checked::Good(n) => print_checked(out, g, newline, source, context, n),
         Checked::Malformed(_) => Answer::Context,
     }
 }

@@ -4,10 +4,13 @@ ghost use Prim.Native.Nat.{_+_, _≤_};
 ghost use lib.ListN.{length};
 ghost use Rattle.records.specs.Orders.{orderRead};
 ghost use Rattle.text.specs.Putting.{farthest, Puts};
+ghost use Rattle.layout.specs.Config.{Supported, base};
 ghost use Rattle.orders.specs.Answered.{causeOf};
 ghost use Rattle.reporting.specs.Parts.{counted};
 ghost use Rattle.reporting.specs.Answers.{orderName, readName, start, refusal, acceptance, outcome, orderLine};
 use crate::parts;
+use layout::config;
+use layout::config::Shape;
 use orders::answer::Answer;
 use records::order::Order;
 use records::order::OrderRead;
@@ -68,7 +71,7 @@ fn put_refused(text: &mut [u8], at: usize, number: u64, words: &[u8]) -> usize
 
 fn put_malformed(text: &mut [u8], at: usize, place: u64) -> usize
     requires { ⌜ at + 87 ≤ farthest ⌝ }
-    ensures { λ r. ⌜ Puts 87 (now (text .entry)) at (now (text .exit)) r (refusal (causeOf (Answer.Malformed place))) ⌝ }
+    ensures { λ r. ⌜ ((g : Shape) → Puts 87 (now (text .entry)) at (now (text .exit)) r (refusal g (causeOf (Answer.Malformed place)))) ⌝ }
 {
     let next = parts::put_count(text, at, b"refused 2 at place ", place);
     text::put_bytes(
@@ -80,17 +83,32 @@ fn put_malformed(text: &mut [u8], at: usize, place: u64) -> usize
 
 fn put_short(text: &mut [u8], at: usize, bytes: u64) -> usize
     requires { ⌜ at + 69 ≤ farthest ⌝ }
-    ensures { λ r. ⌜ Puts 69 (now (text .entry)) at (now (text .exit)) r (refusal (causeOf (Answer.Room bytes))) ⌝ }
+    ensures { λ r. ⌜ ((g : Shape) → Puts 69 (now (text .entry)) at (now (text .exit)) r (refusal g (causeOf (Answer.Room bytes)))) ⌝ }
 {
     let needed = parts::put_count(text, at, b"refused 10, ", bytes);
     let next = text::put_bytes(text, needed, b" bytes needed");
     text::put_bytes(text, next, b", an output is too short")
 }
 
+// The last position is named.
+fn put_position(text: &mut [u8], at: usize, g: Shape) -> usize
+    requires { ⌜ (at + 75 ≤ farthest) × Supported g ⌝ }
+    ensures { λ r. ⌜ Puts 75 (now (text .entry)) at (now (text .exit)) r (refusal g (causeOf Answer.Position)) ⌝ }
+{
+    let last = g.spills + 10;
+    let next = parts::put_count(
+        text,
+        at,
+        b"refused 8, too many variables, a position above ",
+        last,
+    );
+    text::put_bytes(text, next, b" needed")
+}
+
 // What was answered; `before` is the label counter that went in.
-fn put_outcome(text: &mut [u8], at: usize, before: u64, answer: Answer) -> usize
-    requires { ⌜ at + 90 ≤ farthest ⌝ }
-    ensures { λ r. ⌜ Puts 90 (now (text .entry)) at (now (text .exit)) r (outcome before answer) ⌝ }
+fn put_outcome(text: &mut [u8], at: usize, g: Shape, before: u64, answer: Answer) -> usize
+    requires { ⌜ (at + 90 ≤ farthest) × Supported g ⌝ }
+    ensures { λ r. ⌜ Puts 90 (now (text .entry)) at (now (text .exit)) r (outcome g before answer) ⌝ }
 {
     match answer {
         Answer::Accepted(records, counter, _) => {
@@ -106,12 +124,7 @@ fn put_outcome(text: &mut [u8], at: usize, before: u64, answer: Answer) -> usize
         ),
         Answer::Kind => put_refused(text, at, 5, b", a variable of the wrong kind for the order"),
         Answer::Count => put_refused(text, at, 7, b", a copy's count above 2147483647"),
-        Answer::Position => put_refused(
-            text,
-            at,
-            8,
-            b", too many variables, a position above 266 needed",
-        ),
+        Answer::Position => put_position(text, at, g),
         Answer::Labels => put_refused(
             text,
             at,
@@ -132,9 +145,24 @@ pub fn put_order(
     answer: Answer,
 ) -> usize
     requires { ⌜ at + 121 ≤ farthest ⌝ }
-    ensures { λ r. ⌜ Puts 121 (now (text .entry)) at (now (text .exit)) r (orderLine number (now (order .entry)) before answer) ⌝ }
+    ensures { λ r. ⌜ Puts 121 (now (text .entry)) at (now (text .exit)) r (orderLine base number (now (order .entry)) before answer) ⌝ }
+{
+    put_order_in(text, at, config::base(), number, order, before, answer)
+}
+
+pub fn put_order_in(
+    text: &mut [u8],
+    at: usize,
+    g: Shape,
+    number: u64,
+    order: &[u8],
+    before: u64,
+    answer: Answer,
+) -> usize
+    requires { ⌜ (at + 121 ≤ farthest) × Supported g ⌝ }
+    ensures { λ r. ⌜ Puts 121 (now (text .entry)) at (now (text .exit)) r (orderLine g number (now (order .entry)) before answer) ⌝ }
 {
     let said = put_start(text, at, number, order);
-    let end = put_outcome(text, said, before, answer);
+    let end = put_outcome(text, said, g, before, answer);
     text::put_byte(text, end, b'\n')
 }

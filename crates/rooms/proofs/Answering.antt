@@ -13,14 +13,16 @@ use Rattle.records.specs.declared.check.Checked.the-variants as checked
 use Rattle.records.specs.Contexts.{checkedContext}
 use Rattle.records.specs.Orders.{orderStarts}
 use Rattle.trees.specs.Tree.{Tree, labels, size}
-use Rattle.layout.specs.Config.{base}
+use Rattle.layout.specs.declared.config.Shape.{Shape}
+use Rattle.layout.specs.Config.{Supported, base, positions, mostVariables}
+use Rattle.layout.proofs.Placing.{base-supported}
 use Rattle.memory.specs.Answered.{variablesIn}
 use Rattle.orders.specs.declared.answer.Answer.{Answer}
 use Rattle.orders.specs.declared.answer.Answer.the-variants.{Accepted, Context, Malformed, Missing, Kind, Count, Position, Labels, Room}
 use Rattle.orders.specs.Writes.{wanted, countOk, treeOf, contextAfter, present, kindsOk, asked}
 use Rattle.orders.specs.Answered.{Asked, accepted, orderIs, placesIn, orderContext, granted, decided, onContext, answerTo}
 use Rattle.judging.proofs.Leaving.{context-long, after-long}
-use Rattle.rooms.specs.Sizes.{mostVariables, roomForRecords, roomForContext}
+use Rattle.rooms.specs.Sizes.{roomForRecords, roomForContext}
 use Rattle.rooms.proofs.OrderSizes.{order-most, few-left}
 
 -- 1 to 8
@@ -35,11 +37,11 @@ early Position = true
 early Labels = false
 early (Room bytes) = false
 
-pub record Passed (context : List ℕ) (q : Asked) (k : ℕ) : Type 0 where
+pub record Passed (g : Shape) (context : List ℕ) (q : Asked) (k : ℕ) : Type 0 where
   pub bindings-good : checkedContext (q .bindings) ≡ checked.Good (wanted (orderIs q))
   pub there : present context k (q .bindings) (orderIs q) ≡ true
-  pub placed : asked context k (q .bindings) (orderIs q) ≤ 267
-  pub answer : answerTo base context q ≡ granted q (treeOf base context k (q .bindings) (orderIs q)) (contextAfter context k (q .bindings) (orderIs q))
+  pub placed : asked context k (q .bindings) (orderIs q) ≤ positions g
+  pub answer : answerTo g context q ≡ granted q (treeOf g context k (q .bindings) (orderIs q)) (contextAfter context k (q .bindings) (orderIs q))
 
 -- a choice of which the second part is such a refusal
 chosen : (b : Bool) (x y : Answer) → early y ≡ true → early (cond b x y) ≡ false → (b ≡ true) × (early x ≡ false)
@@ -52,20 +54,20 @@ on-good (checked.Good k) f e = (k, refl, e)
 on-good (checked.Malformed place) f e = let z : _≡_ {A = ℕ} 0 1 = cc in absurd (omega arith)
 
 -- an order that passes 1 and 2, and one that passes 4 to 8
-module _ (context : List ℕ) (q : Asked) (k : ℕ) where
+module _ (g : Shape) (context : List ℕ) (q : Asked) (k : ℕ) where
   read-well : {m : ℕ} → checkedContext context ≡ checked.Good k → checkedContext (q .bindings) ≡ checked.Good m → orderStarts (q .order) ≡ true
-      → eqb m (wanted (orderIs q)) ≡ true → eqb (length (q .order)) 24 ≡ true → answerTo base context q ≡ decided base context k q
+      → eqb m (wanted (orderIs q)) ≡ true → eqb (length (q .order)) 24 ≡ true → answerTo g context q ≡ decided g context k q
   unfolding answerTo
   read-well c b s n w = rw (c, b, s, n, w)
 
   judged-well : present context k (q .bindings) (orderIs q) ≡ true → kindsOk context k (q .bindings) (orderIs q) ≡ true → countOk (orderIs q) ≡ true
-      → leb (asked context k (q .bindings) (orderIs q)) 267 ≡ true
-      → decided base context k q ≡ granted q (treeOf base context k (q .bindings) (orderIs q)) (contextAfter context k (q .bindings) (orderIs q))
+      → leb (asked context k (q .bindings) (orderIs q)) (positions g) ≡ true
+      → decided g context k q ≡ granted q (treeOf g context k (q .bindings) (orderIs q)) (contextAfter context k (q .bindings) (orderIs q))
   judged-well a b c d = rw (a, b, c, d)
 
-passed : (context : List ℕ) (q : Asked) → early (answerTo base context q) ≡ false → (k : ℕ) × (checkedContext context ≡ checked.Good k) × Passed context q k
+passed : (g : Shape) (context : List ℕ) (q : Asked) → early (answerTo g context q) ≡ false → (k : ℕ) × (checkedContext context ≡ checked.Good k) × Passed g context q k
 unfolding answerTo early
-passed context q e =
+passed g context q e =
     let a = on-good (checkedContext context) _ e in
     let k : ℕ = a .0 in
     let b = on-good (checkedContext (q .bindings)) _ (a .2) in
@@ -75,14 +77,14 @@ passed context q e =
     let p = chosen (present context k (q .bindings) (orderIs q)) _ Missing refl (f .1) in
     let s = chosen (kindsOk context k (q .bindings) (orderIs q)) _ Kind refl (p .1) in
     let n = chosen (countOk (orderIs q)) _ Count refl (s .1) in
-    let h = chosen (leb (asked context k (q .bindings) (orderIs q)) 267) _ Position refl (n .1) in (
+    let h = chosen (leb (asked context k (q .bindings) (orderIs q)) (positions g)) _ Position refl (n .1) in (
       k,
       a .1,
       record {
         bindings-good = b .1 ∙ ap checked.Good (eqb-true (b .0) (wanted (orderIs q)) (d .0));
         there = p .0;
-        placed = leb-true (asked context k (q .bindings) (orderIs q)) 267 (h .0);
-        answer = read-well context q k (a .1) (b .1) (c .0) (d .0) (f .0) ∙ judged-well context q k (p .0) (s .0) (n .0) (h .0);
+        placed = leb-true (asked context k (q .bindings) (orderIs q)) (positions g) (h .0);
+        answer = read-well g context q k (a .1) (b .1) (c .0) (d .0) (f .0) ∙ judged-well g context q k (p .0) (s .0) (n .0) (h .0);
       },
     )
 
@@ -116,33 +118,35 @@ accepted-late Position e = sym e
 accepted-late Labels e = refl
 accepted-late (Room bytes) e = refl
 
-few-places : (s : List ℕ) → length s ≤ 8 * mostVariables base → placesIn s ≤ mostVariables base
-few-places s h = by (checkedContext s) refl
+few-places : (g : Shape) (s : List ℕ) → length s ≤ 8 * mostVariables g → placesIn s ≤ mostVariables g
+few-places g s h = by (checkedContext s) refl
   where
-    by : (c : Checked) → checkedContext s ≡ c → variablesIn c ≤ 133
+    by : (c : Checked) → checkedContext s ≡ c → variablesIn c ≤ mostVariables g
     by (checked.Good n) e = omega (arith, context-long s n e)
     by (checked.Malformed place) e = omega arith
 
-module _ (context : List ℕ) (q : Asked) (few : placesIn context ≤ mostVariables base) where
-  module _ (k : ℕ) (good : checkedContext context ≡ checked.Good k) (p : Passed context q k) where
-    context-few : length (contextAfter context k (q .bindings) (orderIs q)) ≤ 8 * mostVariables base
-    context-few =
-        let l : k ≤ 133 = rw good at few in
-        let a = after-long context k (q .bindings) (orderIs q) (context-long context k good) (context-long (q .bindings) (wanted (orderIs q)) (p .bindings-good)) in
-        omega (arith, few-left context k (q .bindings) (orderIs q) l (p .there) (p .placed))
+module _ (g : Shape) (s : Supported g) (context : List ℕ) (q : Asked) (few : placesIn context ≤ mostVariables g) where
+  context-few : (k : ℕ) → checkedContext context ≡ checked.Good k → Passed g context q k
+      → length (contextAfter context k (q .bindings) (orderIs q)) ≤ 8 * mostVariables g
+  context-few k good p =
+      let l : k ≤ mostVariables g = rw good at few in
+      let a = after-long context k (q .bindings) (orderIs q) (context-long context k good) (context-long (q .bindings) (wanted (orderIs q)) (p .bindings-good)) in
+      omega (arith, few-left context k (q .bindings) g s (orderIs q) l (p .there) (p .placed))
 
+  pub variables-stay : accepted (answerTo g context q) ≡ true → placesIn (orderContext context q) ≤ mostVariables g
+  variables-stay e =
+      let p = passed g context q (accepted-late (answerTo g context q) e) in
+      few-places g (orderContext context q) (rw (p .1) (context-few (p .0) (p .1) (p .2)))
+
+-- of the shape that the sizes of buffers are for
+module _ (context : List ℕ) (q : Asked) (few : placesIn context ≤ mostVariables base) where
   pub room-enough : roomForRecords ≤ q .recordsRoom → roomForContext ≤ q .contextRoom → (bytes : ℕ) → answerTo base context q ≢ Room bytes
   unfolding early
   room-enough r l bytes e =
-      let p = passed context q (ap early e) in
+      let p = passed base context q (ap early e) in
       let k = p .0 in
       let t = treeOf base context k (q .bindings) (orderIs q) in
       let after = contextAfter context k (q .bindings) (orderIs q) in
       let o = order-most context k (q .bindings) (orderIs q) (p .2 .there) (p .2 .placed) in
-      let c = context-few k (p .1) (p .2) in
+      let c = context-few base base-supported context q few k (p .1) (p .2) in
       no-room-wanted q t after (omega arith) (omega arith) bytes (sym (p .2 .answer) ∙ e)
-
-  pub variables-stay : accepted (answerTo base context q) ≡ true → placesIn (orderContext context q) ≤ mostVariables base
-  variables-stay e =
-      let p = passed context q (accepted-late (answerTo base context q) e) in
-      few-places (orderContext context q) (rw (p .1) (context-few (p .0) (p .1) (p .2)))

@@ -16,7 +16,7 @@ use Rattle.records.proofs.Checking.{all-checked, good-within}
 use Rattle.records.proofs.CodesRead.{starts-whole}
 use Rattle.emit.specs.declared.answer.Answer.the-variants.{Arguments, Room}
 use Rattle.emit.specs.Answers.{granted}
-use Rattle.layout.specs.Config.{base}
+use Rattle.layout.specs.declared.config.Shape.{Shape}
 use Rattle.routine.specs.Routine.{routineBytes, accepting, onBody, routineAnswer}
 use Rattle.routine.proofs.Assembling.{bytes-length}
 use Rattle.rooms.specs.Sizes.{roomForRoutine}
@@ -28,23 +28,23 @@ body-long body k e =
     let w = good-within codeStarts 24 65506 body starts-whole 0 (places 24 body) k e (omega arith) (omega arith) in
     omega (arith, w .0)
 
-module _ (room n : ℕ) (h : roomForRoutine ≤ room) (bytes : ℕ) where
-  written : (body : List ℕ) → length body ≤ 24 * 65506 → n ≤ 5 → granted 0 room (length (routineBytes base n body)) 0 ≢ Room bytes
+module _ (g : Shape) (room n : ℕ) (h : roomForRoutine ≤ room) (bytes : ℕ) where
+  written : (body : List ℕ) → length body ≤ 24 * 65506 → n ≤ 5 → granted 0 room (length (routineBytes g n body)) 0 ≢ Room bytes
   unfolding granted
   written body l m e =
-      let f = rw (le-ltb room (length (routineBytes base n body)) (omega (arith, bytes-length n body))) at e in
+      let f = rw (le-ltb room (length (routineBytes g n body)) (omega (arith, bytes-length g n body))) at e in
       let z : _≡_ {A = ℕ} 0 1 = cc in
       omega arith
 
   arguments : (body : List ℕ) → length body ≤ 24 * 65506 → (b : Bool) → ltb 5 n ≡ b
-      → cond b Arguments (granted 0 room (length (routineBytes base n body)) 0) ≢ Room bytes
+      → cond b Arguments (granted 0 room (length (routineBytes g n body)) 0) ≢ Room bytes
   arguments body l true e r = let z : _≡_ {A = ℕ} 0 1 = cc in omega arith
   arguments body l false e r = written body l (ltb-false 5 n e) r
 
-  pub no-room-wanted : (body : List ℕ) → routineAnswer base room n body ≢ Room bytes
+  pub no-room-wanted : (body : List ℕ) → routineAnswer g room n body ≢ Room bytes
   unfolding routineAnswer
   no-room-wanted body = by (checkedCodes 65506 body) refl
     where
-      by : (c : Checked) → checkedCodes 65506 body ≡ c → onBody base c (accepting base room n body) ≢ Room bytes
+      by : (c : Checked) → checkedCodes 65506 body ≡ c → onBody g c (accepting g room n body) ≢ Room bytes
       by (Good k) e r = arguments body (body-long body k e) (ltb 5 n) refl r
       by (Malformed place) e r = let z : _≡_ {A = ℕ} 0 1 = cc in omega arith

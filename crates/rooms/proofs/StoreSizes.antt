@@ -7,8 +7,10 @@ use native.Mathlib.Decide.{ℕ-discrete, decLt}
 use lib.Dec.{ltb, eqb}
 use Rattle.records.specs.declared.code.Code.the-variants.{MOVS, MOVL}
 use Rattle.trees.specs.Tree.{Tree, leaf, seq, size}
-use Rattle.layout.specs.Config.{Config, base, STACK, TEMP, HEAP, stackOffset, fstOffset}
+use Rattle.layout.specs.declared.config.Shape.{Shape}
+use Rattle.layout.specs.Config.{Supported, base, STACK, TEMP, HEAP, stackOffset, fstOffset}
 use Rattle.layout.specs.Positions.{location}
+use Rattle.layout.proofs.Placing.{base-supported}
 use Rattle.code.specs.Code.{loadImmediate}
 use Rattle.memory.specs.Blocks.{storeField}
 use Rattle.memory.specs.Objects.{fst, storeFst, storeValue, storeValues, storeOther, storeOthers, storeSome, storeObject, chunks}
@@ -32,7 +34,7 @@ both-choices : (b : Bool) (t u u′ : Tree) → size u ≤ size u′ → size (c
 both-choices true t u u′ h = omega arith
 both-choices false t u u′ h = h
 
-module _ (g : Config) where
+module _ (g : Shape) where
   some-record : (w r offset : ℕ) → 1 ≤ size (storeField g w r offset)
   some-record w r offset =
       at-least (ltb w 16) (leaf (MOVS w r offset) refl) (seq (leaf (MOVL TEMP STACK (stackOffset g w)) refl) (leaf (MOVS TEMP r offset) refl)) 1 (omega arith) (omega arith)
@@ -67,16 +69,18 @@ module _ (g : Config) where
     store-linked v n = both-choices (eqb n 0) (loadImmediate g (fst v) 0) (storeSome g ext v n) (storeSome g linked v n) (some-linked v n)
 
 -- a store of some variables by their number, wherever they stand
-store-some : (ext : ℕ → Bool) (v n : ℕ) → size (storeSome base ext v n) ≤ storedWithin base n
-store-some ext v n =
-    let a = store-values-size ext (v + (n - 3)) (n - (n - 3)) 3 (omega arith) in
-    let q = acquire-size (fst (v + (n - 3))) in
-    let z = store-others-size ext (chunks 2 (n - 3)) v (n - 3) in
-    omega arith
+module _ (g : Shape) (sup : Supported g) (ext : ℕ → Bool) (v n : ℕ) where
+  store-some : size (storeSome g ext v n) ≤ storedWithin g n
+  store-some =
+      let f : ℕ = g .fields in
+      let a = store-values-size g ext (v + (n - f)) (n - (n - f)) f (omega arith) in
+      let q = acquire-size g (fst (v + (n - f))) in
+      let z = store-others-size g ext sup (chunks (f - 1) (n - f)) v (n - f) in
+      omega arith
 
-pub store-within : (ext : ℕ → Bool) (v n : ℕ) → size (storeObject base ext v n) ≤ storedWithin base n
-store-within ext v n =
-    at-most (eqb n 0) (loadImmediate base (fst v) 0) (storeSome base ext v n) (storedWithin base n) (omega (arith, immediate-size (fst v) 0)) (store-some ext v n)
+  pub store-within : size (storeObject g ext v n) ≤ storedWithin g n
+  store-within =
+      at-most (eqb n 0) (loadImmediate g (fst v) 0) (storeSome g ext v n) (storedWithin g n) (omega (arith, immediate-size g (fst v) 0)) store-some
 
 -- the three largest stores, of linked variables
 largest : (v n : ℕ) → v ≡ 0 → n ≡ 133 → size (storeObject base linked v n) ≡ 4275
@@ -96,7 +100,7 @@ pub store-most : (ext : ℕ → Bool) (v n : ℕ) → v + n ≤ 133 → size (st
 store-most ext v n h = by (decLt n 132) (ℕ-discrete n 132) (ℕ-discrete v 0)
   where
     by : Dec (n < 132) → Dec (n ≡ 132) → Dec (v ≡ 0) → size (storeObject base ext v n) ≤ 4275
-    by (yes l) e z = omega (arith, store-within ext v n)
+    by (yes l) e z = omega (arith, store-within base base-supported ext v n)
     by (no l) (yes e) (yes z) = omega (arith, store-linked base ext v n, all-but-one v n z e)
     by (no l) (yes e) (no z) = omega (arith, store-linked base ext v n, second-largest v n (omega arith) e)
     by (no l) (no e) z = omega (arith, store-linked base ext v n, largest v n (omega arith) (omega arith))

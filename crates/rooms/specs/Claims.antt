@@ -17,7 +17,8 @@ use Rattle.records.specs.Contexts.{bindingBytes}
 use Rattle.records.specs.Orders.{orderFieldsOf, orderBytes}
 use Rattle.records.specs.ReadBack.{Bytes, joined, codeBytes}
 use Rattle.trees.specs.Tree.{size}
-use Rattle.layout.specs.Config.{base}
+use Rattle.layout.specs.declared.config.Shape.{Shape}
+use Rattle.layout.specs.Config.{Supported, base, mostVariables}
 use Rattle.emit.specs.declared.answer.Answer.the-variants as emission
 use Rattle.routine.specs.Routine.{routineAnswer}
 use Rattle.orders.specs.declared.answer.Answer.the-variants.{Room}
@@ -26,19 +27,20 @@ use Rattle.orders.specs.Answered.{Asked, accepted, answerTo, placesIn, orderCon
 use Rattle.listing.specs.declared.Listed.the-variants.{Short}
 use Rattle.listing.specs.Names.{codeNames}
 use Rattle.listing.specs.Listing.{listedText, listed}
-use Rattle.rooms.specs.Sizes.{mostVariables, recordsWithin, roomForRecords, roomForContext, roomForText, roomForRoutine}
+use Rattle.rooms.specs.Sizes.{recordsWithin, roomForRecords, roomForContext, roomForText, roomForRoutine}
 
 pub record OrdersFit : Type 0 where
   -- an order's records are no more than the bound for its variables
-  pub records-within : (context : List ℕ) (k : ℕ) (bindings : List ℕ) (order : Order) → size (treeOf base context k bindings order) ≤ recordsWithin base order
+  pub records-within :
+      (g : Shape) → Supported g → (context : List ℕ) (k : ℕ) (bindings : List ℕ) (order : Order) → size (treeOf g context k bindings order) ≤ recordsWithin g order
   -- number 10 is not answered
   pub room-enough :
       (context : List ℕ) (q : Asked) → placesIn context ≤ mostVariables base → roomForRecords ≤ q .recordsRoom → roomForContext ≤ q .contextRoom
       → (bytes : ℕ) → answerTo base context q ≢ Room bytes
   -- an accepted order leaves no more variables, so that the next one finds the same
   pub variables-stay :
-      (context : List ℕ) (q : Asked) → placesIn context ≤ mostVariables base → accepted (answerTo base context q) ≡ true
-      → placesIn (orderContext context q) ≤ mostVariables base
+      (g : Shape) → Supported g → (context : List ℕ) (q : Asked) → placesIn context ≤ mostVariables g → accepted (answerTo g context q) ≡ true
+      → placesIn (orderContext context q) ≤ mostVariables g
 
 -- the bytes of a context of n variables
 abbrev pub variables : Kind → ℕ → List ℕ
@@ -79,4 +81,4 @@ ListingsFill = (room : ℕ) → room < roomForText → listed codeNames (longest
 
 -- no routine needs more than the most records that a list has
 abbrev pub RoutinesFit : Type 0
-RoutinesFit = (room arguments : ℕ) → roomForRoutine ≤ room → (bytes : ℕ) (body : List ℕ) → routineAnswer base room arguments body ≢ emission.Room bytes
+RoutinesFit = (g : Shape) (room arguments : ℕ) → roomForRoutine ≤ room → (bytes : ℕ) (body : List ℕ) → routineAnswer g room arguments body ≢ emission.Room bytes

@@ -1,17 +1,12 @@
 -- How many records an order has at most, by the number of variables that it stores, loads or makes, and the sizes of buffers that include/axcut.h
 -- recommends. From document 01, 'Binding record' and 'Instruction record', and memory.rs.
-use Prim.Native.Nat.{ℕ, _+_, _*_, _-_, _/_}
+use Prim.Native.Nat.{ℕ, _+_, _*_, _-_}
 use Rattle.records.specs.declared.order.Order.{Order}
 use Rattle.records.specs.declared.order.Order.the-variants.{Put, Compute, Copy, Drop, Store, Load, Print}
-use Rattle.layout.specs.Config.{Config}
-use Rattle.layout.specs.Positions.{positions}
+use Rattle.layout.specs.declared.config.Shape.{Shape}
 use Rattle.memory.specs.Objects.{chunks}
 
--- how many variables have both their positions
-abbrev pub mostVariables : Config → ℕ
-mostVariables g = positions g / 2
-
-module _ (g : Config) where
+module _ (g : Shape) where
   -- blocks before the last one of an object of n variables
   abbrev otherBlocks : ℕ → ℕ
   otherBlocks n = chunks (g .fields - 1) (n - g .fields)

@@ -19,7 +19,7 @@ use Rattle.emit.specs.Answers.{causeOf, granted, accepted}
 use Rattle.emit.specs.Emitted.{fieldsList, Emitted}
 use Rattle.emit.specs.Laws.{length-fields}
 use Rattle.emit.specs.Wrote.{written-whole, granted-if}
-use Rattle.layout.specs.Config.{base}
+use Rattle.layout.specs.declared.config.Shape.{Shape}
 use Rattle.routine.specs.Routine.{moveArguments, head, cleanup, routineBytes, accepting, Assembles}
 use Rattle.routine.specs.Records.{RoutineIsRecords}
 
@@ -27,65 +27,66 @@ arguments-length : (n : ℕ) → length (moveArguments n) ≡ n
 arguments-length zero = refl
 arguments-length (suc n) = ap suc (arguments-length n)
 
-pub head-length : (n : ℕ) → length (head base n) ≡ 16 + n
-head-length n = omega (arith, arguments-length n)
-
-head-bytes : (n : ℕ) → length (joined codeBytes (head base n)) ≡ 24 * (16 + n)
-head-bytes n = joined-length code-laws (head base n) ∙ ap (λ (k : ℕ). 24 * k) (head-length n)
-
-cleanup-bytes : length (joined codeBytes (cleanup base)) ≡ 24 * 9
-cleanup-bytes = joined-length code-laws (cleanup base)
-
-pub bytes-length : (n : ℕ) (body : List ℕ) → length (routineBytes base n body) ≡ 24 * (25 + n) + length body
-unfolding routineBytes
-bytes-length n body =
-    omega (arith, length-append (joined codeBytes (head base n)) (body ++ joined codeBytes (cleanup base)), length-append body (joined codeBytes (cleanup base)), head-bytes n, cleanup-bytes)
-
 joined-append : (xs ys : List Code) → joined codeBytes (xs ++ ys) ≡ joined codeBytes xs ++ joined codeBytes ys
 joined-append [] ys = refl
 joined-append (x ∷ xs) ys = rw (joined-append xs ys, append-assoc)
 
 pub routine-records : RoutineIsRecords
 unfolding routineBytes
-routine-records n k body bytes e =
+routine-records g n k body bytes e =
     let codes : List Code = items 24 codeIn k body in
-    rw (joined-append (head base n) (codes ++ cleanup base), joined-append codes (cleanup base), records-read-back .codes-written 65506 k body bytes e)
+    rw (joined-append (head g n) (codes ++ cleanup g), joined-append codes (cleanup g), records-read-back .codes-written 65506 k body bytes e)
 
--- where the body starts
-pub body-place : {o o₁ : List ℕ} {p q : Cursor} (n : ℕ) → Emitted o p o₁ q (fieldsList (head base n)) 0 → p .at ≡ 0 → q .at ≡ 24 * (16 + n)
-body-place n d z = omega (arith, d .place, length-fields (head base n), head-length n)
+module _ (g : Shape) where
+  pub head-length : (n : ℕ) → length (head g n) ≡ 16 + n
+  head-length n = omega (arith, arguments-length n)
 
-pub assembled : {o o₁ o₂ o₃ : List ℕ} {p q e z : Cursor} (n : ℕ) (body : List ℕ)
-    → 24 * (25 + n) + length body ≤ length o
-    → Emitted o p o₁ q (fieldsList (head base n)) 0 → p .at ≡ 0
-    → o₂ ≡ sets o₁ (q .at) (take (length body) body)
-    → Emitted o₂ e o₃ z (fieldsList (cleanup base)) 0 → e .at ≡ q .at + length body
-    → o₃ ≡ sets o 0 (routineBytes base n body)
-unfolding routineBytes
-assembled {o} {o₁} {o₂} {o₃} {p} {q} {e} n body h d s b c t =
-    let A : List ℕ = joined codeBytes (head base n) in
-    let C : List ℕ = joined codeBytes (cleanup base) in
-    let k = body-place n d s in
-    let j = head-bytes n in
-    let first : o₁ ≡ sets o 0 A = d .bytes ∙ rw s (written-whole (head base n) o 0 (omega (arith, head-length n))) in
-    let second : o₂ ≡ sets (sets o 0 A) (q .at) body = rw (← first) (rw (take-length body) at b) in
-    let long : length o₂ ≡ length o = rw second (length-sets (sets o 0 A) (q .at) body ∙ length-sets o 0 A) in
-    c .bytes
-    ∙ written-whole (cleanup base) o₂ (e .at) (omega arith)
-    ∙ rw second
-    (sets-then body C (sets o 0 A) (q .at) (e .at) (sym t)
-    ∙ sets-then A (body ++ C) o 0 (q .at) (omega arith))
+  head-bytes : (n : ℕ) → length (joined codeBytes (head g n)) ≡ 24 * (16 + n)
+  head-bytes n = joined-length code-laws (head g n) ∙ ap (λ (k : ℕ). 24 * k) (head-length n)
 
-module _ {o : List ℕ} {r expected : Answer} {b : Bool} (n : ℕ) (body : List ℕ) (e : r ≡ expected) (f : b ≡ accepted r) where
-  pub not-assembled : b ≡ false → Assembles o o r expected n body
-  not-assembled g = record { answer = e; cause = ap causeOf e; bytes = rw (← e, ← f, g) }
+  cleanup-bytes : length (joined codeBytes (cleanup g)) ≡ 24 * 9
+  cleanup-bytes = joined-length code-laws (cleanup g)
 
-  pub all-assembled : {o′ : List ℕ} → b ≡ true → o′ ≡ sets o 0 (routineBytes base n body) → Assembles o o′ r expected n body
-  all-assembled g w = record { answer = e; cause = ap causeOf e; bytes = rw (← e, ← f, g) w }
+  pub bytes-length : (n : ℕ) (body : List ℕ) → length (routineBytes g n body) ≡ 24 * (25 + n) + length body
+  unfolding routineBytes
+  bytes-length n body =
+      omega (arith, length-append (joined codeBytes (head g n)) (body ++ joined codeBytes (cleanup g)), length-append body (joined codeBytes (cleanup g)), head-bytes n, cleanup-bytes)
 
-module _ (o : List ℕ) (n : ℕ) (body : List ℕ) {r : Answer} (e : r ≡ granted 0 (length o) (24 * (25 + n) + length body) 0) where
-  pub expected-answer : n ≤ 5 → r ≡ accepting base (length o) n body
-  expected-answer h = rw (le-ltb 5 n h, bytes-length n body) e
+  -- where the body starts
+  pub body-place : {o o₁ : List ℕ} {p q : Cursor} (n : ℕ) → Emitted o p o₁ q (fieldsList (head g n)) 0 → p .at ≡ 0 → q .at ≡ 24 * (16 + n)
+  body-place n d z = omega (arith, d .place, length-fields (head g n), head-length n)
+
+  pub assembled : {o o₁ o₂ o₃ : List ℕ} {p q e z : Cursor} (n : ℕ) (body : List ℕ)
+      → 24 * (25 + n) + length body ≤ length o
+      → Emitted o p o₁ q (fieldsList (head g n)) 0 → p .at ≡ 0
+      → o₂ ≡ sets o₁ (q .at) (take (length body) body)
+      → Emitted o₂ e o₃ z (fieldsList (cleanup g)) 0 → e .at ≡ q .at + length body
+      → o₃ ≡ sets o 0 (routineBytes g n body)
+  unfolding routineBytes
+  assembled {o} {o₁} {o₂} {o₃} {p} {q} {e} n body h d s b c t =
+      let A : List ℕ = joined codeBytes (head g n) in
+      let C : List ℕ = joined codeBytes (cleanup g) in
+      let k = body-place n d s in
+      let j = head-bytes n in
+      let first : o₁ ≡ sets o 0 A = d .bytes ∙ rw s (written-whole (head g n) o 0 (omega (arith, head-length n))) in
+      let second : o₂ ≡ sets (sets o 0 A) (q .at) body = rw (← first) (rw (take-length body) at b) in
+      let long : length o₂ ≡ length o = rw second (length-sets (sets o 0 A) (q .at) body ∙ length-sets o 0 A) in
+      c .bytes
+      ∙ written-whole (cleanup g) o₂ (e .at) (omega arith)
+      ∙ rw second
+      (sets-then body C (sets o 0 A) (q .at) (e .at) (sym t)
+      ∙ sets-then A (body ++ C) o 0 (q .at) (omega arith))
+
+module _ (g : Shape) {o : List ℕ} {r expected : Answer} {b : Bool} (n : ℕ) (body : List ℕ) (e : r ≡ expected) (f : b ≡ accepted r) where
+  pub not-assembled : b ≡ false → Assembles g o o r expected n body
+  not-assembled h = record { answer = e; cause = ap causeOf e; bytes = rw (← e, ← f, h) }
+
+  pub all-assembled : {o′ : List ℕ} → b ≡ true → o′ ≡ sets o 0 (routineBytes g n body) → Assembles g o o′ r expected n body
+  all-assembled h w = record { answer = e; cause = ap causeOf e; bytes = rw (← e, ← f, h) w }
+
+module _ (g : Shape) (o : List ℕ) (n : ℕ) (body : List ℕ) {r : Answer} (e : r ≡ granted 0 (length o) (24 * (25 + n) + length body) 0) where
+  pub expected-answer : n ≤ 5 → r ≡ accepting g (length o) n body
+  expected-answer h = rw (le-ltb 5 n h, bytes-length g n body) e
 
   pub room-enough : {b : Bool} → b ≡ accepted r → b ≡ true → 24 * (25 + n) + length body ≤ length o
-  room-enough f g = granted-if 0 (length o) (24 * (25 + n) + length body) 0 (ap accepted (sym e) ∙ sym f ∙ g) .1
+  room-enough f t = granted-if 0 (length o) (24 * (25 + n) + length body) 0 (ap accepted (sym e) ∙ sym f ∙ t) .1

@@ -16,7 +16,8 @@ use Rattle.records.specs.ReadBack.{joined, codeBytes}
 use Rattle.emit.specs.declared.answer.Answer.{Answer}
 use Rattle.emit.specs.declared.answer.Answer.the-variants.{Body, Arguments}
 use Rattle.emit.specs.Answers.{causeOf, granted, accepted}
-use Rattle.layout.specs.Config.{Config, base, STACK, HEAP, FREE, blockBytes}
+use Rattle.layout.specs.declared.config.Shape.{Shape}
+use Rattle.layout.specs.Config.{STACK, HEAP, FREE, blockBytes}
 
 -- the names asm_main, cleanup, PRINT_I64 and PRINTLN_I64
 abbrev ASMMAIN : ℕ
@@ -43,7 +44,7 @@ abbrev pub moveArguments : ℕ → List Code
 moveArguments zero = []
 moveArguments (suc n) = MOV (2 * suc n + 3) (argument (suc n)) ∷ moveArguments n
 
-module _ (g : Config) where
+module _ (g : Shape) where
   -- how many bytes the spills take
   abbrev pub spillSpace : ℕ
   spillSpace = 8 * g .spills
@@ -98,7 +99,7 @@ module _ (g : Config) where
 
 -- what into_x86_64_routine ensures of the output before and after: its answer is the one expected, and the output holds the routine from its start
 -- if it is written, else it is as it was
-pub record Assembles (o o′ : List ℕ) (r expected : Answer) (n : ℕ) (body : List ℕ) : Type 0 where
+pub record Assembles (g : Shape) (o o′ : List ℕ) (r expected : Answer) (n : ℕ) (body : List ℕ) : Type 0 where
   pub answer : r ≡ expected
   pub cause : causeOf r ≡ causeOf expected
-  pub bytes : o′ ≡ cond (accepted expected) (sets o 0 (routineBytes base n body)) o
+  pub bytes : o′ ≡ cond (accepted expected) (sets o 0 (routineBytes g n body)) o

@@ -4,7 +4,7 @@ ghost use Prim.Native.Nat.{_+_, _*_, _≤_, _<_, _^_};
 ghost use lib.ListN.{length};
 ghost use lib.Seq.{sets};
 ghost use Rattle.emit.specs.Emitted.{fieldsList, Emitted};
-ghost use Rattle.layout.specs.Config.{base};
+ghost use Rattle.layout.specs.Config.{base, Supported};
 ghost use Rattle.routine.specs.Routine.{argument, preamble, setup, moveArguments, head, cleanup, routineBytes, accepting, routineAnswer, Assembles};
 use emit::answer::Answer;
 use emit::cursor::Cursor;
@@ -12,6 +12,7 @@ use emit::cursor::Row;
 use layout::config::FREE;
 use layout::config::HEAP;
 use layout::config::STACK;
+use layout::config::Shape;
 use records::check::Checked;
 use records::number::ADDI;
 use records::number::EXTERN;
@@ -32,10 +33,6 @@ const CLEANUP: u32 = 2147483649;
 const PRINT_I64: u32 = 2147483650;
 
 const PRINTLN_I64: u32 = 2147483651;
-
-const SPILL_SPACE: u64 = 2048;
-
-const BLOCK: u64 = 64;
 
 // The register that each argument is passed in, by the calling convention.
 const ARGUMENTS: [u8; 6] = [7, 6, 5, 1, 8, 9];
@@ -67,10 +64,12 @@ fn emit_preamble(out: &mut [u8], p: Cursor) -> Cursor
     )
 }
 
-fn emit_setup(out: &mut [u8], p: Cursor) -> Cursor
-    requires { ⌜ p .at + 240 < 2 ^ 64 ⌝ }
-    ensures { λ q. ⌜ Emitted (now (out .entry)) p (now (out .exit)) q (fieldsList (setup base)) 0 ⌝ }
+fn emit_setup(out: &mut [u8], p: Cursor, g: Shape) -> Cursor
+    requires { ⌜ (p .at + 240 < 2 ^ 64) × Supported g ⌝ }
+    ensures { λ q. ⌜ Emitted (now (out .entry)) p (now (out .exit)) q (fieldsList (setup g)) 0 ⌝ }
 {
+    let space = 8 * g.spills;
+    let block = layout::offset::fst_offset(g.fields);
     let q = emit::cursor::emit4(
         out,
         p,
@@ -84,14 +83,14 @@ fn emit_setup(out: &mut [u8], p: Cursor) -> Cursor
         q,
         Row(PUSH, 14, 0, 0, 0, 0),
         Row(PUSH, 15, 0, 0, 0, 0),
-        Row(SUBI, STACK, 0, 0, 0, SPILL_SPACE),
+        Row(SUBI, STACK, 0, 0, 0, space),
     );
     emit::cursor::emit3(
         out,
         s,
         Row(MOV, HEAP, 7, 0, 0, 0),
         Row(MOV, FREE, HEAP, 0, 0, 0),
-        Row(ADDI, FREE, 0, 0, 0, BLOCK),
+        Row(ADDI, FREE, 0, 0, 0, block),
     )
 }
 
@@ -111,24 +110,25 @@ fn move_arguments(out: &mut [u8], p: Cursor, n: usize) -> Cursor
     q
 }
 
-fn emit_head(out: &mut [u8], p: Cursor, n: usize) -> Cursor
-    requires { ⌜ (p .at + 504 < 2 ^ 64) × (n < 6) ⌝ }
-    ensures { λ q. ⌜ Emitted (now (out .entry)) p (now (out .exit)) q (fieldsList (head base n)) 0 ⌝ }
+fn emit_head(out: &mut [u8], p: Cursor, g: Shape, n: usize) -> Cursor
+    requires { ⌜ (p .at + 504 < 2 ^ 64) × (n < 6) × Supported g ⌝ }
+    ensures { λ q. ⌜ Emitted (now (out .entry)) p (now (out .exit)) q (fieldsList (head g n)) 0 ⌝ }
 {
     let q = emit_preamble(out, p);
-    let s = emit_setup(out, q);
+    let s = emit_setup(out, q, g);
     move_arguments(out, s, n)
 }
 
-fn emit_cleanup(out: &mut [u8], p: Cursor) -> Cursor
-    requires { ⌜ p .at + 216 < 2 ^ 64 ⌝ }
-    ensures { λ q. ⌜ Emitted (now (out .entry)) p (now (out .exit)) q (fieldsList (cleanup base)) 0 ⌝ }
+fn emit_cleanup(out: &mut [u8], p: Cursor, g: Shape) -> Cursor
+    requires { ⌜ (p .at + 216 < 2 ^ 64) × Supported g ⌝ }
+    ensures { λ q. ⌜ Emitted (now (out .entry)) p (now (out .exit)) q (fieldsList (cleanup g)) 0 ⌝ }
 {
+    let space = 8 * g.spills;
     let q = emit::cursor::emit4(
         out,
         p,
         Row(LAB, 0, 0, CLEANUP, 0, 0),
-        Row(ADDI, STACK, 0, 0, 0, SPILL_SPACE),
+        Row(ADDI, STACK, 0, 0, 0, space),
         Row(POP, 15, 0, 0, 0, 0),
         Row(POP, 14, 0, 0, 0, 0),
     );
@@ -144,11 +144,11 @@ fn emit_cleanup(out: &mut [u8], p: Cursor) -> Cursor
 }
 
 // The routine from the output's start on.
-fn assemble(out: &mut [u8], body: &[u8], n: usize)
-    requires { ⌜ (n < 6) × (length (now body) < 2 ^ 32) × (24 * (25 + n) + length (now body) ≤ length (now out)) ⌝ }
-    ensures { λ r. ⌜ now (out .exit) ≡ sets (now (out .entry)) 0 (routineBytes base n (now (body .entry))) ⌝ }
+fn assemble(out: &mut [u8], g: Shape, body: &[u8], n: usize)
+    requires { ⌜ (n < 6) × (length (now body) < 2 ^ 32) × (24 * (25 + n) + length (now body) ≤ length (now out)) × Supported g ⌝ }
+    ensures { λ r. ⌜ now (out .exit) ≡ sets (now (out .entry)) 0 (routineBytes g n (now (body .entry))) ⌝ }
 {
-    let q = emit_head(out, Cursor { at: 0, counter: 0 }, n);
+    let q = emit_head(out, Cursor { at: 0, counter: 0 }, g, n);
     records::bytes::copy_bytes(out, q.at, body, body.len());
     let end = q.at + body.len();
     emit_cleanup(
@@ -157,12 +157,13 @@ fn assemble(out: &mut [u8], body: &[u8], n: usize)
             at: end,
             counter: 0,
         },
+        g,
     );
 }
 
-fn assemble_checked(out: &mut [u8], body: &[u8], n: usize) -> Answer
-    requires { ⌜ length (now body) < 2 ^ 32 ⌝ }
-    ensures { λ r. ⌜ Assembles (now (out .entry)) (now (out .exit)) r (accepting base (length (now (out .entry))) n (now (body .entry))) n (now (body .entry)) ⌝ }
+fn assemble_checked(out: &mut [u8], g: Shape, body: &[u8], n: usize) -> Answer
+    requires { ⌜ (length (now body) < 2 ^ 32) × Supported g ⌝ }
+    ensures { λ r. ⌜ Assembles g (now (out .entry)) (now (out .exit)) r (accepting g (length (now (out .entry))) n (now (body .entry))) n (now (body .entry)) ⌝ }
 {
     if 5 < n {
         return Answer::Arguments;
@@ -179,16 +180,23 @@ fn assemble_checked(out: &mut [u8], body: &[u8], n: usize) -> Answer
     if emit::answer::is_written(answer) {} else {
         return answer;
     }
-    assemble(out, body, n);
+    assemble(out, g, body, n);
     answer
 }
 
 // A whole routine around a body of at most 65,506 records, for 0 to 5 arguments.
 pub fn into_x86_64_routine(out: &mut [u8], body: &[u8], arguments: usize) -> Answer
-    ensures { λ r. ⌜ Assembles (now (out .entry)) (now (out .exit)) r (routineAnswer base (length (now (out .entry))) arguments (now (body .entry))) arguments (now (body .entry)) ⌝ }
+    ensures { λ r. ⌜ Assembles base (now (out .entry)) (now (out .exit)) r (routineAnswer base (length (now (out .entry))) arguments (now (body .entry))) arguments (now (body .entry)) ⌝ }
+{
+    into_x86_64_routine_in(out, layout::config::base(), body, arguments)
+}
+
+fn into_x86_64_routine_in(out: &mut [u8], g: Shape, body: &[u8], arguments: usize) -> Answer
+    requires { ⌜ Supported g ⌝ }
+    ensures { λ r. ⌜ Assembles g (now (out .entry)) (now (out .exit)) r (routineAnswer g (length (now (out .entry))) arguments (now (body .entry))) arguments (now (body .entry)) ⌝ }
 {
     match records::code::check_codes(body, 65506) {
-        Checked::Good(_) => assemble_checked(out, body, arguments),
+        Checked::Good(_) => assemble_checked(out, g, body, arguments),
         Checked::Malformed(place) => Answer::Body(place),
     }
 }

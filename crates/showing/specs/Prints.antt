@@ -8,6 +8,8 @@ use Rattle.records.specs.declared.order.Order.the-variants.{Put, Compute, Copy,
 use Rattle.records.specs.declared.order.OrderRead.{OrderRead}
 use Rattle.records.specs.declared.order.OrderRead.the-variants as read
 use Rattle.text.specs.Text.{ascii, signed}
+use Rattle.layout.specs.declared.config.Shape.{Shape}
+use Rattle.layout.specs.Config.{positions}
 use Rattle.layout.specs.Positions.{location}
 use Rattle.positions.specs.Held.{heldIn}
 
@@ -15,12 +17,13 @@ use Rattle.positions.specs.Held.{heldIn}
 unfoldable pub printedText : Bool → ℕ → List ℕ
 printedText newline integer = cond newline (signed integer ++ ascii "\n") (signed integer)
 
--- registers and stack words
+-- registers, and the stack's words from its end
 module _ (reg stk : ℕ → ℕ) where
   -- the word at a variable's Snd
   unfoldable pub wordOf : ℕ → ℕ
   wordOf place = heldIn reg stk (location (2 * place + 1))
 
+module _ (g : Shape) (reg stk : ℕ → ℕ) where
   -- nothing for a variable that has no position, and for other orders
   unfoldable pub printsOf : Order → List ℕ
   printsOf (Put value) = []
@@ -29,7 +32,7 @@ module _ (reg stk : ℕ → ℕ) where
   printsOf Drop = []
   printsOf (Store n tag) = []
   printsOf (Load n) = []
-  printsOf (Print newline a) = cond (ltb a 133) (printedText newline (wordOf a)) []
+  printsOf (Print newline a) = cond (ltb (2 * a + 1) (positions g)) (printedText newline (wordOf reg stk a)) []
 
   unfoldable pub prints : OrderRead → List ℕ
   prints (read.Whole order) = printsOf order

@@ -1,10 +1,18 @@
 // What a print order writes.
+ghost use mathlib.Core.Path.{_≡_};
 ghost use Prim.Native.Nat.{_+_, _≤_, _<_};
+ghost use lib.ListN.{length};
 ghost use Rattle.records.specs.Orders.{orderRead};
 ghost use Rattle.text.specs.Putting.{farthest, Puts};
-ghost use Rattle.instructions.specs.View.{wordsOf};
-ghost use Rattle.showing.specs.Prints.{printedText, wordOf, printsOf, prints};
+ghost use Rattle.layout.specs.Config.{Supported, base, stackDepth};
+ghost use Rattle.layout.specs.Positions.{location, entries};
+ghost use Rattle.instructions.specs.View.{wordsOf, fromEnd};
+ghost use Rattle.instructions.specs.Forms.{Sized};
+ghost use Rattle.positions.specs.Held.{heldIn};
+ghost use Rattle.showing.specs.Prints.{printedText, printsOf, prints};
 use crate::variables;
+use layout::config;
+use layout::config::Shape;
 use machine::state::State;
 use records::order::Order;
 use records::order::OrderRead;
@@ -21,21 +29,35 @@ fn put_printed(text: &mut [u8], at: usize, newline: bool, integer: u64) -> usize
     next
 }
 
-fn put_word(text: &mut [u8], at: usize, newline: bool, place: u64, state: State) -> usize
-    requires { ⌜ (place < 133) × (at + 22 ≤ farthest) ⌝ }
-    ensures { λ r. ⌜ Puts 22 (now (text .entry)) at (now (text .exit)) r (printedText newline (wordOf (wordsOf (state .registers)) (wordsOf (state .stack)) place)) ⌝ }
+// The word at position p, printed.
+fn put_word(
+    text: &mut [u8],
+    at: usize,
+    newline: bool,
+    registers: &[u64; 16],
+    stack: &[u64],
+    p: u64,
+) -> usize
+    requires { ⌜ (length (now registers) ≡ 16) × (p < length (now stack)) × (p < entries) × (at + 22 ≤ farthest) ⌝ }
+    ensures { λ r. ⌜ Puts 22 (now (text .entry)) at (now (text .exit)) r (printedText newline (heldIn (wordsOf (now (registers .entry))) (fromEnd (now (stack .entry))) (location p))) ⌝ }
 {
-    let registers = state.registers;
-    let stack = state.stack;
     let table = layout::utils::positions();
-    let word = variables::word_at(&registers, &stack, &table, 2 * place + 1);
+    let word = variables::word_at(registers, stack, &table, p);
     put_printed(text, at, newline, word)
 }
 
-fn put_whole(text: &mut [u8], at: usize, order: Order, state: State) -> usize
-    requires { ⌜ at + 22 ≤ farthest ⌝ }
-    ensures { λ r. ⌜ Puts 22 (now (text .entry)) at (now (text .exit)) r (printsOf (wordsOf (state .registers)) (wordsOf (state .stack)) order) ⌝ }
+fn put_whole(
+    text: &mut [u8],
+    at: usize,
+    g: Shape,
+    order: Order,
+    registers: &[u64; 16],
+    stack: &[u64],
+) -> usize
+    requires { ⌜ Sized (stackDepth g) (now registers) (now stack) × (at + 22 ≤ farthest) × Supported g ⌝ }
+    ensures { λ r. ⌜ Puts 22 (now (text .entry)) at (now (text .exit)) r (printsOf g (wordsOf (now (registers .entry))) (fromEnd (now (stack .entry))) order) ⌝ }
 {
+    let limit = g.spills + 11;
     match order {
         Order::Put(_) => at,
         Order::Compute(_, _, _) => at,
@@ -44,8 +66,9 @@ fn put_whole(text: &mut [u8], at: usize, order: Order, state: State) -> usize
         Order::Store(_, _) => at,
         Order::Load(_) => at,
         Order::Print(newline, a) => {
-            if a < 133 {
-                return put_word(text, at, newline, a as u64, state);
+            let p = 2 * (a as u64) + 1;
+            if p < limit {
+                return put_word(text, at, newline, registers, stack, p);
             }
             at
         }
@@ -55,11 +78,27 @@ fn put_whole(text: &mut [u8], at: usize, order: Order, state: State) -> usize
 // What an order writes in a state, if it is a print order.
 pub fn put_print(text: &mut [u8], at: usize, order: &[u8], state: State) -> usize
     requires { ⌜ at + 22 ≤ farthest ⌝ }
-    ensures { λ r. ⌜ Puts 22 (now (text .entry)) at (now (text .exit)) r (prints (wordsOf (state .registers)) (wordsOf (state .stack)) (orderRead (now (order .entry)))) ⌝ }
+    ensures { λ r. ⌜ Puts 22 (now (text .entry)) at (now (text .exit)) r (prints base (wordsOf (state .registers)) (fromEnd (state .stack)) (orderRead (now (order .entry)))) ⌝ }
+{
+    let registers = state.registers;
+    let stack = state.stack;
+    put_print_in(text, at, config::base(), order, &registers, &stack)
+}
+
+pub fn put_print_in(
+    text: &mut [u8],
+    at: usize,
+    g: Shape,
+    order: &[u8],
+    registers: &[u64; 16],
+    stack: &[u64],
+) -> usize
+    requires { ⌜ Sized (stackDepth g) (now registers) (now stack) × (at + 22 ≤ farthest) × Supported g ⌝ }
+    ensures { λ r. ⌜ Puts 22 (now (text .entry)) at (now (text .exit)) r (prints g (wordsOf (now (registers .entry))) (fromEnd (now (stack .entry))) (orderRead (now (order .entry)))) ⌝ }
 {
     let read = records::order::read_order(order);
     match read {
-        OrderRead::Whole(whole) => put_whole(text, at, whole, state),
+        OrderRead::Whole(whole) => put_whole(text, at, g, whole, registers, stack),
         OrderRead::Malformed(_) => at,
     }
 }

@@ -75,7 +75,10 @@ fn room_of(orders: u64) -> usize
 
 // And print words: those look like addresses of blocks.
 fn print_words(orders: u64) -> [u64; 9] {
-    let word = word::sum(65536, word::product(64, orders % 1000));
+    let word = word::sum(
+        65536,
+        word::product(8 * inspect::shape::BLOCK, orders % 1000),
+    );
     [word; 9]
 }
 
@@ -232,7 +235,7 @@ fn words_of(blocks: u64) -> usize
     ensures { λ r. ⌜ r ≤ 12000 ⌝ }
 {
     if blocks < 1500 {
-        return 8 * (blocks as usize);
+        return (inspect::shape::BLOCK * blocks) as usize;
     }
     12000
 }

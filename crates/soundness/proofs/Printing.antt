@@ -9,6 +9,8 @@ use Rattle.records.specs.declared.order.Order.{Order}
 use Rattle.records.specs.declared.order.Order.the-variants.{Put, Compute, Copy, Drop, Store, Load, Print}
 use Rattle.records.specs.Contexts.{extAt}
 use Rattle.records.specs.Orders.{orderRead}
+use Rattle.layout.specs.declared.config.Shape.{Shape}
+use Rattle.layout.specs.Config.{Supported, positions}
 use Rattle.printing.specs.Print.{printName}
 use Rattle.heap.specs.Orders.{State}
 use Rattle.heap.specs.Values.{Values, countOf, valueAt}
@@ -26,11 +28,11 @@ use Rattle.soundness.specs.Changing.{integer-there}
 use Rattle.soundness.specs.Prints.{callTexts, putFor, calledFor, putIn, calledIn, PrintedIsCalled}
 
 -- an accepted order on a sound channel
-module _ {blocks : ℕ} {past : List State} {ch : Channel} {vs : Values} (it : Item) (s : SoundAt blocks past ch vs) (t : Taken (ch .context) (it .asked) (countOf vs)) where
+module _ {g : Shape} (sup : Supported g) {blocks : ℕ} {past : List State} {ch : Channel} {vs : Values} (it : Item) (s : SoundAt g blocks past ch vs) (t : Taken g (ch .context) (it .asked) (countOf vs)) where
   abbrev put : Order → List ℕ
-  put o = printsOf (ch .view .reg) (ch .view .stk) o
+  put o = printsOf g (ch .view .reg) (ch .view .stk) o
 
-  put-is : prints (ch .view .reg) (ch .view .stk) (orderRead (it .asked .order)) ≡ put (orderIs (it .asked))
+  put-is : prints g (ch .view .reg) (ch .view .stk) (orderRead (it .asked .order)) ≡ put (orderIs (it .asked))
   unfolding prints orderRead
   put-is = rw (t .starts, t .alone)
 
@@ -46,9 +48,9 @@ module _ {blocks : ℕ} {past : List State} {ch : Channel} {vs : Values} (it : I
       let k : placesIn (ch .context) ≡ countOf vs = places-are (ch .context) (countOf vs) (s .places) in
       let h : a < countOf vs = ltb-true a (countOf vs) (rw e at (t .there)) in
       let x : extAt (ch .context) a ≡ true = rw e at (t .of-kind) in
-      let p : 2 * a + 2 ≤ 267 = rw e at (t .placed) in
-      let w : wordOf (ch .view .reg) (ch .view .stk) a ≡ integerOf (valueAt a vs) = integer-there (heapOf (start (ch .view)) .fields) (s .heap .linked) (extAt (ch .context)) (start (ch .view)) vs (rw k at (s .heap .holds)) (s .kinds) a h x in
-      rw (lt-ltb a 133 (omega arith), w) (texts newline (integerOf (valueAt a vs)))
+      let p : 2 * a + 2 ≤ positions g = rw e at (t .placed) in
+      let w : wordOf (ch .view .reg) (ch .view .stk) a ≡ integerOf (valueAt a vs) = integer-there g (heapOf g (start (ch .view)) .fields) (s .heap .linked) (extAt (ch .context)) (start (ch .view)) vs (rw k at (s .heap .holds)) (s .kinds) a h x in
+      rw (lt-ltb (2 * a + 1) (positions g) (omega arith), w) (texts newline (integerOf (valueAt a vs)))
     where
       texts : (newline : Bool) (number : ℕ) → printedText newline number ≡ callTexts (record { name = printName newline; number = number } ∷ [])
       texts true number = sym (append-nil (printedText true number))
@@ -56,18 +58,18 @@ module _ {blocks : ℕ} {past : List State} {ch : Channel} {vs : Values} (it : I
 
 pub printed-is-called : PrintedIsCalled
 unfolding PrintedIsCalled
-printed-is-called blocks its a = along its (a .sound-before) (a .ran)
+printed-is-called g sup blocks its a = along its (a .sound-before) (a .ran)
   where
-    same : (it : Item) (its : List Item) → SoundChannel blocks its → (isAccepted (reached blocks its) it ≡ true → Ran (reached blocks its) (values blocks its) it) → putFor (reached blocks its) it ≡ calledFor (reached blocks its) it
-    same it its s r = by (isAccepted (reached blocks its) it) refl
+    same : (it : Item) (its : List Item) → SoundChannel g blocks its → (isAccepted g (reached g blocks its) it ≡ true → Ran g (reached g blocks its) (values g blocks its) it) → putFor g (reached g blocks its) it ≡ calledFor g (reached g blocks its) it
+    same it its s r = by (isAccepted g (reached g blocks its) it) refl
       where
-        by : (q : Bool) → isAccepted (reached blocks its) it ≡ q
-            → cond q (prints (reached blocks its .view .reg) (reached blocks its .view .stk) (orderRead (it .asked .order))) [] ≡ cond q (callTexts (runOf (reached blocks its) it .last .calls)) []
+        by : (q : Bool) → isAccepted g (reached g blocks its) it ≡ q
+            → cond q (prints g (reached g blocks its .view .reg) (reached g blocks its .view .stk) (orderRead (it .asked .order))) [] ≡ cond q (callTexts (runOf g (reached g blocks its) it .last .calls)) []
         by false e = refl
         by true e =
-            let t = taken (reached blocks its .context) (it .asked) (countOf (values blocks its)) (s .places) e in
-            put-is it s t ∙ called-is it s t (orderIs (it .asked)) refl ∙ ap callTexts (sym (r e .calls))
+            let t = taken g (reached g blocks its .context) (it .asked) (countOf (values g blocks its)) (s .places) e in
+            put-is sup it s t ∙ called-is sup it s t (orderIs (it .asked)) refl ∙ ap callTexts (sym (r e .calls))
 
-    along : (its : List Item) → SoundBefore blocks its → AllRan blocks its → putIn blocks its ≡ calledIn blocks its
+    along : (its : List Item) → SoundBefore g blocks its → AllRan g blocks its → putIn g blocks its ≡ calledIn g blocks its
     along [] s r = refl
-    along (it ∷ its) s r = ap (λ (x : List ℕ). x ++ putFor (reached blocks its) it) (along its (s .1) (r .1)) ∙ ap (λ (x : List ℕ). calledIn blocks its ++ x) (same it its (s .0) (r .0))
+    along (it ∷ its) s r = ap (λ (x : List ℕ). x ++ putFor g (reached g blocks its) it) (along its (s .1) (r .1)) ∙ ap (λ (x : List ℕ). calledIn g blocks its ++ x) (same it its (s .0) (r .0))

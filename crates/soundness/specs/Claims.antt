@@ -1,4 +1,5 @@
--- Demand 3: the heap stays sound for every list of orders. One claim on the whole list; this file and the definitions it cites are all that it says.
+-- Demand 3: the heap stays sound for every list of orders, in every supported shape of blocks and frame. One claim on the whole list; this file and the definitions it
+-- cites are all that it says.
 -- `fresh` and what an item does to a channel are what the contracts of `playing::channel` cite.
 -- From document 01, 'Order record', 'Plain machine of demand 3' and the lines on the heap in 'Instruction record'.
 use Prim.Native.Nat.{ℕ, _+_, _*_, _≤_, _<_}
@@ -12,7 +13,8 @@ use Rattle.records.specs.declared.order.Order.{Order}
 use Rattle.records.specs.declared.order.Order.the-variants.{Put, Compute, Copy, Drop, Store, Load, Print}
 use Rattle.records.specs.Contexts.{checkedContext, extAt}
 use Rattle.records.specs.ReadBack.{Bytes}
-use Rattle.layout.specs.Config.{base, STACK, HEAP, FREE}
+use Rattle.layout.specs.declared.config.Shape.{Shape}
+use Rattle.layout.specs.Config.{Supported, stackDepth, blockWords, STACK, HEAP, FREE}
 use Rattle.printing.specs.Print.{printName}
 use Rattle.instructions.specs.Step.{Call}
 use Rattle.machine.specs.declared.run.Answer.the-variants.{Ended}
@@ -36,32 +38,9 @@ pub record Item : Type 0 where
   pub bindings-bytes : Bytes (asked .bindings)
   pub words : ℕ → ℕ
 
--- an item on a channel: whether it is accepted, how many records it has, their run, and the channel after it
-abbrev pub isAccepted : Channel → Item → Bool
-isAccepted ch it = play.isAccepted ch (it .asked)
-
-abbrev pub recordCount : Channel → Item → ℕ
-recordCount ch it = play.recordCount ch (it .asked)
-
-abbrev pub runOf : Channel → Item → Done
-runOf ch it = play.runOf ch (it .asked) (it .words)
-
-abbrev pub next : Channel → Item → Channel
-next ch it = play.next ch (it .asked) (it .words)
-
 -- what the user owes an accepted order: a load's own kinds, and no division fault
 abbrev pub Owed : List ℕ → Order → Values → Type 0
 Owed bindings o vs = OwedKinds bindings o vs × OwedResult o vs
-
--- the blocks that an order acquires
-abbrev pub acquires : Order → ℕ
-acquires (Put value) = 0
-acquires (Compute operation a b) = 0
-acquires (Copy a n) = 0
-acquires Drop = 0
-acquires (Store n tag) = length (objectSizes n)
-acquires (Load n) = 0
-acquires (Print newline a) = 0
 
 -- the print calls that an order makes: the name its flag gives, with the variable's integer in register 7
 abbrev pub callsOf : Order → Values → List Call
@@ -73,13 +52,6 @@ callsOf (Store n tag) vs = []
 callsOf (Load n) vs = []
 callsOf (Print newline a) vs = record { name = printName newline; number = integerOf (valueAt a vs) } ∷ []
 
--- how an accepted order's run came out: it ended, in no more steps than it has records, and made the order's calls
-pub record Ran (ch : Channel) (vs : Values) (it : Item) : Type 0 where
-  pub steps : ℕ
-  pub within : steps ≤ recordCount ch it
-  pub ended : runOf ch it .answer ≡ Ended steps
-  pub calls : runOf ch it .last .calls ≡ callsOf (orderIs (it .asked)) vs
-
 -- whether an order can change variables or heap
 abbrev pub changes : Order → Bool
 changes (Put value) = true
@@ -90,104 +62,138 @@ changes (Store n tag) = true
 changes (Load n) = true
 changes (Print newline a) = false
 
--- the heap that a channel's words show, HEAP and FREE, and its variables as pairs of words, beside values
-abbrev pub stateOf : Channel → Values → State
-stateOf ch vs =
-    record {
-      memory = memoryOf 3 (ch .view .mem) (ch .view .reg HEAP) (ch .view .reg FREE);
-      variables = variablesIn (extAt (ch .context)) (ch .view .reg) (ch .view .stk) 0 (placesIn (ch .context));
-      values = vs;
-    }
+module _ (g : Shape) where
+  -- an item on a channel: whether it is accepted, how many records it has, their run, and the channel after it
+  abbrev pub isAccepted : Channel → Item → Bool
+  isAccepted ch it = play.isAccepted g ch (it .asked)
 
--- what holds of a channel beside the plain machine's values, on a heap of so many blocks, with the states before
-pub record SoundAt (blocks : ℕ) (past : List State) (ch : Channel) (vs : Values) : Type 0 where
-  -- the context has the values' kinds, in sequence
-  pub places : checkedContext (ch .context) ≡ Good (countOf vs)
-  pub kinds : KindsFrom (extAt (ch .context)) 0 vs
-  -- every variable holds its value; each block below the frontier is in exactly one of linear list, lazy list and held; held is what pointers reach;
-  -- a held block's count is its pointers less one; the frontier ends FREE's chain and is the first block never held or on HEAP's list
-  pub heap : HeapAfter objectSizes (layout 3) past (stateOf ch vs)
-  -- and there is such a block
-  pub frontier-there : heap .frontier < blocks
-  -- the lent heap is those blocks
-  pub whole : ch .view .size ≡ 8 * blocks
-  -- STACK is where the setup left it, so that spill p is at 2048 − 8(p+1) from it
-  pub stack-there : ch .view .reg STACK ≡ fresh blocks .view .reg STACK
+  abbrev pub recordCount : Channel → Item → ℕ
+  recordCount ch it = play.recordCount g ch (it .asked)
 
--- A refused order leaves the channel, its two outputs, whatever they held, and the counter as they were: by the definitions that the contracts of
--- `playing::channel::play`, of the order function and of the library's order cite.
-pub record Refused (ch : Channel) (it : Item) : Type 0 where
-  pub channel-kept : next ch it ≡ ch
-  pub records-kept : (o : List ℕ) → recordsOutput base (ch .context) (it .asked) o ≡ o
-  pub context-kept : (o : List ℕ) → contextOutput base (ch .context) (it .asked) o ≡ o
-  pub counter-kept : counterAfter (it .asked .counter) (answerTo base (ch .context) (it .asked)) ≡ it .asked .counter
+  abbrev pub runOf : Channel → Item → Done
+  runOf ch it = play.runOf g ch (it .asked) (it .words)
 
--- lists of items have the newest first
-module _ (blocks : ℕ) where
-  -- the channel after a list
-  abbrev pub reached : List Item → Channel
-  reached [] = fresh blocks
-  reached (it ∷ its) = next (reached its) it
+  abbrev pub next : Channel → Item → Channel
+  next ch it = play.next g ch (it .asked) (it .words)
 
-  -- the plain machine's values after a list: it is fed the accepted orders
-  abbrev pub values : List Item → Values
-  values [] = nil
-  values (it ∷ its) = cond (isAccepted (reached its) it) (plainly (orderIs (it .asked)) (values its)) (values its)
+  -- the blocks that an order acquires
+  abbrev pub acquires : Order → ℕ
+  acquires (Put value) = 0
+  acquires (Compute operation a b) = 0
+  acquires (Copy a n) = 0
+  acquires Drop = 0
+  acquires (Store n tag) = length (objectSizes g n)
+  acquires (Load n) = 0
+  acquires (Print newline a) = 0
 
-  abbrev pub stateAfter : List Item → State
-  stateAfter its = stateOf (reached its) (values its)
+  -- how an accepted order's run came out: it ended, in no more steps than it has records, and made the order's calls
+  pub record Ran (ch : Channel) (vs : Values) (it : Item) : Type 0 where
+    pub steps : ℕ
+    pub within : steps ≤ recordCount ch it
+    pub ended : runOf ch it .answer ≡ Ended steps
+    pub calls : runOf ch it .last .calls ≡ callsOf (orderIs (it .asked)) vs
 
-  -- what the user owes each accepted order
-  abbrev pub AllOwed : List Item → Type 0
-  AllOwed [] = Unit {0}
-  AllOwed (it ∷ its) = (isAccepted (reached its) it ≡ true → Owed (it .asked .bindings) (orderIs (it .asked)) (values its)) × AllOwed its
+  -- the heap that a channel's words show, HEAP and FREE, and its variables as pairs of words, beside values
+  abbrev pub stateOf : Channel → Values → State
+  stateOf ch vs =
+      record {
+        memory = memoryOf (g .fields) (ch .view .mem) (ch .view .reg HEAP) (ch .view .reg FREE);
+        variables = variablesIn (extAt (ch .context)) (ch .view .reg) (ch .view .stk) 0 (placesIn (ch .context));
+        values = vs;
+      }
 
-  -- The peak is at most so many blocks: each accepted store of some counts the blocks that the variables lead to before it and those that it acquires,
-  -- whether or not its run ends. The variables lead to one number of blocks (`reachable-unique`).
-  abbrev pub PeakWithin : ℕ → List Item → Type 0
-  PeakWithin peak [] = Unit {0}
-  PeakWithin peak (it ∷ its) =
-      (isAccepted (reached its) it ≡ true → acquires (orderIs (it .asked)) ≢ 0 → (count : ℕ) → Reaches count (stateAfter its) → count + acquires (orderIs (it .asked)) ≤ peak) × PeakWithin peak its
+  -- what holds of a channel beside the plain machine's values, on a heap of so many blocks, with the states before
+  pub record SoundAt (blocks : ℕ) (past : List State) (ch : Channel) (vs : Values) : Type 0 where
+    -- the context has the values' kinds, in sequence
+    pub places : checkedContext (ch .context) ≡ Good (countOf vs)
+    pub kinds : KindsFrom (extAt (ch .context)) 0 vs
+    -- every variable holds its value; each block below the frontier is in exactly one of linear list, lazy list and held; held is what pointers reach;
+    -- a held block's count is its pointers less one; the frontier ends FREE's chain and is the first block never held or on HEAP's list
+    pub heap : HeapAfter (objectSizes g) (layout (g .fields)) past (stateOf ch vs)
+    -- and there is such a block
+    pub frontier-there : heap .frontier < blocks
+    -- the lent heap is those blocks
+    pub whole : ch .view .size ≡ blockWords g * blocks
+    -- STACK is where the setup left it, so that each spill is where `stackOffset` says, on the whole stack
+    pub stack-whole : ch .view .depth ≡ stackDepth g
+    pub stack-there : ch .view .reg STACK ≡ fresh g blocks .view .reg STACK
 
-  -- the blocks that the accepted orders acquire
-  abbrev pub acquired : List Item → ℕ
-  acquired [] = 0
-  acquired (it ∷ its) = cond (isAccepted (reached its) it) (acquires (orderIs (it .asked))) 0 + acquired its
+  -- A refused order leaves the channel, its two outputs, whatever they held, and the counter as they were: by the definitions that the contracts of
+  -- `playing::channel::play`, of the order function and of the library's order cite.
+  pub record Refused (ch : Channel) (it : Item) : Type 0 where
+    pub channel-kept : next ch it ≡ ch
+    pub records-kept : (o : List ℕ) → recordsOutput g (ch .context) (it .asked) o ≡ o
+    pub context-kept : (o : List ℕ) → contextOutput g (ch .context) (it .asked) o ≡ o
+    pub counter-kept : counterAfter (it .asked .counter) (answerTo g (ch .context) (it .asked)) ≡ it .asked .counter
 
-  -- the states before, newest first; refused orders and prints leave the state as it was, so it stands once
-  abbrev pub statesBefore : List Item → List State
-  statesBefore [] = []
-  statesBefore (it ∷ its) = cond (isAccepted (reached its) it && changes (orderIs (it .asked))) (stateAfter its ∷ statesBefore its) (statesBefore its)
+  -- lists of items have the newest first
+  module _ (blocks : ℕ) where
+    -- the channel after a list
+    abbrev pub reached : List Item → Channel
+    reached [] = fresh g blocks
+    reached (it ∷ its) = next (reached its) it
 
-  -- what holds of the channel after a list
-  abbrev pub SoundChannel : List Item → Type 0
-  SoundChannel its = SoundAt blocks (statesBefore its) (reached its) (values its)
+    -- the plain machine's values after a list: it is fed the accepted orders
+    abbrev pub values : List Item → Values
+    values [] = nil
+    values (it ∷ its) = cond (isAccepted (reached its) it) (plainly (orderIs (it .asked)) (values its)) (values its)
 
-  -- and after every beginning of it
-  abbrev pub SoundBefore : List Item → Type 0
-  SoundBefore [] = Unit {0}
-  SoundBefore (it ∷ its) = SoundChannel its × SoundBefore its
+    abbrev pub stateAfter : List Item → State
+    stateAfter its = stateOf (reached its) (values its)
 
-  -- each accepted order's run
-  abbrev pub AllRan : List Item → Type 0
-  AllRan [] = Unit {0}
-  AllRan (it ∷ its) = (isAccepted (reached its) it ≡ true → Ran (reached its) (values its) it) × AllRan its
+    -- what the user owes each accepted order
+    abbrev pub AllOwed : List Item → Type 0
+    AllOwed [] = Unit {0}
+    AllOwed (it ∷ its) = (isAccepted (reached its) it ≡ true → Owed (it .asked .bindings) (orderIs (it .asked)) (values its)) × AllOwed its
 
-  -- each refused order changed nothing
-  abbrev pub AllRefused : List Item → Type 0
-  AllRefused [] = Unit {0}
-  AllRefused (it ∷ its) = (isAccepted (reached its) it ≡ false → Refused (reached its) it) × AllRefused its
+    -- The peak is at most so many blocks: each accepted store of some counts the blocks that the variables lead to before it and those that it acquires,
+    -- whether or not its run ends. The variables lead to one number of blocks (`reachable-unique`).
+    abbrev pub PeakWithin : ℕ → List Item → Type 0
+    PeakWithin peak [] = Unit {0}
+    PeakWithin peak (it ∷ its) =
+        (isAccepted (reached its) it ≡ true → acquires (orderIs (it .asked)) ≢ 0 → (count : ℕ) → Reaches count (stateAfter its) → count + acquires (orderIs (it .asked)) ≤ peak) × PeakWithin peak its
 
-  pub record After (its : List Item) : Type 0 where
-    pub sound : SoundChannel its
-    pub sound-before : SoundBefore its
-    pub ran : AllRan its
-    pub refused : AllRefused its
+    -- the blocks that the accepted orders acquire
+    abbrev pub acquired : List Item → ℕ
+    acquired [] = 0
+    acquired (it ∷ its) = cond (isAccepted (reached its) it) (acquires (orderIs (it .asked))) 0 + acquired its
 
--- after every list of items, on at least two blocks more than the peak
+    -- the states before, newest first; refused orders and prints leave the state as it was, so it stands once
+    abbrev pub statesBefore : List Item → List State
+    statesBefore [] = []
+    statesBefore (it ∷ its) = cond (isAccepted (reached its) it && changes (orderIs (it .asked))) (stateAfter its ∷ statesBefore its) (statesBefore its)
+
+    -- what holds of the channel after a list
+    abbrev pub SoundChannel : List Item → Type 0
+    SoundChannel its = SoundAt blocks (statesBefore its) (reached its) (values its)
+
+    -- and after every beginning of it
+    abbrev pub SoundBefore : List Item → Type 0
+    SoundBefore [] = Unit {0}
+    SoundBefore (it ∷ its) = SoundChannel its × SoundBefore its
+
+    -- each accepted order's run
+    abbrev pub AllRan : List Item → Type 0
+    AllRan [] = Unit {0}
+    AllRan (it ∷ its) = (isAccepted (reached its) it ≡ true → Ran (reached its) (values its) it) × AllRan its
+
+    -- each refused order changed nothing
+    abbrev pub AllRefused : List Item → Type 0
+    AllRefused [] = Unit {0}
+    AllRefused (it ∷ its) = (isAccepted (reached its) it ≡ false → Refused (reached its) it) × AllRefused its
+
+    pub record After (its : List Item) : Type 0 where
+      pub sound : SoundChannel its
+      pub sound-before : SoundBefore its
+      pub ran : AllRan its
+      pub refused : AllRefused its
+
+-- in every supported shape, after every list of items, on at least two blocks more than the peak
 unfoldable pub HeapStaysSound : Type 0
-HeapStaysSound = (blocks peak : ℕ) (its : List Item) → PeakWithin blocks peak its → 2 + peak ≤ blocks → blocks ≤ 1048576 → AllOwed blocks its → After blocks its
+HeapStaysSound =
+    (g : Shape) → Supported g → (blocks peak : ℕ) (its : List Item) → PeakWithin g blocks peak its → 2 + peak ≤ blocks → blocks ≤ 1048576 → AllOwed g blocks its → After g blocks its
 
 -- on at least two blocks more than the accepted orders acquire: more blocks, and nothing to know of what is reachable
 unfoldable pub HeapStaysSoundOnAcquired : Type 0
-HeapStaysSoundOnAcquired = (blocks : ℕ) (its : List Item) → 2 + acquired blocks its ≤ blocks → blocks ≤ 1048576 → AllOwed blocks its → After blocks its
+HeapStaysSoundOnAcquired =
+    (g : Shape) → Supported g → (blocks : ℕ) (its : List Item) → 2 + acquired g blocks its ≤ blocks → blocks ≤ 1048576 → AllOwed g blocks its → After g blocks its

@@ -7,7 +7,8 @@ use native.Mathlib.Nat.{zero-add}
 use native.Mathlib.Omega.{arith}
 use lib.ListN.{length}
 use Rattle.trees.specs.Tree.{nop, seq}
-use Rattle.layout.specs.Config.{base}
+use Rattle.layout.specs.declared.config.Shape.{Shape}
+use Rattle.layout.specs.Config.{positions}
 use Rattle.layout.specs.Positions.{location}
 use Rattle.instructions.specs.Step.{Config}
 use Rattle.code.specs.Code.{loadImmediate}
@@ -19,7 +20,7 @@ use Rattle.heap.specs.Invariant.{Represents}
 use Rattle.heap.specs.Orders.{drop, store}
 use Rattle.heap.specs.Values.{Values}
 use Rattle.positions.specs.Held.{Placed}
-use Rattle.positions.specs.HeldLemmas.{keeps-sub, keeps-register, placed-keeps, location-fits}
+use Rattle.positions.specs.HeldLemmas.{keeps-sub, keeps-register, placed-keeps, location-fits, location-free}
 use Rattle.positions.specs.Runs.{Does, one, so}
 use Rattle.meaning.proofs.Puts.{puts-sets}
 use Rattle.meaning.proofs.Records.{immediate-does}
@@ -32,37 +33,38 @@ use Rattle.bridge.specs.Sizes.{objectSizes}
 use Rattle.bridge.specs.Variables.{variable, variables, variables-snoc, variables-kinds}
 use Rattle.soundness.specs.Appending.{Performed, heap-same}
 
-module _ (words : ℕ → ℕ) {N m : ℕ} {values : Values} (ext ext′ : ℕ → Bool) (c : Config) (v : Placed N c) where
-  -- the variable e is the last
-  pub drop-does : (e : ℕ) → e < 133 → m ≤ N → ((x : ℕ) → x < e → ext′ x ≡ ext x) → Represents objectSizes L (heapOf c) m (variables ext c 0 (suc e)) values
-      → Does words (cond (ext e) nop (eraseBlock base (location (2 * e)))) c (Performed N c drop ext ext′ (suc e) e)
-  drop-does e h mN agree rep = by (ext e) refl
-    where
-      snoc : variables ext c 0 (suc e) ≡ variables ext c 0 e ++ (variable ext c e ∷ [])
-      snoc = variables-snoc ext c 0 e ∙ rw (zero-add e)
+module _ (G : Shape) where
+  module _ (words : ℕ → ℕ) {N m : ℕ} {values : Values} (ext ext′ : ℕ → Bool) (c : Config) (v : Placed G N c) where
+    -- the variable e is the last
+    pub drop-does : (e : ℕ) → 2 * e + 2 < positions G → m ≤ N → ((x : ℕ) → x < e → ext′ x ≡ ext x) → Represents (objectSizes G) (L G) (heapOf G c) m (variables ext c 0 (suc e)) values
+        → Does words (cond (ext e) nop (eraseBlock G (location (2 * e)))) c (Performed G N c drop ext ext′ (suc e) e)
+    drop-does e h mN agree rep = by (ext e) refl
+      where
+        snoc : variables ext c 0 (suc e) ≡ variables ext c 0 e ++ (variable ext c e ∷ [])
+        snoc = variables-snoc ext c 0 e ∙ rw (zero-add e)
 
-      kinds : (d : Config) → variables ext′ d 0 e ≡ variables ext d 0 e
-      kinds d = variables-kinds ext ext′ d 0 e (λ x a b. agree x (omega arith))
+        kinds : (d : Config) → variables ext′ d 0 e ≡ variables ext d 0 e
+        kinds d = variables-kinds ext ext′ d 0 e (λ x a b. agree x (omega arith))
 
-      by : (q : Bool) → ext e ≡ q → Does words (cond q nop (eraseBlock base (location (2 * e)))) c (Performed N c drop ext ext′ (suc e) e)
-      by true q = one refl (record { performs = rw (snoc, kinds c) (drop-integer ext c e q); placed = v; quiet = refl })
-      by false q =
-          so (drop-order words ext c e v mN h q (rw snoc at rep)) (λ d x.
-          record { performs = rw (snoc, kinds d) (x .0); placed = placed-keeps (omega arith, omega arith) (x .1) v; quiet = x .1 .calls-kept })
+        by : (q : Bool) → ext e ≡ q → Does words (cond q nop (eraseBlock G (location (2 * e)))) c (Performed G N c drop ext ext′ (suc e) e)
+        by true q = one refl (record { performs = rw (snoc, kinds c) (drop-integer G ext c e q); placed = v; quiet = refl })
+        by false q =
+            so (drop-order words ext c e v mN h q (rw snoc at rep)) (λ d x.
+            record { performs = rw (snoc, kinds d) (x .0); placed = placed-keeps (omega arith, omega arith) (x .1) v; quiet = x .1 .calls-kept })
 
-  -- the variables from r on are the last n; it faults only where the heap has no room for what is reachable and what it acquires
-  pub store-tries : (r n tag : ℕ) → r + n ≤ 133 → r < 133 → ((x : ℕ) → x < r → ext′ x ≡ ext x) → ext′ r ≡ false → m ≤ N
-      → Represents objectSizes L (heapOf c) m (variables ext c 0 (r + n)) values
-      → Attempts words (seq (storeObject base ext r n) (loadImmediate base (location (2 * r + 1)) tag)) c
-      (((count : ℕ) → ReachableCount (heapOf c .fields) (pointers (variables ext c 0 (r + n))) count → count + length (objectSizes n) < N) → m < N → ⊥)
-      (λ d. Performed N c (store n tag) ext ext′ (r + n) (suc r) d × Within N (heapOf d .lazy-head))
-  store-tries r n tag h l agree linked le rep =
-      let f = location-fits (2 * r + 1) (omega arith) in
-      let g = location-fits (2 * r) (omega arith) in
-      attempt-weaken (λ d x. (record { performs = x .0; placed = placed-keeps ((omega arith, omega arith, omega arith), omega (arith, g .0)) (x .2) v; quiet = x .2 .calls-kept }, x .1))
-      (store-order-tries words ext ext′ c r n tag (loadImmediate base (location (2 * r + 1)) tag) v h l agree linked
-      (λ u p. so (immediate-does words u p (location (2 * r + 1)) tag (f .1)) (λ z s.
-      let t = puts-sets s in
-      let K = t .1 .kept in
-      (t .0, heap-same u z (t .1 .heap) (keeps-register K 2 (omega arith) (omega (arith, f .0), omega arith)) (keeps-register K 3 (omega arith) (omega (arith, f .0), omega arith)), keeps-sub (λ x q. (q .1, q .0)) K)))
-      le rep)
+    -- the variables from r on are the last n; it faults only where the heap has no room for what is reachable and what it acquires
+    pub store-tries : (r n tag : ℕ) → 2 * (r + n) < positions G → 2 * r + 2 < positions G → ((x : ℕ) → x < r → ext′ x ≡ ext x) → ext′ r ≡ false → m ≤ N
+        → Represents (objectSizes G) (L G) (heapOf G c) m (variables ext c 0 (r + n)) values
+        → Attempts words (seq (storeObject G ext r n) (loadImmediate G (location (2 * r + 1)) tag)) c
+        (((count : ℕ) → ReachableCount (heapOf G c .fields) (pointers (variables ext c 0 (r + n))) count → count + length (objectSizes G n) < N) → m < N → ⊥)
+        (λ d. Performed G N c (store n tag) ext ext′ (r + n) (suc r) d × Within G N (heapOf G d .lazy-head))
+    store-tries r n tag h l agree linked le rep =
+        let f = location-fits G (2 * r + 1) (omega arith) in
+        let g = location-free (2 * r) in
+        attempt-weaken (λ d x. (record { performs = x .0; placed = placed-keeps ((omega arith, omega arith, omega arith), omega (arith, g .0)) (x .2) v; quiet = x .2 .calls-kept }, x .1))
+        (store-order-tries words ext ext′ c r n tag (loadImmediate G (location (2 * r + 1)) tag) v h l agree linked
+        (λ u p. so (immediate-does words u p (location (2 * r + 1)) tag (f .1)) (λ z s.
+        let t = puts-sets s in
+        let K = t .1 .kept in
+        (t .0, heap-same G u z (t .1 .heap) (keeps-register K 2 (omega arith) (omega (arith, f .0), omega arith)) (keeps-register K 3 (omega arith) (omega (arith, f .0), omega arith)), keeps-sub (λ x q. (q .1, q .0)) K)))
+        le rep)

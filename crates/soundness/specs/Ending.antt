@@ -2,10 +2,12 @@
 use mathlib.Core.Bool.{true}
 use mathlib.Core.List.{[]}
 use mathlib.Core.Path.{_≡_, sym, _∙_, ap}
-use Prim.Native.Nat.{ℕ, _+_, _*_, _%_, _≤_}
-use native.Mathlib.Nat.{add-zero}
+use Prim.Native.Nat.{ℕ, _+_, _*_, _/_, _%_, _≤_}
+use native.Mathlib.Nat.{add-zero, mul-div-cancel-left, div-add-mod}
 use native.Mathlib.Omega.{arith}
-use borrow.Author.Tests.{eq-eqb, le-leb}
+use borrow.Author.Tests.{le-leb}
+use Rattle.layout.specs.declared.config.Shape.{Shape}
+use Rattle.layout.specs.Config.{blockWords}
 use Rattle.records.specs.ReadBack.{joined, codeBytes}
 use Rattle.trees.specs.Tree.{Tree, labels, size, flat}
 use Rattle.instructions.specs.declared.instruction.Compared.the-variants.{Absent}
@@ -26,30 +28,32 @@ use Rattle.formed.specs.Bytes.{ran-started}
 abbrev pub start : View → Config
 start v = config v Absent []
 
-pub heap-ok : (blocks : ℕ) (v : View) → Placed blocks (start v) → 2 ≤ blocks → heapOk (v .size) ≡ true
-unfolding heapOk
-heap-ok blocks v p h =
-    let f = p .fits in
-    let a : (8 * blocks) % 8 ≡ 0 = omega arith in
-    rw (p .words, eq-eqb ((8 * blocks) % 8) 0 a, le-leb 16 (8 * blocks) (omega arith), le-leb (8 * blocks) 8388608 (omega arith))
+module _ (G : Shape) where
+  pub heap-ok : (blocks : ℕ) (v : View) → Placed G blocks (start v) → 2 ≤ blocks → heapOk (blockWords G) (v .size) ≡ true
+  unfolding heapOk
+  heap-ok blocks v p h =
+      let q : (blockWords G * blocks) / blockWords G ≡ blocks = mul-div-cancel-left blocks (omega arith) in
+      let d = rw q at (div-add-mod (blockWords G * blocks) (blockWords G)) in
+      let a : (blockWords G * blocks) % blockWords G ≡ 0 = omega arith in
+      rw (p .words, le-leb 1 (blockWords G) (omega arith), a, q, le-leb 2 blocks h, le-leb blocks 1048576 (p .fits))
 
-pub record Ends (words : ℕ → ℕ) (t : Tree) (counter : ℕ) (v : View) (Q : Config → Type 0) : Type 0 where
-  pub steps : ℕ
-  pub within : steps ≤ size t
-  pub last : Config
-  pub tree : evaluate words t (start v) ≡ evaluation.done last
-  pub run : ran words (joined codeBytes (flat t counter)) (size t) v ≡ done (Ended steps) last
-  pub post : Q last
+  pub record Ends (words : ℕ → ℕ) (t : Tree) (counter : ℕ) (v : View) (Q : Config → Type 0) : Type 0 where
+    pub steps : ℕ
+    pub within : steps ≤ size t
+    pub last : Config
+    pub tree : evaluate words t (start v) ≡ evaluation.done last
+    pub run : ran (blockWords G) words (joined codeBytes (flat t counter)) (size t) v ≡ done (Ended steps) last
+    pub post : Q last
 
-pub ends : {words : ℕ → ℕ} {t : Tree} {v : View} {Q : Config → Type 0} (counter : ℕ) → Formed t → counter + labels t ≤ 2147483647 → size t ≤ 65536 → heapOk (v .size) ≡ true
-    → Does words t (start v) Q → Ends words t counter v Q
-ends {words} {t} {v} counter f l m h d =
-    let e = tree-ends words t counter 0 v (d .to) (d .run) in
-    record {
-      steps = e .0;
-      within = e .1;
-      last = d .to;
-      tree = d .run;
-      run = ran-started words t counter (size t) v f l m h ∙ ap (λ (n : ℕ). started words (flat t counter) n v) (sym (add-zero (size t))) ∙ e .2;
-      post = d .post;
-    }
+  pub ends : {words : ℕ → ℕ} {t : Tree} {v : View} {Q : Config → Type 0} (counter : ℕ) → Formed t → counter + labels t ≤ 2147483647 → size t ≤ 65536 → heapOk (blockWords G) (v .size) ≡ true
+      → Does words t (start v) Q → Ends words t counter v Q
+  ends {words} {t} {v} counter f l m h d =
+      let e = tree-ends words t counter 0 v (d .to) (d .run) in
+      record {
+        steps = e .0;
+        within = e .1;
+        last = d .to;
+        tree = d .run;
+        run = ran-started (blockWords G) words t counter (size t) v f l m h ∙ ap (λ (n : ℕ). started words (flat t counter) n v) (sym (add-zero (size t))) ∙ e .2;
+        post = d .post;
+      }

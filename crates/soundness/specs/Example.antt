@@ -17,7 +17,8 @@ use Rattle.records.specs.Contexts.{bindingBytes, bindingStarts}
 use Rattle.records.specs.Orders.{orderFieldsOf, orderBytes, orderIn, orderOf, orderReaders, orderOk, orderOperandsOk, usedByOrder, orderStarts}
 use Rattle.records.specs.ReadBack.{Bytes}
 use Rattle.records.proofs.Conditions.{and-left, and-right}
-use Rattle.layout.specs.Config.{stackOffset}
+use Rattle.layout.specs.Config.{base, stackOffset}
+use Rattle.layout.proofs.Placing.{base-supported}
 use Rattle.layout.specs.Positions.{location}
 use Rattle.heap.specs.Blocks.{Cell, cell}
 use Rattle.heap.specs.Values.{integer, object, Values, nil, cons, concat, lengths, Object, HoldAll}
@@ -97,22 +98,22 @@ workedValues = cons (object 9 (cons (integer 7) (cons (integer 120) nil))) nil
 
 -- on four blocks: two are acquired
 pub record WorkedListIsSound : Type 0 where
-  pub acquires-two : acquired 4 workedList ≡ 2
-  pub plain-values : values 4 workedList ≡ workedValues
-  pub after : After 4 workedList
+  pub acquires-two : acquired base 4 workedList ≡ 2
+  pub plain-values : values base 4 workedList ≡ workedValues
+  pub after : After base 4 workedList
   -- what it says of the variables: one, linked, with tag 9, whose block holds 7 and 120 in its last two fields
-  pub shown : (c : Cell) × (stateAfter 4 workedList .variables ≡ c ∷ []) × (c .snd ≡ 9) × (c .fst ≢ 0)
-      × (unused : List Cell) × (stateAfter 4 workedList .memory .fields (c .fst) ≡ unused ++ (cell 0 7 ∷ cell 0 120 ∷ []))
+  pub shown : (c : Cell) × (stateAfter base 4 workedList .variables ≡ c ∷ []) × (c .snd ≡ 9) × (c .fst ≢ 0)
+      × (unused : List Cell) × (stateAfter base 4 workedList .memory .fields (c .fst) ≡ unused ++ (cell 0 7 ∷ cell 0 120 ∷ []))
 
-two : acquired 4 workedList ≡ 2
+two : acquired base 4 workedList ≡ 2
 unfolding answerTo orderBytes le number checked firstBad bindingStarts bindingBytes orderIn orderOf orderReaders orderOk orderOperandsOk usedByOrder orderStarts treeOf contextAfter present kindsOk asked plainly location stackOffset putSeven storeOne copyIt loadShared dropIt nothing loadReleased printIt putMore storeTwo
 two = refl
 
-plain : values 4 workedList ≡ workedValues
+plain : values base 4 workedList ≡ workedValues
 unfolding answerTo orderBytes le number checked firstBad bindingStarts bindingBytes orderIn orderOf orderReaders orderOk orderOperandsOk usedByOrder orderStarts treeOf contextAfter present kindsOk asked plainly location stackOffset putSeven storeOne copyIt loadShared dropIt nothing loadReleased printIt putMore storeTwo
 plain = refl
 
-owed : AllOwed 4 workedList
+owed : AllOwed base 4 workedList
 unfolding answerTo orderBytes le number checked firstBad bindingStarts bindingBytes orderIn orderOf orderReaders orderOk orderOperandsOk usedByOrder orderStarts treeOf contextAfter present kindsOk asked plainly location stackOffset putSeven storeOne copyIt loadShared dropIt nothing loadReleased printIt putMore storeTwo
 owed =
     ((λ e. (tt, tt)), ((λ e. (tt, tt)), ((λ e. (tt, tt)), ((λ e. ((refl, (refl, tt)), tt)), ((λ e. absurd (no e)), ((λ e. (tt, tt)), ((λ e. ((refl, (refl, tt)), tt)), ((λ e. (tt, tt)), ((λ e. (tt, tt)), ((λ e. (tt, tt)), tt))))))))))
@@ -122,7 +123,7 @@ owed =
 
 -- an object of two integers has one block
 two-held : (fields : ℕ → List Cell) (linked : ℕ → ℕ) (c : Cell) (chunks : List (List Cell)) → Object fields linked (c .fst) chunks → lengths chunks ≡ 2 ∷ []
-    → HoldAll objectSizes fields linked (cons (integer 7) (cons (integer 120) nil)) (concat chunks) → (c .fst ≢ 0) × (unused : List Cell) × (fields (c .fst) ≡ unused ++ (cell 0 7 ∷ cell 0 120 ∷ []))
+    → HoldAll (objectSizes base) fields linked (cons (integer 7) (cons (integer 120) nil)) (concat chunks) → (c .fst ≢ 0) × (unused : List Cell) × (fields (c .fst) ≡ unused ++ (cell 0 7 ∷ cell 0 120 ∷ []))
 two-held fields linked c [] o l h = let z : _≡_ {A = ℕ} 0 1 = cc in absurd (omega arith)
 two-held fields linked c (d ∷ e ∷ chunks) o l h = let z : _≡_ {A = ℕ} 0 1 = cc in absurd (omega arith)
 two-held fields linked c (d ∷ []) o l h =
@@ -136,9 +137,9 @@ two-held fields linked c (d ∷ []) o l h =
 pub worked-list-is-sound : WorkedListIsSound
 unfolding HeapStaysSoundOnAcquired
 worked-list-is-sound =
-    let a = heap-stays-sound-on-acquired 4 workedList (rw two (omega arith)) (omega arith) owed in
+    let a = heap-stays-sound-on-acquired base base-supported 4 workedList (rw two (omega arith)) (omega arith) owed in
     let s = a .sound .heap in
-    let h : HoldAll objectSizes (stateAfter 4 workedList .memory .fields) (s .linked) workedValues (stateAfter 4 workedList .variables) = rw plain at (s .holds) in
+    let h : HoldAll (objectSizes base) (stateAfter base 4 workedList .memory .fields) (s .linked) workedValues (stateAfter base 4 workedList .variables) = rw plain at (s .holds) in
     let o = h .3 in
-    let t = two-held (stateAfter 4 workedList .memory .fields) (s .linked) (h .0) (o .2) (o .3) (o .5) (o .4) in
+    let t = two-held (stateAfter base 4 workedList .memory .fields) (s .linked) (h .0) (o .2) (o .3) (o .5) (o .4) in
     record { acquires-two = two; plain-values = plain; after = a; shown = (h .0, h .2 ∙ ap (λ (r : List Cell). h .0 ∷ r) (h .4), o .0, t .0, t .1, t .2) }

@@ -9,7 +9,8 @@ use Rattle.records.specs.Bytes.{le, number}
 use Rattle.records.specs.Checked.{checked, firstBad}
 use Rattle.records.specs.Contexts.{bindingBytes, bindingStarts}
 use Rattle.records.specs.Orders.{orderBytes, orderIn, orderOf, orderReaders, orderOk, orderOperandsOk, usedByOrder, orderStarts}
-use Rattle.layout.specs.Config.{stackOffset}
+use Rattle.layout.specs.Config.{base, stackOffset}
+use Rattle.layout.proofs.Placing.{base-supported}
 use Rattle.layout.specs.Positions.{location}
 use Rattle.machine.specs.declared.run.Answer.{Answer}
 use Rattle.machine.specs.declared.run.Answer.the-variants.{Ended, Malformed, Fault, Limit}
@@ -33,16 +34,16 @@ abbrev pub season : List Item
 season = loadReleased ∷ storeOne ∷ loadReleased ∷ storeOne ∷ loadReleased ∷ storeOne ∷ putSeven ∷ []
 
 pub record SeasonIsSound : Type 0 where
-  pub acquires-three : acquired 3 season ≡ 3
-  pub one-at-once : PeakWithin 3 1 season
-  pub plain-values : values 3 season ≡ cons (integer 7) nil
-  pub after : After 3 season
+  pub acquires-three : acquired base 3 season ≡ 3
+  pub one-at-once : PeakWithin base 3 1 season
+  pub plain-values : values base 3 season ≡ cons (integer 7) nil
+  pub after : After base 3 season
 
-three : acquired 3 season ≡ 3
+three : acquired base 3 season ≡ 3
 unfolding answerTo orderBytes le number checked firstBad bindingStarts bindingBytes orderIn orderOf orderReaders orderOk orderOperandsOk usedByOrder orderStarts treeOf contextAfter present kindsOk asked plainly location stackOffset putSeven storeOne loadReleased
 three = refl
 
-plain : values 3 season ≡ cons (integer 7) nil
+plain : values base 3 season ≡ cons (integer 7) nil
 unfolding answerTo orderBytes le number checked firstBad bindingStarts bindingBytes orderIn orderOf orderReaders orderOk orderOperandsOk usedByOrder orderStarts treeOf contextAfter present kindsOk asked plainly location stackOffset putSeven storeOne loadReleased
 plain = refl
 
@@ -50,38 +51,38 @@ plain = refl
 none-led : (fields : ℕ → List Cell) (count : ℕ) → ReachableCount fields (0 ∷ []) count → count + 1 ≤ 1
 none-led fields count k = omega (arith, nothing-led fields (0 ∷ []) (λ b nz. omega (arith, same-other nz)) count k)
 
-within : PeakWithin 3 1 season
+within : PeakWithin base 3 1 season
 unfolding answerTo orderBytes le number checked firstBad bindingStarts bindingBytes orderIn orderOf orderReaders orderOk orderOperandsOk usedByOrder orderStarts treeOf contextAfter present kindsOk asked plainly location stackOffset putSeven storeOne loadReleased
 within =
     ((λ e z. absurd (z refl)), ((λ e z count k. none-led _ count k), ((λ e z. absurd (z refl)), ((λ e z count k. none-led _ count k), ((λ e z. absurd (z refl)), ((λ e z count k. none-led _ count k), ((λ e z. absurd (z refl)), tt)))))))
 
-owed : AllOwed 3 season
+owed : AllOwed base 3 season
 unfolding answerTo orderBytes le number checked firstBad bindingStarts bindingBytes orderIn orderOf orderReaders orderOk orderOperandsOk usedByOrder orderStarts treeOf contextAfter present kindsOk asked plainly location stackOffset putSeven storeOne loadReleased
 owed = ((λ e. ((refl, (refl, tt)), tt)), ((λ e. (tt, tt)), ((λ e. ((refl, (refl, tt)), tt)), ((λ e. (tt, tt)), ((λ e. ((refl, (refl, tt)), tt)), ((λ e. (tt, tt)), ((λ e. (tt, tt)), tt)))))))
 
 pub season-is-sound : SeasonIsSound
 unfolding HeapStaysSound
-season-is-sound = record { acquires-three = three; one-at-once = within; plain-values = plain; after = heap-stays-sound 3 1 season within (omega arith) (omega arith) owed }
+season-is-sound = record { acquires-three = three; one-at-once = within; plain-values = plain; after = heap-stays-sound base base-supported 3 1 season within (omega arith) (omega arith) owed }
 
 -- ---- put 7 and store 1 on two blocks: one block is reachable, so that the frontier is past the heap
 
 abbrev short : List Item
 short = storeOne ∷ putSeven ∷ []
 
-short-within : PeakWithin 2 1 short
+short-within : PeakWithin base 2 1 short
 unfolding answerTo orderBytes le number checked firstBad bindingStarts bindingBytes orderIn orderOf orderReaders orderOk orderOperandsOk usedByOrder orderStarts treeOf contextAfter present kindsOk asked plainly location stackOffset putSeven storeOne
 short-within = ((λ e z count k. none-led _ count k), ((λ e z. absurd (z refl)), tt))
 
-short-owed : AllOwed 2 short
+short-owed : AllOwed base 2 short
 unfolding putSeven storeOne orderBytes le number orderOf orderIn orderReaders
 short-owed = ((λ e. (tt, tt)), ((λ e. (tt, tt)), tt))
 
-short-values : values 2 short ≡ cons (object 5 (cons (integer 7) nil)) nil
+short-values : values base 2 short ≡ cons (object 5 (cons (integer 7) nil)) nil
 unfolding answerTo orderBytes le number checked firstBad bindingStarts bindingBytes orderIn orderOf orderReaders orderOk orderOperandsOk usedByOrder orderStarts treeOf contextAfter present kindsOk asked plainly location stackOffset putSeven storeOne
 short-values = refl
 
 -- runs that ended have met no fault
-no-fault : (blocks : ℕ) (its : List Item) → AllRan blocks its → NoFault blocks its
+no-fault : (blocks : ℕ) (its : List Item) → AllRan base blocks its → NoFault base blocks its
 no-fault blocks [] r = tt
 no-fault blocks (it ∷ its) r = ((λ e. ended (r .0 e)), no-fault blocks its (r .1))
   where
@@ -91,7 +92,7 @@ no-fault blocks (it ∷ its) r = ((λ e. ended (r .0 e)), no-fault blocks its (r
     kind (Fault k p) = 1
     kind (Limit k) = 2
 
-    ended : Ran (reached blocks its) (values blocks its) it → (steps place : ℕ) → runOf (reached blocks its) it .answer ≢ Fault steps place
+    ended : Ran base (reached base blocks its) (values base blocks its) it → (steps place : ℕ) → runOf base (reached base blocks its) it .answer ≢ Fault steps place
     ended s steps place f = let z : _≡_ {A = ℕ} 0 1 = ap kind (sym (s .ended) ∙ f) in absurd (omega arith)
 
 -- an object of one has a block
@@ -104,17 +105,17 @@ pub one-fewer-is-too-few : OneFewerIsTooFew
 unfolding OneFewerIsTooFew
 one-fewer-is-too-few claim =
     let a = claim 2 1 short short-within (omega arith) (omega arith) (omega arith) short-owed in
-    let u : Unfaulted 2 short
+    let u : Unfaulted base 2 short
     = record {
       two = omega arith;
       most = omega arith;
       no-fault = no-fault 2 short (a .ran);
       loads = ((λ e. short-owed .0 e .0), ((λ e. short-owed .1 .0 e .0), tt));
     } in
-    let l = left-by-runs 2 short u in
+    let l = left-by-runs base base-supported 2 short u in
     let h = a .sound .heap in
-    let s = stateAfter 2 short in
-    let held : HoldAll objectSizes (s .memory .fields) (h .linked) (cons (object 5 (cons (integer 7) nil)) nil) (s .variables) = rw short-values at (h .holds) in
+    let s = stateAfter base 2 short in
+    let held : HoldAll (objectSizes base) (s .memory .fields) (h .linked) (cons (object 5 (cons (integer 7) nil)) nil) (s .variables) = rw short-values at (h .holds) in
     let c : Cell = held .0 in
     let o = held .3 in
     let is : pointers (s .variables) ≡ c .fst ∷ [] = ap pointers (held .2 ∙ ap (λ (r : List Cell). c ∷ r) (held .4)) in

@@ -11,6 +11,7 @@ use Rattle.records.specs.Contexts.{bindingBytes, bindingStarts}
 use Rattle.records.specs.Orders.{orderBytes, orderIn, orderOf, orderReaders, orderOk, orderOperandsOk, usedByOrder, orderStarts}
 use Rattle.trees.specs.Tree.{Tree}
 use Rattle.layout.specs.Config.{base, stackOffset}
+use Rattle.layout.proofs.Placing.{base-supported}
 use Rattle.layout.specs.Positions.{location, operandOk}
 use Rattle.emit.specs.Answers.{granted}
 use Rattle.memory.specs.Answered.{eraseAnswer, shareAnswer, storeTree, storeAnswer}
@@ -34,29 +35,29 @@ abbrev pub oneStored : List Item
 oneStored = storeOne ∷ putSeven ∷ []
 
 abbrev pub channel : Channel
-channel = reached 4 oneStored
+channel = reached base 4 oneStored
 
 -- what the run of an operation's bytes leaves on it, from counter 0
 abbrev pub Leaves : (ℕ → ℕ) → Tree → ((past : List State) (vs : Values) → View → Type 0) → Type 0
-Leaves words t Left = RunLeaves words channel t 0 (Left (statesBefore 4 oneStored) (values 4 oneStored))
+Leaves words t Left = RunLeaves base words channel t 0 (Left (statesBefore base 4 oneStored) (values base 4 oneStored))
 
 pub record WorkedOperations : Type 0 where
-  pub plain-values : values 4 oneStored ≡ cons (object 5 (cons (integer 7) nil)) nil
-  pub stored : (words : ℕ → ℕ) → Leaves words (storeTree base (channel .context) 1) (λ past vs. Stored 4 past channel vs 1)
-  pub loaded : (words : ℕ → ℕ) → Leaves words (loadTree base (made Ext 0) []) (λ past vs. Loaded 4 past channel vs (made Ext 0))
+  pub plain-values : values base 4 oneStored ≡ cons (object 5 (cons (integer 7) nil)) nil
+  pub stored : (words : ℕ → ℕ) → Leaves words (storeTree base (channel .context) 1) (λ past vs. Stored base 4 past channel vs 1)
+  pub loaded : (words : ℕ → ℕ) → Leaves words (loadTree base (made Ext 0) []) (λ past vs. Loaded base 4 past channel vs (made Ext 0))
   -- by the most that share_block_n takes
-  pub shared : (words : ℕ → ℕ) → Leaves words (shareBlock base (location 0) 2147483647) (λ past vs. Shared 4 past channel vs 0 2147483647)
-  pub erased : (words : ℕ → ℕ) → Leaves words (eraseBlock base (location 0)) (λ past vs. Erased 4 past channel vs 0)
+  pub shared : (words : ℕ → ℕ) → Leaves words (shareBlock base (location 0) 2147483647) (λ past vs. Shared base 4 past channel vs 0 2147483647)
+  pub erased : (words : ℕ → ℕ) → Leaves words (eraseBlock base (location 0)) (λ past vs. Erased base 4 past channel vs 0)
 
-one : acquired 4 oneStored ≡ 1
+one : acquired base 4 oneStored ≡ 1
 unfolding answerTo orderBytes le number checked firstBad bindingStarts bindingBytes orderIn orderOf orderReaders orderOk orderOperandsOk usedByOrder orderStarts treeOf contextAfter present kindsOk asked plainly location stackOffset putSeven storeOne
 one = refl
 
-plain : values 4 oneStored ≡ cons (object 5 (cons (integer 7) nil)) nil
+plain : values base 4 oneStored ≡ cons (object 5 (cons (integer 7) nil)) nil
 unfolding answerTo orderBytes le number checked firstBad bindingStarts bindingBytes orderIn orderOf orderReaders orderOk orderOperandsOk usedByOrder orderStarts treeOf contextAfter present kindsOk asked plainly location stackOffset putSeven storeOne
 plain = refl
 
-owed : AllOwed 4 oneStored
+owed : AllOwed base 4 oneStored
 unfolding putSeven storeOne orderBytes le number orderOf orderIn orderReaders
 owed = ((λ e. (tt, tt)), ((λ e. (tt, tt)), tt))
 
@@ -70,5 +71,5 @@ worked-operations = record {
   erased = λ words. does words .erases 0 (omega arith) refl refl;
 }
   where
-    does : (words : ℕ → ℕ) → MemoryDoes 4 oneStored (λ n. 2 + (length (objectSizes n) + acquired 4 oneStored) ≤ 4) words 0 1000000
-    does words = operations-do-what-they-name-on-acquired 4 oneStored (omega (arith, one)) (omega arith) owed words 0 1000000
+    does : (words : ℕ → ℕ) → MemoryDoes base 4 oneStored (λ n. 2 + (length (objectSizes base n) + acquired base 4 oneStored) ≤ 4) words 0 1000000
+    does words = operations-do-what-they-name-on-acquired base base-supported 4 oneStored (omega (arith, one)) (omega arith) owed words 0 1000000

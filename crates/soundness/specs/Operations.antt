@@ -12,8 +12,9 @@ use Rattle.records.specs.declared.order.Order.the-variants.{Store, Load}
 use Rattle.records.specs.Contexts.{extAt}
 use Rattle.records.specs.ReadBack.{joined, codeBytes}
 use Rattle.trees.specs.Tree.{Tree, size, flat}
-use Rattle.layout.specs.Config.{base, TEMP, HEAP, FREE, spill}
-use Rattle.layout.specs.Positions.{location, positions}
+use Rattle.layout.specs.declared.config.Shape.{Shape}
+use Rattle.layout.specs.Config.{Supported, blockWords, TEMP, HEAP, FREE, spill, positions}
+use Rattle.layout.specs.Positions.{location}
 use Rattle.emit.specs.Answers.{accepted}
 use Rattle.memory.specs.Answered.{eraseAnswer, shareAnswer, storeTree, storeAnswer}
 use Rattle.memory.specs.Blocks.{eraseBlock, shareBlock}
@@ -28,7 +29,7 @@ use Rattle.heap.specs.Operations.{Elsewhere, Erase}
 use Rattle.heap.specs.Orders.{State}
 use Rattle.heap.specs.Values as values
 use Rattle.heap.specs.Values.{Values, countOf, firstOf, restOf, valueAt, copies, HoldAll}
-use Rattle.heap.specs.Words.{stride, memoryOf}
+use Rattle.heap.specs.Words.{stride, wordAt, memoryOf}
 use Rattle.heap.specs.WordLemmas.{layout}
 use Rattle.positions.specs.Held.{heldIn, NoSpill}
 use Rattle.bridge.specs.Sizes.{objectSizes}
@@ -39,120 +40,122 @@ use Rattle.orders.specs.Writes.{made}
 use Rattle.playing.specs.Playing.{Channel}
 use Rattle.soundness.specs.Claims.{Item, reached, values, acquired, PeakWithin, AllOwed, stateAfter, statesBefore, stateOf, SoundAt}
 
--- The bytes of a tree's records, numbered from a counter, run on a channel with their number as the step limit: the run has ended, in no more steps
--- than there are records, has made no call, and what it leaves is as said.
-module _ (words : ℕ → ℕ) (ch : Channel) (t : Tree) (counter : ℕ) where
-  abbrev pub runOfRecords : Done
-  runOfRecords = ran words (joined codeBytes (flat t counter)) (size t) (ch .view)
-
-  pub record RunLeaves (Left : View → Type 0) : Type 0 where
-    pub steps : ℕ
-    pub within : steps ≤ size t
-    pub ended : runOfRecords .answer ≡ Ended steps
-    pub calls : runOfRecords .last .calls ≡ []
-    pub left : Left (runOfRecords .last .state)
-
 -- the word at position p of a state, 2v for variable v's Fst and 2v+1 for its Snd; and the heap that its words show
-abbrev pub wordAt : View → ℕ → ℕ
-wordAt v p = heldIn (v .reg) (v .stk) (location p)
+abbrev pub heldAt : View → ℕ → ℕ
+heldAt v p = heldIn (v .reg) (v .stk) (location p)
 
-abbrev pub heapIn : View → Memory
-heapIn v = memoryOf (base .fields) (v .mem) (v .reg HEAP) (v .reg FREE)
-
--- from one state to another: the registers and spills of P, the stack's other words and the number of heap words are as they were
-pub record Stay (P : ℕ → Type 0) (v v′ : View) : Type 0 where
-  pub operands : (l : ℕ) → l < spill (base .spills) → P l → heldIn (v′ .reg) (v′ .stk) l ≡ heldIn (v .reg) (v .stk) l
-  pub stack : (i : ℕ) → NoSpill i → v′ .stk i ≡ v .stk i
+-- from one state to another: the registers and spills of P, the stack's other words and the numbers of words in stack and heap are as they were
+pub record Stay (g : Shape) (P : ℕ → Type 0) (v v′ : View) : Type 0 where
+  pub operands : (l : ℕ) → P l → heldIn (v′ .reg) (v′ .stk) l ≡ heldIn (v .reg) (v .stk) l
+  pub stack : (i : ℕ) → NoSpill (spill (g .spills)) i → v′ .stk i ≡ v .stk i
+  pub depth : v′ .depth ≡ v .depth
   pub size : v′ .size ≡ v .size
 
 -- the operands of the first k variables
 abbrev pub FirstVariables : ℕ → ℕ → Type 0
 FirstVariables k l = (p : ℕ) × (p < 2 * k) × (l ≡ location p)
 
--- the heap's words but the first of each block
-abbrev pub FieldsStay : View → View → Type 0
-FieldsStay v v′ =
-    (block word : ℕ) → 0 < word → word < stride (base .fields) → v′ .mem (stride (base .fields) * block + word) ≡ v .mem (stride (base .fields) * block + word)
+module _ (g : Shape) where
+  -- The bytes of a tree's records, numbered from a counter, run on a channel with their number as the step limit: the run has ended, in no more steps
+  -- than there are records, has made no call, and what it leaves is as said.
+  module _ (words : ℕ → ℕ) (ch : Channel) (t : Tree) (counter : ℕ) where
+    abbrev pub runOfRecords : Done
+    runOfRecords = ran (blockWords g) words (joined codeBytes (flat t counter)) (size t) (ch .view)
 
--- a heap that is sound for these variables, which hold their values; its frontier is a block of the heap, and a link's block has one pointer at most
-pub record SoundFor (blocks : ℕ) (M : Memory) (variables : List Cell) (vs : Values) : Type 0 where
-  pub frontier : ℕ
-  pub frontier-there : frontier < blocks
-  pub sound : Sound (layout (base .fields)) M frontier (pointers variables)
-  pub linked : ℕ → ℕ
-  pub one-pointer : (b : ℕ) → b ≢ 0 → linked b ≢ 0 → occ b (pointers variables) + refs (children (M .fields)) b (sound .lazy) + refs (children (M .fields)) b (sound .held) ≤ 1
-  pub holds : HoldAll objectSizes (M .fields) linked vs variables
+    pub record RunLeaves (Left : View → Type 0) : Type 0 where
+      pub steps : ℕ
+      pub within : steps ≤ size t
+      pub ended : runOfRecords .answer ≡ Ended steps
+      pub calls : runOfRecords .last .calls ≡ []
+      pub left : Left (runOfRecords .last .state)
 
--- what each leaves, from a channel with the plain machine's values beside it; the states before are `past`
-module _ (blocks : ℕ) (past : List State) (ch : Channel) (vs : Values) where
-  -- variables v to v + n - 1 as pairs of words
-  abbrev pub cells : ℕ → ℕ → List Cell
-  cells v n = variablesIn (extAt (ch .context)) (ch .view .reg) (ch .view .stk) v n
+  abbrev pub heapIn : View → Memory
+  heapIn v = memoryOf (g .fields) (v .mem) (v .reg HEAP) (v .reg FREE)
 
-  -- the last n variables stored: all is as after the plain machine's store, the tag being the word that the new variable's Snd then has; other variables' words stay
-  pub record Stored (n : ℕ) (v : View) : Type 0 where
-    pub sound : 2 * (countOf vs - n) + 1 < positions base
-        → SoundAt blocks (stateOf ch vs ∷ past) (record { context = take (8 * (countOf vs - n)) (ch .context) ++ made Linked (countOf vs - n); view = v }) (plainly (Store n (wordAt v (2 * (countOf vs - n) + 1))) vs)
-    -- of none the pointer is 0 and the heap as it was, also where the new variable has no position for a Snd
-    pub none : n ≡ 0 → (wordAt v (2 * countOf vs) ≡ 0) × (heapIn v ≡ heapIn (ch .view))
-    pub others : Stay (FirstVariables (countOf vs - n)) (ch .view) v
+  -- the heap's words but the first of each block
+  abbrev pub FieldsStay : View → View → Type 0
+  FieldsStay v v′ =
+      (block word : ℕ) → 0 < word → word < stride (g .fields) → v′ .mem (wordAt (g .fields) block word) ≡ v .mem (wordAt (g .fields) block word)
 
-  -- the last variable loaded, as the bindings `loaded`
-  pub record Loaded (loaded : List ℕ) (v : View) : Type 0 where
-    pub sound : SoundAt blocks (stateOf ch vs ∷ past) (record { context = take (8 * (countOf vs - 1)) (ch .context) ++ loaded; view = v }) (plainly (Load (placesIn loaded)) vs)
-    pub others : Stay (FirstVariables (countOf vs - 1)) (ch .view) v
+  -- a heap that is sound for these variables, which hold their values; its frontier is a block of the heap, and a link's block has one pointer at most
+  pub record SoundFor (blocks : ℕ) (M : Memory) (variables : List Cell) (vs : Values) : Type 0 where
+    pub frontier : ℕ
+    pub frontier-there : frontier < blocks
+    pub sound : Sound (layout (g .fields)) M frontier (pointers variables)
+    pub linked : ℕ → ℕ
+    pub one-pointer : (b : ℕ) → b ≢ 0 → linked b ≢ 0 → occ b (pointers variables) + refs (children (M .fields)) b (sound .lazy) + refs (children (M .fields)) b (sound .held) ≤ 1
+    pub holds : HoldAll (objectSizes g) (M .fields) linked vs variables
 
-  -- variable a's pointer shared n times: its block's count is n more; nothing else is other, but TEMP
-  pub record Shared (a n : ℕ) (v : View) : Type 0 where
-    pub counted : wordAt (ch .view) (2 * a) ≢ 0 → heapIn v .header (wordAt (ch .view) (2 * a)) ≡ heapIn (ch .view) .header (wordAt (ch .view) (2 * a)) + n
-    pub elsewhere : Elsewhere (wordAt (ch .view) (2 * a)) (heapIn (ch .view) .header) (heapIn v .header)
-    pub fields-kept : FieldsStay (ch .view) v
-    pub others : Stay (λ l. l ≢ TEMP) (ch .view) v
-    -- the heap is sound for n copies of that variable beside all variables
-    pub sound : SoundFor blocks (heapIn v) (cells 0 (countOf vs) ++ replicate n (variableIn (extAt (ch .context)) (ch .view .reg) (ch .view .stk) a)) (values.joined vs (copies n (valueAt a vs)))
+  -- what each leaves, from a channel with the plain machine's values beside it; the states before are `past`
+  module _ (blocks : ℕ) (past : List State) (ch : Channel) (vs : Values) where
+    -- variables v to v + n - 1 as pairs of words
+    abbrev pub cells : ℕ → ℕ → List Cell
+    cells v n = variablesIn (extAt (ch .context)) (ch .view .reg) (ch .view .stk) v n
 
-  -- variable a's pointer erased, as in a drop of it: its block's count is one less, or the block goes onto FREE's list; nothing else is other, but TEMP
-  pub record Erased (a : ℕ) (v : View) : Type 0 where
-    pub erased : Erase (wordAt (ch .view) (2 * a)) (heapIn (ch .view) .header) (ch .view .reg FREE) (heapIn v .header) (v .reg FREE)
-    pub fields-kept : FieldsStay (ch .view) v
-    pub others : Stay (λ l. (l ≢ TEMP) × (l ≢ FREE)) (ch .view) v
-    -- the heap is sound for the other variables
-    pub sound : SoundFor blocks (heapIn v) (cells 0 a ++ cells (suc a) (countOf vs - suc a)) (values.joined (firstOf a vs) (restOf (suc a) vs))
+    -- the last n variables stored: all is as after the plain machine's store, the tag being the word that the new variable's Snd then has; other variables' words stay
+    pub record Stored (n : ℕ) (v : View) : Type 0 where
+      pub sound : 2 * (countOf vs - n) + 1 < positions g
+          → SoundAt g blocks (stateOf g ch vs ∷ past) (record { context = take (8 * (countOf vs - n)) (ch .context) ++ made Linked (countOf vs - n); view = v }) (plainly (Store n (heldAt v (2 * (countOf vs - n) + 1))) vs)
+      -- of none the pointer is 0 and the heap as it was, also where the new variable has no position for a Snd
+      pub none : n ≡ 0 → (heldAt v (2 * countOf vs) ≡ 0) × (heapIn v ≡ heapIn (ch .view))
+      pub others : Stay g (FirstVariables (countOf vs - n)) (ch .view) v
 
--- On a channel that a list has reached: each operation that its function accepts, at any counter and any room of its output. `Roomy n` says that the heap has room for
--- a store of n variables.
-module _ (blocks : ℕ) (its : List Item) (Roomy : ℕ → Type 0) (words : ℕ → ℕ) (counter room : ℕ) where
-  abbrev Ch : Channel
-  Ch = reached blocks its
+    -- the last variable loaded, as the bindings `loaded`
+    pub record Loaded (loaded : List ℕ) (v : View) : Type 0 where
+      pub sound : SoundAt g blocks (stateOf g ch vs ∷ past) (record { context = take (8 * (countOf vs - 1)) (ch .context) ++ loaded; view = v }) (plainly (Load (placesIn loaded)) vs)
+      pub others : Stay g (FirstVariables (countOf vs - 1)) (ch .view) v
 
-  abbrev Vs : Values
-  Vs = values blocks its
+    -- variable a's pointer shared n times: its block's count is n more; nothing else is other, but TEMP
+    pub record Shared (a n : ℕ) (v : View) : Type 0 where
+      pub counted : heldAt (ch .view) (2 * a) ≢ 0 → heapIn v .header (heldAt (ch .view) (2 * a)) ≡ heapIn (ch .view) .header (heldAt (ch .view) (2 * a)) + n
+      pub elsewhere : Elsewhere (heldAt (ch .view) (2 * a)) (heapIn (ch .view) .header) (heapIn v .header)
+      pub fields-kept : FieldsStay (ch .view) v
+      pub others : Stay g (λ l. l ≢ TEMP) (ch .view) v
+      -- the heap is sound for n copies of that variable beside all variables
+      pub sound : SoundFor blocks (heapIn v) (cells 0 (countOf vs) ++ replicate n (variableIn (extAt (ch .context)) (ch .view .reg) (ch .view .stk) a)) (values.joined vs (copies n (valueAt a vs)))
 
-  abbrev Leaves : Tree → ((blocks : ℕ) (past : List State) (ch : Channel) (vs : Values) → View → Type 0) → Type 0
-  Leaves t Left = RunLeaves words Ch t counter (Left blocks (statesBefore blocks its) Ch Vs)
+    -- variable a's pointer erased, as in a drop of it: its block's count is one less, or the block goes onto FREE's list; nothing else is other, but TEMP
+    pub record Erased (a : ℕ) (v : View) : Type 0 where
+      pub erased : Erase (heldAt (ch .view) (2 * a)) (heapIn (ch .view) .header) (ch .view .reg FREE) (heapIn v .header) (v .reg FREE)
+      pub fields-kept : FieldsStay (ch .view) v
+      pub others : Stay g (λ l. (l ≢ TEMP) × (l ≢ FREE)) (ch .view) v
+      -- the heap is sound for the other variables
+      pub sound : SoundFor blocks (heapIn v) (cells 0 a ++ cells (suc a) (countOf vs - suc a)) (values.joined (firstOf a vs) (restOf (suc a) vs))
 
-  pub record MemoryDoes : Type 0 where
-    -- the last n variables
-    pub stores : (n : ℕ) → Roomy n → accepted (storeAnswer base counter room (Ch .context) n) ≡ true → Leaves (storeTree base (Ch .context) n) (λ b p c vs. Stored b p c vs n)
-    -- the last variable, with the kinds that its object was stored with
-    pub loads : (loaded : List ℕ) → AsStored loaded (placesIn loaded) (valueAt (countOf Vs - 1) Vs) → accepted (loadAnswer base counter room loaded (take (8 * (countOf Vs - 1)) (Ch .context))) ≡ true
-        → Leaves (loadTree base loaded (take (8 * (countOf Vs - 1)) (Ch .context))) (λ b p c vs. Loaded b p c vs loaded)
-    -- any linked variable, by any n that is accepted
-    pub shares : (a n : ℕ) → a < countOf Vs → extAt (Ch .context) a ≡ false → accepted (shareAnswer base counter room (location (2 * a)) n) ≡ true
-        → Leaves (shareBlock base (location (2 * a)) n) (λ b p c vs. Shared b p c vs a n)
-    -- any linked variable
-    pub erases : (a : ℕ) → a < countOf Vs → extAt (Ch .context) a ≡ false → accepted (eraseAnswer base counter room (location (2 * a))) ≡ true
-        → Leaves (eraseBlock base (location (2 * a))) (λ b p c vs. Erased b p c vs a)
+  -- On a channel that a list has reached: each operation that its function accepts, at any counter and any room of its output. `Roomy n` says that the heap has room for
+  -- a store of n variables.
+  module _ (blocks : ℕ) (its : List Item) (Roomy : ℕ → Type 0) (words : ℕ → ℕ) (counter room : ℕ) where
+    abbrev Ch : Channel
+    Ch = reached g blocks its
+
+    abbrev Vs : Values
+    Vs = values g blocks its
+
+    abbrev Leaves : Tree → ((blocks : ℕ) (past : List State) (ch : Channel) (vs : Values) → View → Type 0) → Type 0
+    Leaves t Left = RunLeaves words Ch t counter (Left blocks (statesBefore g blocks its) Ch Vs)
+
+    pub record MemoryDoes : Type 0 where
+      -- the last n variables
+      pub stores : (n : ℕ) → Roomy n → accepted (storeAnswer g counter room (Ch .context) n) ≡ true → Leaves (storeTree g (Ch .context) n) (λ b p c vs. Stored b p c vs n)
+      -- the last variable, with the kinds that its object was stored with
+      pub loads : (loaded : List ℕ) → AsStored loaded (placesIn loaded) (valueAt (countOf Vs - 1) Vs) → accepted (loadAnswer g counter room loaded (take (8 * (countOf Vs - 1)) (Ch .context))) ≡ true
+          → Leaves (loadTree g loaded (take (8 * (countOf Vs - 1)) (Ch .context))) (λ b p c vs. Loaded b p c vs loaded)
+      -- any linked variable, by any n that is accepted
+      pub shares : (a n : ℕ) → a < countOf Vs → extAt (Ch .context) a ≡ false → accepted (shareAnswer g counter room (location (2 * a)) n) ≡ true
+          → Leaves (shareBlock g (location (2 * a)) n) (λ b p c vs. Shared b p c vs a n)
+      -- any linked variable
+      pub erases : (a : ℕ) → a < countOf Vs → extAt (Ch .context) a ≡ false → accepted (eraseAnswer g counter room (location (2 * a))) ≡ true
+          → Leaves (eraseBlock g (location (2 * a))) (λ b p c vs. Erased b p c vs a)
 
 -- demand 3's premises, a store's own blocks counted in: a store of some counts the blocks that the variables lead to and those that it acquires
 unfoldable pub OperationsDoWhatTheyName : Type 0
 OperationsDoWhatTheyName =
-    (blocks peak : ℕ) (its : List Item) → PeakWithin blocks peak its → 2 + peak ≤ blocks → blocks ≤ 1048576 → AllOwed blocks its
+    (g : Shape) → Supported g → (blocks peak : ℕ) (its : List Item) → PeakWithin g blocks peak its → 2 + peak ≤ blocks → blocks ≤ 1048576 → AllOwed g blocks its
     → (words : ℕ → ℕ) (counter room : ℕ)
-    → MemoryDoes blocks its (λ n. length (objectSizes n) ≢ 0 → (count : ℕ) → Reaches count (stateAfter blocks its) → count + length (objectSizes n) ≤ peak) words counter room
+    → MemoryDoes g blocks its (λ n. length (objectSizes g n) ≢ 0 → (count : ℕ) → Reaches count (stateAfter g blocks its) → count + length (objectSizes g n) ≤ peak) words counter room
 
 -- the same by the blocks acquired
 unfoldable pub OperationsDoWhatTheyNameOnAcquired : Type 0
 OperationsDoWhatTheyNameOnAcquired =
-    (blocks : ℕ) (its : List Item) → 2 + acquired blocks its ≤ blocks → blocks ≤ 1048576 → AllOwed blocks its
-    → (words : ℕ → ℕ) (counter room : ℕ) → MemoryDoes blocks its (λ n. 2 + (length (objectSizes n) + acquired blocks its) ≤ blocks) words counter room
+    (g : Shape) → Supported g → (blocks : ℕ) (its : List Item) → 2 + acquired g blocks its ≤ blocks → blocks ≤ 1048576 → AllOwed g blocks its
+    → (words : ℕ → ℕ) (counter room : ℕ) → MemoryDoes g blocks its (λ n. 2 + (length (objectSizes g n) + acquired g blocks its) ≤ blocks) words counter room

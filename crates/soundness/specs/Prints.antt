@@ -5,6 +5,8 @@ use mathlib.Core.Path.{_≡_}
 use mathlib.Core.Bool.{true, cond}
 use mathlib.Core.List.{List, [], _∷_, _++_}
 use lib.Dec.{eqb}
+use Rattle.layout.specs.declared.config.Shape.{Shape}
+use Rattle.layout.specs.Config.{Supported}
 use Rattle.records.specs.Orders.{orderRead}
 use Rattle.printing.specs.Print.{printName}
 use Rattle.instructions.specs.Step.{Call}
@@ -20,23 +22,24 @@ abbrev pub callTexts : List Call → List ℕ
 callTexts [] = []
 callTexts (c ∷ cs) = callText c ++ callTexts cs
 
--- what the program puts for an item, and what the calls of its run write
-abbrev pub putFor : Channel → Item → List ℕ
-putFor ch it = cond (isAccepted ch it) (prints (ch .view .reg) (ch .view .stk) (orderRead (it .asked .order))) []
+module _ (g : Shape) where
+  -- what the program puts for an item, and what the calls of its run write
+  abbrev pub putFor : Channel → Item → List ℕ
+  putFor ch it = cond (isAccepted g ch it) (prints g (ch .view .reg) (ch .view .stk) (orderRead (it .asked .order))) []
 
-abbrev pub calledFor : Channel → Item → List ℕ
-calledFor ch it = cond (isAccepted ch it) (callTexts (runOf ch it .last .calls)) []
+  abbrev pub calledFor : Channel → Item → List ℕ
+  calledFor ch it = cond (isAccepted g ch it) (callTexts (runOf g ch it .last .calls)) []
 
--- after a list, the newest item's last
-module _ (blocks : ℕ) where
-  abbrev pub putIn : List Item → List ℕ
-  putIn [] = []
-  putIn (it ∷ its) = putIn its ++ putFor (reached blocks its) it
+  -- after a list, the newest item's last
+  module _ (blocks : ℕ) where
+    abbrev pub putIn : List Item → List ℕ
+    putIn [] = []
+    putIn (it ∷ its) = putIn its ++ putFor (reached g blocks its) it
 
-  abbrev pub calledIn : List Item → List ℕ
-  calledIn [] = []
-  calledIn (it ∷ its) = calledIn its ++ calledFor (reached blocks its) it
+    abbrev pub calledIn : List Item → List ℕ
+    calledIn [] = []
+    calledIn (it ∷ its) = calledIn its ++ calledFor (reached g blocks its) it
 
 -- wherever the heap stays sound
 unfoldable pub PrintedIsCalled : Type 0
-PrintedIsCalled = (blocks : ℕ) (its : List Item) → After blocks its → putIn blocks its ≡ calledIn blocks its
+PrintedIsCalled = (g : Shape) → Supported g → (blocks : ℕ) (its : List Item) → After g blocks its → putIn g blocks its ≡ calledIn g blocks its

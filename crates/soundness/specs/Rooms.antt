@@ -5,6 +5,7 @@ use mathlib.Core.List.{List}
 use Prim.Native.Nat.{ℕ, suc, _≤_}
 use native.Mathlib.Decide.{ℕ-discrete}
 use native.Mathlib.Omega.{arith}
+use Rattle.layout.specs.declared.config.Shape.{Shape}
 use Rattle.heap.specs.Blocks.{Cell, Memory}
 use Rattle.heap.specs.Values.{Values}
 use Rattle.heap.specs.Orders.{Order, plain, Legal, Performs}
@@ -16,12 +17,13 @@ use Rattle.bridge.specs.Shown.{L}
 use Rattle.bridge.specs.Sizes.{objectSizes}
 use Rattle.bridge.specs.StoringObject.{frontier-within}
 
-pub represents-within : {M M′ : Memory} {m N : ℕ} {values : Values} {o : Order} {variables variables′ : List Cell} → m ≤ N → Performs objectSizes L M o variables M′ variables′ → Legal o values
-    → Represents objectSizes L M m variables values → (storedBy o ≢ 0 → Within N (M′ .lazy-head)) → Bounded objectSizes L (suc N) M′ variables′ (plain o values)
-represents-within {M} {M′} {m} {N} {values} {o} {variables} {variables′} le p l s free = by (ℕ-discrete (storedBy o) 0)
-  where
-    by : Dec (storedBy o ≡ 0) → Bounded objectSizes L (suc N) M′ variables′ (plain o values)
-    by (yes z) = record { frontier = m; below = omega arith; represents = represents-same refl p l z s }
-    by (no z) =
-        let a = represents-order refl p l s in
-        record { frontier = a .frontier; below = omega (arith, frontier-within (a .represents .consistent) (a .only-when-full) le (free z)); represents = a .represents }
+module _ (G : Shape) where
+  pub represents-within : {M M′ : Memory} {m N : ℕ} {values : Values} {o : Order} {variables variables′ : List Cell} → m ≤ N → Performs (objectSizes G) (L G) M o variables M′ variables′ → Legal o values
+      → Represents (objectSizes G) (L G) M m variables values → (storedBy o ≢ 0 → Within G N (M′ .lazy-head)) → Bounded (objectSizes G) (L G) (suc N) M′ variables′ (plain o values)
+  represents-within {M} {M′} {m} {N} {values} {o} {variables} {variables′} le p l s free = by (ℕ-discrete (storedBy o) 0)
+    where
+      by : Dec (storedBy o ≡ 0) → Bounded (objectSizes G) (L G) (suc N) M′ variables′ (plain o values)
+      by (yes z) = record { frontier = m; below = omega arith; represents = represents-same refl p l z s }
+      by (no z) =
+          let a = represents-order refl p l s in
+          record { frontier = a .frontier; below = omega (arith, frontier-within G (a .represents .consistent) (a .only-when-full) le (free z)); represents = a .represents }

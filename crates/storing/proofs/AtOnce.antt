@@ -4,9 +4,9 @@ use mathlib.Core.Bool.{true, _&&_}
 use mathlib.Core.Path.{_≡_, _∙_}
 use mathlib.Core.List.{List}
 use native.Mathlib.Omega.{arith}
-use lib.Dec.{ltb}
+use lib.Dec.{ltb, leb}
 use lib.ListN.{length}
-use borrow.Author.Tests.{ltb-true}
+use borrow.Author.Tests.{ltb-true, leb-true}
 use Rattle.records.proofs.Conditions.{and-left, and-right}
 use Rattle.trees.specs.Tree.{Tree, labels, size, flat}
 use Rattle.trees.specs.Flat.{length-flat}
@@ -27,6 +27,6 @@ at-once {o} {q = q} t counter w i j l r =
     answers e (w .bytes ∙ rw (i, j, ← e) (written-whole (flat t counter) o 0 (omega arith)))
 
 -- what ample labels and room say
-pub ample-if : (counter room : ℕ) → (ltb counter 2147480000 && ltb 103199 room) ≡ true → (counter < 2147480000) × (103199 < room)
-ample-if counter room e =
-    (ltb-true counter 2147480000 (and-left (ltb counter 2147480000) (ltb 103199 room) e), ltb-true 103199 room (and-right (ltb counter 2147480000) (ltb 103199 room) e))
+pub ample-if : (counter most room : ℕ) → (ltb counter 2147480000 && leb most room) ≡ true → (counter < 2147480000) × (most ≤ room)
+ample-if counter most room e =
+    (ltb-true counter 2147480000 (and-left (ltb counter 2147480000) (leb most room) e), leb-true most room (and-right (ltb counter 2147480000) (leb most room) e))

@@ -3,28 +3,30 @@
 ghost use mathlib.Core.Path.{_≡_};
 ghost use mathlib.Core.Bool.{_&&_};
 ghost use Prim.Native.Nat.{_+_, _*_, _-_, _<_, _≤_, _^_};
-ghost use lib.Dec.{ltb};
+ghost use lib.Dec.{ltb, leb};
 ghost use lib.ListN.{length};
 ghost use Rattle.records.specs.declared.check.Checked.the-variants.{Good};
 ghost use Rattle.records.specs.Contexts.{checkedContext};
 ghost use Rattle.trees.specs.Tree.{flat};
 ghost use Rattle.emit.specs.Emitted.{Emits};
 ghost use Rattle.emit.specs.Answers.{Answers};
-ghost use Rattle.layout.specs.Config.{base};
+ghost use Rattle.layout.specs.Config.{base, Supported, positions};
 ghost use Rattle.layout.specs.Positions.{Table};
-ghost use Rattle.memory.specs.Objects.{extIn, storeZeros, storeFst, storeValue, storeValues, storeOther, storeOthers, storeSome, storeObject};
+ghost use Rattle.memory.specs.Objects.{extIn, objectRecords, storeZeros, storeFst, storeValue, storeValues, storeOther, storeOthers, storeSome, storeObject};
 ghost use Rattle.memory.specs.Answered.{treeAnswer, storeTree, storeHighest, storeAnswer};
 use emit::answer::Answer;
 use emit::cursor::Cursor;
 use emit::cursor::Row;
 use layout::config::HEAP;
+use layout::config::Shape;
+use layout::utils::ENTRIES;
 use memory::block;
 use records::check::Checked;
 use records::number::MOVIM;
 
 // A zero in the Fst of each of the first n fields.
 fn store_zeros(out: &mut [u8], p: Cursor, n: u64) -> Cursor
-    requires { ⌜ (n ≤ 3) × (p .at + 72 < 2 ^ 64) ⌝ }
+    requires { ⌜ (n ≤ 65536) × (p .at + 24 * n < 2 ^ 64) ⌝ }
     ensures { λ q. ⌜ Emits (now (out .entry)) p (now (out .exit)) q (storeZeros n) ⌝ }
 {
     let mut q = p;
@@ -36,16 +38,24 @@ fn store_zeros(out: &mut [u8], p: Cursor, n: u64) -> Cursor
 }
 
 // A variable's pointer into field t, or zero where it is an integer.
-fn store_fst(out: &mut [u8], p: Cursor, table: &[u64; 267], ext: bool, v: u64, t: u64) -> Cursor
-    requires { ⌜ (Table (now table)) × (v < 133) × (t < 3) × (p .at + 48 < 2 ^ 64) ⌝ }
-    ensures { λ q. ⌜ Emits (now (out .entry)) p (now (out .exit)) q (storeFst base ext v t) ⌝ }
+fn store_fst(
+    out: &mut [u8],
+    p: Cursor,
+    g: Shape,
+    table: &[u16; ENTRIES],
+    ext: bool,
+    v: u64,
+    t: u64,
+) -> Cursor
+    requires { ⌜ (Table (now table)) × (2 * v + 2 < positions g) × (t < g .fields) × (p .at + 48 < 2 ^ 64) × Supported g ⌝ }
+    ensures { λ q. ⌜ Emits (now (out .entry)) p (now (out .exit)) q (storeFst g ext v t) ⌝ }
 {
     let offset = layout::offset::fst_offset(t);
     if ext {
         emit::cursor::emit(out, p, Row(MOVIM, HEAP, 0, 0, offset, 0))
     } else {
         let w = layout::utils::location_at(table, 2 * v);
-        block::store_field(out, p, w, HEAP, offset)
+        block::store_field(out, p, g, w, HEAP, offset)
     }
 }
 
@@ -53,87 +63,94 @@ fn store_fst(out: &mut [u8], p: Cursor, table: &[u64; 267], ext: bool, v: u64, t
 fn store_value(
     out: &mut [u8],
     p: Cursor,
-    table: &[u64; 267],
+    g: Shape,
+    table: &[u16; ENTRIES],
     kinds: &[u8],
     first: u64,
     v: u64,
     t: u64,
 ) -> Cursor
-    requires { ⌜ (Table (now table)) × (first ≤ v) × (8 * (v - first) + 8 ≤ length (now kinds)) × (v < 133) × (t < 3) × (p .at + 96 < 2 ^ 64) ⌝ }
-    ensures { λ q. ⌜ Emits (now (out .entry)) p (now (out .exit)) q (storeValue base (extIn (now (kinds .entry)) first) v t) ⌝ }
+    requires { ⌜ (Table (now table)) × (first ≤ v) × (8 * (v - first) + 8 ≤ length (now kinds)) × (2 * v + 2 < positions g) × (t < g .fields) × (p .at + 96 < 2 ^ 64) × Supported g ⌝ }
+    ensures { λ q. ⌜ Emits (now (out .entry)) p (now (out .exit)) q (storeValue g (extIn (now (kinds .entry)) first) v t) ⌝ }
 {
     let offset = layout::offset::snd_offset(t);
     let w = layout::utils::location_at(table, 2 * v + 1);
-    let q = block::store_field(out, p, w, HEAP, offset);
+    let q = block::store_field(out, p, g, w, HEAP, offset);
     let ext = layout::utils::is_ext(kinds, v - first);
-    store_fst(out, q, table, ext, v, t)
+    store_fst(out, q, g, table, ext, v, t)
 }
 
 // The k variables from v on into the last of the first `free` fields, and zeros before them.
 fn store_values(
     out: &mut [u8],
     p: Cursor,
-    table: &[u64; 267],
+    g: Shape,
+    table: &[u16; ENTRIES],
     kinds: &[u8],
     first: u64,
     v: u64,
     k: u64,
     free: u64,
 ) -> Cursor
-    requires { ⌜ (Table (now table)) × (first ≤ v) × (8 * (v + k - first) ≤ length (now kinds)) × (v + k ≤ 133) × (k ≤ free) × (free ≤ 3) × (p .at + 96 * k + 72 < 2 ^ 64) ⌝ }
-    ensures { λ q. ⌜ Emits (now (out .entry)) p (now (out .exit)) q (storeValues base (extIn (now (kinds .entry)) first) v k free) ⌝ }
+    requires { ⌜ (Table (now table)) × (first ≤ v) × (8 * (v + k - first) ≤ length (now kinds)) × (2 * (v + k) < positions g) × (k ≤ free) × (free ≤ g .fields) × (p .at + 96 * k + 168 < 2 ^ 64) × Supported g ⌝ }
+    ensures { λ q. ⌜ Emits (now (out .entry)) p (now (out .exit)) q (storeValues g (extIn (now (kinds .entry)) first) v k free) ⌝ }
 {
     let mut q = p;
     let mut left = k;
     let mut at = free;
     while 0 < left {
-        q = store_value(out, q, table, kinds, first, v + (left - 1), at - 1);
+        q = store_value(out, q, g, table, kinds, first, v + (left - 1), at - 1);
         left -= 1;
         at -= 1;
     }
     store_zeros(out, q, at)
 }
 
-// The link to the block just stored, then k variables from v on, into a block that goes into variable v's Fst.
+// The link to the block just stored, then k variables from v on, into a block of `each` of them that goes into variable v's Fst.
 fn store_other(
     out: &mut [u8],
     p: Cursor,
-    table: &[u64; 267],
+    g: Shape,
+    table: &[u16; ENTRIES],
     kinds: &[u8],
     first: u64,
+    each: u64,
     v: u64,
     k: u64,
 ) -> Cursor
-    requires { ⌜ (Table (now table)) × (first ≤ v) × (8 * (v + k - first) ≤ length (now kinds)) × (v + k ≤ 133) × (k ≤ 2) × (p .at + 1680 < 2 ^ 64) × (p .counter + 13 < 2 ^ 32) ⌝ }
-    ensures { λ q. ⌜ Emits (now (out .entry)) p (now (out .exit)) q (storeOther base (extIn (now (kinds .entry)) first) v k) ⌝ }
+    requires { ⌜ (Table (now table)) × (first ≤ v) × (8 * (v + k - first) ≤ length (now kinds)) × (2 * (v + k) < positions g) × (k ≤ each) × (p .at + 3400 < 2 ^ 64) × (p .counter + 25 < 2 ^ 32) × (each + 1 ≡ g .fields) × Supported g ⌝ }
+    ensures { λ q. ⌜ Emits (now (out .entry)) p (now (out .exit)) q (storeOther g (extIn (now (kinds .entry)) first) v k) ⌝ }
 {
     let link = layout::utils::location_at(table, 2 * (v + k));
     let pointer = layout::utils::location_at(table, 2 * v);
-    let q = block::store_field(out, p, link, HEAP, 48);
-    let s = store_values(out, q, table, kinds, first, v, k, 2);
-    block::acquire_block(out, s, pointer)
+    let offset = layout::offset::fst_offset(each);
+    let q = block::store_field(out, p, g, link, HEAP, offset);
+    let s = store_values(out, q, g, table, kinds, first, v, k, each);
+    block::acquire_block(out, s, g, pointer)
 }
 
 // The n variables from v on, in m blocks before the last.
 fn store_others(
     out: &mut [u8],
     p: Cursor,
-    table: &[u64; 267],
+    g: Shape,
+    table: &[u16; ENTRIES],
     kinds: &[u8],
     first: u64,
+    each: u64,
     m: u64,
     v: u64,
     n: u64,
 ) -> Cursor
-    requires { ⌜ (Table (now table)) × (first ≤ v) × (8 * (v + n - first) ≤ length (now kinds)) × (v + n ≤ 133) × (p .at + 1560 * m + 120 < 2 ^ 64) × (p .counter + 13 * m < 2 ^ 32) ⌝ }
-    ensures { λ q. ⌜ Emits (now (out .entry)) p (now (out .exit)) q (storeOthers base (extIn (now (kinds .entry)) first) m v n) ⌝ }
+    requires { ⌜ (Table (now table)) × (first ≤ v) × (8 * (v + n - first) ≤ length (now kinds)) × (2 * (v + n) < positions g) × (p .at + 3096 * m + 400 < 2 ^ 64) × (p .counter + 25 * m < 2 ^ 32) × (each + 1 ≡ g .fields) × Supported g ⌝ }
+    ensures { λ q. ⌜ Emits (now (out .entry)) p (now (out .exit)) q (storeOthers g (extIn (now (kinds .entry)) first) m v n) ⌝ }
 {
     let mut q = p;
     let mut blocks = m;
     let mut left = n;
     while 0 < blocks {
-        let rest = layout::utils::less(left, 2);
-        q = store_other(out, q, table, kinds, first, v + rest, left - rest);
+        let rest = layout::utils::less(left, each);
+        q = store_other(out, q, g, table, kinds, first, each, v + rest, left - rest);
         left = rest;
         blocks -= 1;
     }
@@ -144,125 +161,169 @@ fn store_others(
 pub fn store_some(
     out: &mut [u8],
     p: Cursor,
-    table: &[u64; 267],
+    g: Shape,
+    table: &[u16; ENTRIES],
     kinds: &[u8],
     first: u64,
     v: u64,
     n: u64,
 ) -> Cursor
-    requires { ⌜ (Table (now table)) × (first ≤ v) × (8 * (v + n - first) ≤ length (now kinds)) × (v + n ≤ 133) × (p .at + 240000 < 2 ^ 64) × (p .counter + 2000 < 2 ^ 32) ⌝ }
-    ensures { λ q. ⌜ Emits (now (out .entry)) p (now (out .exit)) q (storeSome base (extIn (now (kinds .entry)) first) v n) ⌝ }
+    requires { ⌜ (Table (now table)) × (first ≤ v) × (8 * (v + n - first) ≤ length (now kinds)) × (2 * (v + n) < positions g) × (p .at + 1000000 < 2 ^ 64) × (p .counter + 7000 < 2 ^ 32) × Supported g ⌝ }
+    ensures { λ q. ⌜ Emits (now (out .entry)) p (now (out .exit)) q (storeSome g (extIn (now (kinds .entry)) first) v n) ⌝ }
 {
-    let rest = layout::utils::less(n, 3);
+    let fields = g.fields;
+    let each = fields - 1;
+    let rest = layout::utils::less(n, fields);
     let pointer = layout::utils::location_at(table, 2 * (v + rest));
-    let q = store_values(out, p, table, kinds, first, v + rest, n - rest, 3);
-    let s = block::acquire_block(out, q, pointer);
-    store_others(out, s, table, kinds, first, (rest + 1) / 2, v, rest)
+    let q = store_values(out, p, g, table, kinds, first, v + rest, n - rest, fields);
+    let s = block::acquire_block(out, q, g, pointer);
+    store_others(
+        out,
+        s,
+        g,
+        table,
+        kinds,
+        first,
+        each,
+        (rest + (each - 1)) / each,
+        v,
+        rest,
+    )
 }
 
 // n variables from v on into an object whose pointer goes into variable v's Fst; zero for none.
 pub fn store_object(
     out: &mut [u8],
     p: Cursor,
-    table: &[u64; 267],
+    g: Shape,
+    table: &[u16; ENTRIES],
     kinds: &[u8],
     v: u64,
     n: u64,
 ) -> Cursor
-    requires { ⌜ (Table (now table)) × (8 * (v + n) ≤ length (now kinds)) × (v + n ≤ 133) × (p .at + 240000 < 2 ^ 64) × (p .counter + 2000 < 2 ^ 32) ⌝ }
-    ensures { λ q. ⌜ Emits (now (out .entry)) p (now (out .exit)) q (storeObject base (extIn (now (kinds .entry)) 0) v n) ⌝ }
+    requires { ⌜ (Table (now table)) × (8 * (v + n) ≤ length (now kinds)) × (2 * (v + n) < positions g) × (p .at + 1000000 < 2 ^ 64) × (p .counter + 7000 < 2 ^ 32) × Supported g ⌝ }
+    ensures { λ q. ⌜ Emits (now (out .entry)) p (now (out .exit)) q (storeObject g (extIn (now (kinds .entry)) 0) v n) ⌝ }
 {
     if n == 0 {
         let w = layout::utils::location_at(table, 2 * v);
-        code::emitters::emit_load_immediate(out, p, w, 0)
+        code::emitters::emit_load_immediate(out, p, g, w, 0)
     } else {
-        store_some(out, p, table, kinds, 0, v, n)
+        store_some(out, p, g, table, kinds, 0, v, n)
     }
 }
 
 // Whether there are positions for a store of n of k variables.
-fn store_fits(k: u64, n: u64) -> bool
-    requires { ⌜ k ≤ 4096 ⌝ }
-    ensures { λ r. ⌜ r ≡ ltb (storeHighest k n) 267 ⌝ }
+fn store_fits(g: Shape, k: u64, n: u64) -> bool
+    requires { ⌜ (k ≤ 4096) × Supported g ⌝ }
+    ensures { λ r. ⌜ r ≡ ltb (storeHighest k n) (positions g) ⌝ }
 {
+    let positions = g.spills + 11;
     if n == 0 {
-        return 2 * k < 267;
+        return 2 * k < positions;
     }
-    k < 134
+    2 * k < positions + 1
 }
 
-// Whether no store or load can want labels or room: the largest draws 858 labels and writes fewer than 4,300 records.
-pub fn ample(counter: u64, room: usize) -> bool
-    ensures { λ r. ⌜ r ≡ (ltb counter 2147480000 && ltb 103199 room) ⌝ }
+// How many records suffice for a store or a load of n variables, by its blocks.
+fn object_records(g: Shape, n: u64) -> u64
+    requires { ⌜ (n ≤ 4096) × Supported g ⌝ }
+    ensures { λ r. ⌜ (r ≡ objectRecords g n) × (r ≤ 49 * n + 600) ⌝ }
+{
+    let each = g.fields - 1;
+    let rest = layout::utils::less(n, g.fields);
+    (16 * g.fields + 17) * ((rest + (each - 1)) / each + 1) + 4
+}
+
+// Whether no store or load of n variables can want labels or room: each draws fewer than 3,000 labels.
+pub fn ample(g: Shape, counter: u64, room: usize, n: u64) -> bool
+    requires { ⌜ (n ≤ 4096) × Supported g ⌝ }
+    ensures { λ r. ⌜ r ≡ (ltb counter 2147480000 && leb (24 * objectRecords g n) room) ⌝ }
 {
     if counter < 2147480000 {} else {
         return false;
     }
-    103199 < room
+    24 * object_records(g, n) <= room as u64
 }
 
 // Written at once, where neither labels nor room can be wanting.
 fn store_at_once(
     out: &mut [u8],
+    g: Shape,
     counter: u64,
-    table: &[u64; 267],
+    table: &[u16; ENTRIES],
     kinds: &[u8],
     v: u64,
     n: u64,
 ) -> Answer
-    requires { ⌜ (Table (now table)) × (8 * (v + n) ≤ length (now kinds)) × (v + n ≤ 133) × (counter < 2147480000) × (103199 < length (now out)) ⌝ }
-    ensures { λ r. ⌜ Answers (now (out .entry)) (now (out .exit)) r (treeAnswer counter (length (now (out .entry))) (storeObject base (extIn (now (kinds .entry)) 0) v n)) (flat (storeObject base (extIn (now (kinds .entry)) 0) v n) counter) ⌝ }
+    requires { ⌜ (Table (now table)) × (8 * (v + n) ≤ length (now kinds)) × (2 * (v + n) < positions g) × (counter < 2147480000) × (24 * objectRecords g n ≤ length (now out)) × Supported g ⌝ }
+    ensures { λ r. ⌜ Answers (now (out .entry)) (now (out .exit)) r (treeAnswer counter (length (now (out .entry))) (storeObject g (extIn (now (kinds .entry)) 0) v n)) (flat (storeObject g (extIn (now (kinds .entry)) 0) v n) counter) ⌝ }
 {
-    let q = store_object(out, Cursor { at: 0, counter }, table, kinds, v, n);
+    let q = store_object(out, Cursor { at: 0, counter }, g, table, kinds, v, n);
     Answer::Written(q.at / 24, q.counter)
 }
 
 // A first pass on another output tells the size, and the second writes.
 fn store_sized(
     out: &mut [u8],
+    g: Shape,
     counter: u64,
-    table: &[u64; 267],
+    table: &[u16; ENTRIES],
     kinds: &[u8],
     v: u64,
     n: u64,
 ) -> Answer
-    requires { ⌜ (Table (now table)) × (8 * (v + n) ≤ length (now kinds)) × (v + n ≤ 133) ⌝ }
-    ensures { λ r. ⌜ Answers (now (out .entry)) (now (out .exit)) r (treeAnswer counter (length (now (out .entry))) (storeObject base (extIn (now (kinds .entry)) 0) v n)) (flat (storeObject base (extIn (now (kinds .entry)) 0) v n) counter) ⌝ }
+    requires { ⌜ (Table (now table)) × (8 * (v + n) ≤ length (now kinds)) × (2 * (v + n) < positions g) × Supported g ⌝ }
+    ensures { λ r. ⌜ Answers (now (out .entry)) (now (out .exit)) r (treeAnswer counter (length (now (out .entry))) (storeObject g (extIn (now (kinds .entry)) 0) v n)) (flat (storeObject g (extIn (now (kinds .entry)) 0) v n) counter) ⌝ }
 {
     let mut none = [0u8; 1];
-    let need = store_object(&mut none, Cursor { at: 0, counter: 0 }, table, kinds, v, n);
+    let need = store_object(
+        &mut none,
+        Cursor { at: 0, counter: 0 },
+        g,
+        table,
+        kinds,
+        v,
+        n,
+    );
     let answer = emit::answer::grant(counter, out.len(), need);
     if emit::answer::is_written(answer) {} else {
         return answer;
     }
-    store_object(out, Cursor { at: 0, counter }, table, kinds, v, n);
+    store_object(out, Cursor { at: 0, counter }, g, table, kinds, v, n);
     answer
 }
 
 // A store of the last n of the k variables of a context.
-fn store_last(out: &mut [u8], counter: u64, context: &[u8], k: u64, n: u64) -> Answer
-    requires { ⌜ checkedContext (now context) ≡ Good k ⌝ }
-    ensures { λ r. ⌜ Answers (now (out .entry)) (now (out .exit)) r (storeAnswer base counter (length (now (out .entry))) (now (context .entry)) n) (flat (storeTree base (now (context .entry)) n) counter) ⌝ }
+fn store_last(out: &mut [u8], g: Shape, counter: u64, context: &[u8], k: u64, n: u64) -> Answer
+    requires { ⌜ (checkedContext (now context) ≡ Good k) × Supported g ⌝ }
+    ensures { λ r. ⌜ Answers (now (out .entry)) (now (out .exit)) r (storeAnswer g counter (length (now (out .entry))) (now (context .entry)) n) (flat (storeTree g (now (context .entry)) n) counter) ⌝ }
 {
     if k < n {
         return Answer::Missing;
     }
-    if store_fits(k, n) {} else {
+    if store_fits(g, k, n) {} else {
         return Answer::Position;
     }
     let table = layout::utils::positions();
-    if ample(counter, out.len()) {
-        return store_at_once(out, counter, &table, context, k - n, n);
+    if ample(g, counter, out.len(), n) {
+        return store_at_once(out, g, counter, &table, context, k - n, n);
     }
-    store_sized(out, counter, &table, context, k - n, n)
+    store_sized(out, g, counter, &table, context, k - n, n)
 }
 
 // The last n variables of a context into an object, whose pointer goes into the first one's Fst.
 pub fn store(out: &mut [u8], counter: u64, context: &[u8], n: u64) -> Answer
     ensures { λ r. ⌜ Answers (now (out .entry)) (now (out .exit)) r (storeAnswer base counter (length (now (out .entry))) (now (context .entry)) n) (flat (storeTree base (now (context .entry)) n) counter) ⌝ }
 {
+    store_in(out, layout::config::base(), counter, context, n)
+}
+
+fn store_in(out: &mut [u8], g: Shape, counter: u64, context: &[u8], n: u64) -> Answer
+    requires { ⌜ Supported g ⌝ }
+    ensures { λ r. ⌜ Answers (now (out .entry)) (now (out .exit)) r (storeAnswer g counter (length (now (out .entry))) (now (context .entry)) n) (flat (storeTree g (now (context .entry)) n) counter) ⌝ }
+{
     match records::binding::check_context(context) {
-        Checked::Good(k) => store_last(out, counter, context, k as u64, n),
+        Checked::Good(k) => store_last(out, g, counter, context, k as u64, n),
         Checked::Malformed(_) => Answer::Context,
     }
 }

@@ -15,13 +15,13 @@ use Rattle.instructions.specs.declared.memory.Place.the-variants.{Stack, Heap, 
 use Rattle.instructions.specs.declared.instruction.Compared.{Compared}
 use Rattle.instructions.specs.declared.instruction.Compared.the-variants.{Absent, Of}
 use Rattle.instructions.specs.View.{View, putReg, putStk, putMem}
-use Rattle.instructions.specs.Memory.{stackStart, heapStart, placeOf, wordAt, putAt, Operand, register, memory, immediate, valueOf, assigned}
+use Rattle.instructions.specs.Memory.{stackEnd, heapStart, placeOf, wordAt, putAt, Operand, register, memory, immediate, valueOf, assigned}
 use Rattle.instructions.specs.Step.{Config, config, dropped, Outcome, onWord, onState, onPair, arithmetic, move, compare, divide, branch, printName, step}
 use Rattle.structured.specs.Evaluation.{Evaluated, done, faulted, andThen, evaluated, onEqual, evaluate}
 
 -- a state beside a heap of so many words, all else the same
 abbrev pub beside : ℕ → View → View
-beside n s = record { reg = s .reg; stk = s .stk; mem = s .mem; size = n }
+beside n s = record { reg = s .reg; stk = s .stk; mem = s .mem; depth = s .depth; size = n }
 
 -- a configuration beside a heap of so many words, all else the same
 abbrev pub resized : ℕ → Config → Config
@@ -54,11 +54,12 @@ module _ (m n : ℕ) (h : m ≤ n) where
     heap-kept i true false f = outside
     heap-kept i false t f = outside
 
-    place-kept : (a : ℕ) → Kept (placeOf (c .state .size) a) (placeOf n a)
+    place-kept : (a : ℕ) → Kept (placeOf (c .state .depth) (c .state .size) a) (placeOf (c .state .depth) n a)
     unfolding placeOf
     place-kept a =
         either Kept (eqb (a % 8) 0)
-        (either Kept (leb stackStart a) (either Kept (ltb ((a - stackStart) / 8) 320) on-stack outside) (heap-kept ((a - heapStart) / 8) (leb heapStart a) _ refl))
+        (either Kept (leb stackEnd a) outside
+        (either Kept (ltb ((1099511627768 - a) / 8) (c .state .depth)) on-stack (heap-kept ((a - heapStart) / 8) (leb heapStart a) _ refl)))
         outside
 
     -- a word read from a place or an operand, and what goes on with it

@@ -26,7 +26,7 @@ readable cs w h = record {
   checks = records-read-back .codes-accepted cs w 65536 (omega arith);
   reads = λ rest k l. records-read-back .codes-read cs w rest k l;
   all = codes-back cs w;
-  runs = λ words limit v e. ran-list words cs limit v w h e;
+  runs = λ block words limit v e. ran-list block words cs limit v w h e;
 }
 
 tree-each : (t : Tree) (counter : ℕ) → Formed t → counter + labels t ≤ 2147483647 → Each WellFormedCode (flat t counter)

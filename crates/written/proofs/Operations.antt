@@ -10,7 +10,8 @@ use Rattle.records.specs.ReadBack.{WellFormedCode}
 use Rattle.records.proofs.Conditions.{and-right, chosen}
 use Rattle.emit.specs.declared.answer.Answer.the-variants.{Operand}
 use Rattle.emit.specs.Answers.{accepted}
-use Rattle.layout.specs.Config.{base}
+use Rattle.layout.specs.declared.config.Shape.{Shape}
+use Rattle.layout.specs.Config.{Supported}
 use Rattle.layout.specs.Positions.{operandOk}
 use Rattle.code.specs.Code.{jumpIf, compareWords, compareImmediate, arithmetic, loadImmediate, loadLabel, moved}
 use Rattle.code.specs.Sizes.{plain-arithmetic, plain-compare, plain-compare-immediate, plain-load-immediate, plain-load-label, plain-mov}
@@ -29,36 +30,37 @@ held h e = record { fits = h; ok = e }
 single : {c : Code} → WellFormedCode c → Short (c ∷ [])
 single w = record { each = (w, tt); most = omega arith }
 
-operation-short : (o : Operation) → OperationFits o → operandsOk base o ≡ true → Short (recordsOf base o)
-unfolding recordsOf operandsOk
-operation-short (Label l) f e = single (lab (held f e))
-operation-short (Jump w) f e =
-    on-operand w (λ l. single (jmp l)) (λ l. record { each = (movl temp stack (offset-fits w), (jmp temp, tt)); most = omega arith })
-operation-short (JumpLabel l) f e = single (jmpl (held f e))
-operation-short (JumpLabelFixed l) f e = single (jmpln (held f e))
-operation-short (JumpLabelIf k x y l) f e =
-    let h = and-right (operandOk base x && operandOk base y) (labelHeld l) e in
-    short-then (compareWords base x y) (jumpIf k l) (formed-compare x y) (plain-compare base x y) (omega arith) (jump-if (held f h) k)
-operation-short (JumpLabelIfZero k w l) f e =
-    let h = and-right (operandOk base w) (labelHeld l) e in
-    short-then (compareImmediate base w 0) (jumpIf k l) (formed-compare-immediate w zero-fits) (plain-compare-immediate base w 0) (omega arith) (jump-if (held f h) k)
-operation-short (LoadImmediate w value) f e = short-tree (loadImmediate base w value) (formed-immediate w f) (plain-load-immediate base w value) (omega arith)
-operation-short (LoadLabel w l) f e =
-    let h = and-right (operandOk base w) (labelHeld l) e in
-    short-tree (loadLabel base w l) (formed-load-label w (held f h)) (plain-load-label base w l) (omega arith)
-operation-short (AddAndJump w value) f e =
-    on-operand w (λ l. record { each = (addi l f, (jmp l, tt)); most = omega arith })
-    (λ l. record { each = (movl temp stack (offset-fits w), (addi temp f, (jmp temp, tt))); most = omega arith })
-operation-short (Arithmetic o w x y) f e = short-tree (arithmetic base o w x y) (formed-arithmetic o w x y) (plain-arithmetic base o w x y) (omega arith)
-operation-short (Mov w x) f e = short-tree (moved base w x) (formed-moved w x) (plain-mov base w x) (omega arith)
-operation-short (Compare x y) f e = short-tree (compareWords base x y) (formed-compare x y) (plain-compare base x y) (omega arith)
-operation-short (CompareImmediate w value) f e =
-    short-tree (compareImmediate base w value) (formed-compare-immediate w f) (plain-compare-immediate base w value) (omega arith)
+module _ (G : Shape) (sup : Supported G) where
+  operation-short : (o : Operation) → OperationFits o → operandsOk G o ≡ true → Short (recordsOf G o)
+  unfolding recordsOf operandsOk
+  operation-short (Label l) f e = single (lab (held f e))
+  operation-short (Jump w) f e =
+      on-operand w (λ l. single (jmp l)) (λ l. record { each = (movl temp stack (offset-fits G sup w), (jmp temp, tt)); most = omega arith })
+  operation-short (JumpLabel l) f e = single (jmpl (held f e))
+  operation-short (JumpLabelFixed l) f e = single (jmpln (held f e))
+  operation-short (JumpLabelIf k x y l) f e =
+      let h = and-right (operandOk G x && operandOk G y) (labelHeld l) e in
+      short-then (compareWords G x y) (jumpIf k l) (formed-compare G sup x y) (plain-compare G x y) (omega arith) (jump-if (held f h) k)
+  operation-short (JumpLabelIfZero k w l) f e =
+      let h = and-right (operandOk G w) (labelHeld l) e in
+      short-then (compareImmediate G w 0) (jumpIf k l) (formed-compare-immediate G sup w zero-fits) (plain-compare-immediate G w 0) (omega arith) (jump-if (held f h) k)
+  operation-short (LoadImmediate w value) f e = short-tree (loadImmediate G w value) (formed-immediate G sup w f) (plain-load-immediate G w value) (omega arith)
+  operation-short (LoadLabel w l) f e =
+      let h = and-right (operandOk G w) (labelHeld l) e in
+      short-tree (loadLabel G w l) (formed-load-label G sup w (held f h)) (plain-load-label G w l) (omega arith)
+  operation-short (AddAndJump w value) f e =
+      on-operand w (λ l. record { each = (addi l f, (jmp l, tt)); most = omega arith })
+      (λ l. record { each = (movl temp stack (offset-fits G sup w), (addi temp f, (jmp temp, tt))); most = omega arith })
+  operation-short (Arithmetic o w x y) f e = short-tree (arithmetic G o w x y) (formed-arithmetic G sup o w x y) (plain-arithmetic G o w x y) (omega arith)
+  operation-short (Mov w x) f e = short-tree (moved G w x) (formed-moved G sup w x) (plain-mov G w x) (omega arith)
+  operation-short (Compare x y) f e = short-tree (compareWords G x y) (formed-compare G sup x y) (plain-compare G x y) (omega arith)
+  operation-short (CompareImmediate w value) f e =
+      short-tree (compareImmediate G w value) (formed-compare-immediate G sup w f) (plain-compare-immediate G w value) (omega arith)
 
-pub operation-readable : (o : Operation) → OperationFits o → operandsOk base o ≡ true → Readable (recordsOf base o)
-operation-readable o f e =
-    let s = operation-short o f e in
-    readable (recordsOf base o) (s .each) (omega (arith, s .most))
+  pub operation-readable : (o : Operation) → OperationFits o → operandsOk G o ≡ true → Readable (recordsOf G o)
+  operation-readable o f e =
+      let s = operation-short o f e in
+      readable (recordsOf G o) (s .each) (omega (arith, s .most))
 
-pub operation-reads : (o : Operation) (room : ℕ) → OperationFits o → accepted (answerOf base room o) ≡ true → Readable (recordsOf base o)
-operation-reads o room f e = operation-readable o f (chosen accepted (operandsOk base o) _ Operand refl e .0)
+  pub operation-reads : (o : Operation) (room : ℕ) → OperationFits o → accepted (answerOf G room o) ≡ true → Readable (recordsOf G o)
+  operation-reads o room f e = operation-readable o f (chosen accepted (operandsOk G o) _ Operand refl e .0)

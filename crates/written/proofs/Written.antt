@@ -14,7 +14,7 @@ written-is-read = record {
   loads = load-reads;
   erases = erase-reads;
   shares = share-reads;
-  prints = λ room newline w context e. print-reads room newline w context (checkedContext context) e;
+  prints = λ G sup room newline w context e. print-reads G sup room newline w context (checkedContext context) e;
   orders = order-reads;
   routines = routine-reads;
 }

@@ -1,7 +1,7 @@
 use borrow.Author.Needs.{needs}
 use native.Mathlib.Omega.{arith}
 use Rattle.instructions.specs.View.{wordsOf}
-use Rattle.chains.proofs.FirstWords.{number-small, below-blocks, between-blocks, block-starts, past-heap}
+use Rattle.chains.proofs.FirstWords.{number-bytes, at-block, no-block, block-starts, past-heap}
 use Rattle.chains.proofs.first_word.Statement.{statement}
 use Rattle.chains.proofs.first_word.Tie as tie
 
@@ -10,10 +10,12 @@ first-word-spec =
     tie.close
     (tie.spec
     (λ c κs. search needs)
-    (λ c. let a = c .before .before .before .args in below-blocks (wordsOf (a .heap .now)) (a .b) (c .if1 .taken))
-    (λ c. let a = c .before .before .before .before .args in between-blocks (wordsOf (a .heap .now)) (a .b) (c .before .if1 .left) (c .if2 .left))
-    (λ c. let a = c .before .before .before .before .args in omega (arith, number-small (a .b), c .before .before .number-of .ensures))
+    (λ c κs. search needs)
+    (λ c. let s = c .before .before .before in omega (arith, at-block _ _ (c .before .block-words .ensures .0) (c .number-of .ensures), number-bytes (s .args .g .fields) (s .args .b), s .fits .b))
+    (λ c. let s = c .before .before .before in omega (arith, at-block _ _ (c .before .block-words .ensures .0) (c .number-of .ensures), number-bytes (s .args .g .fields) (s .args .b), s .fits .b))
+    (λ c. let s = c .before .before .before in omega (arith, at-block _ _ (c .before .block-words .ensures .0) (c .number-of .ensures), number-bytes (s .args .g .fields) (s .args .b), s .fits .b))
+    (λ c. let s = c .before .before .before .before in no-block (s .args .g .fields) (wordsOf (s .args .heap .now)) (s .args .b) (at-block _ _ (c .before .before .block-words .ensures .0) (c .before .number-of .ensures)) (c .if1 .left))
     (λ c. search needs)
     (λ c. search needs)
-    (λ c. let a = c .before .before .before .before .before .before .args in block-starts (wordsOf (a .heap .now)) (a .b) (c .before .before .before .before .number-of .ensures) (c .before .before .before .if1 .left) (c .before .before .if2 .taken))
-    (λ c. let a = c .before .before .before .before .before .args in past-heap (a .heap .now) (c .if3 .left) (block-starts (wordsOf (a .heap .now)) (a .b) (c .before .before .before .number-of .ensures) (c .before .before .if1 .left) (c .before .if2 .taken))))
+    (λ c. let s = c .before .before .before .before .before .before in block-starts (s .args .g .fields) (wordsOf (s .args .heap .now)) (s .args .b) (at-block _ _ (c .before .before .before .before .block-words .ensures .0) (c .before .before .before .number-of .ensures)) (c .before .before .if1 .taken))
+    (λ c. let s = c .before .before .before .before .before in past-heap (s .args .heap .now) (c .if2 .left) (block-starts (s .args .g .fields) (wordsOf (s .args .heap .now)) (s .args .b) (at-block _ _ (c .before .before .before .block-words .ensures .0) (c .before .before .number-of .ensures)) (c .before .if1 .taken))))

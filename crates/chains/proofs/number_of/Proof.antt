@@ -1,3 +1,4 @@
+use borrow.Author.Needs.{needs}
 use Rattle.chains.proofs.FirstWords.{number-low, number-high}
 use Rattle.chains.proofs.number_of.Statement.{statement}
 use Rattle.chains.proofs.number_of.Tie as tie
@@ -6,5 +7,7 @@ pub number-of-spec : {M : Type 1} → statement M
 number-of-spec =
     tie.close
     (tie.spec
-    (λ c. number-low _ (c .if1 .taken))
-    (λ c. number-high _))
+    (λ c κs. search needs)
+    (λ c. search needs)
+    (λ c. number-low _ _ (c .if1 .taken))
+    (λ c. number-high _ _ (c .before .block-words .ensures .0)))

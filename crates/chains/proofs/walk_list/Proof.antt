@@ -11,11 +11,11 @@ use Rattle.chains.proofs.walk_list.Statement.{statement}
 use Rattle.chains.proofs.walk_list.Tie as tie
 
 abbrev Inv-loop : tie.InvT-loop
-Inv-loop heap most first b₀ left₀ passed₀ b left passed =
-    (passed + left ≡ most) × (passed + listLength (headers 3 (wordsOf heap)) left b ≡ listLength (headers 3 (wordsOf heap)) most first)
+Inv-loop g heap most first b₀ left₀ passed₀ b left passed =
+    (passed + left ≡ most) × (passed + listLength (headers (g .fields) (wordsOf heap)) left b ≡ listLength (headers (g .fields) (wordsOf heap)) most first)
 
 abbrev μ-loop : tie.MeasureT-loop
-μ-loop heap most first b₀ left₀ passed₀ b left passed = left
+μ-loop g heap most first b₀ left₀ passed₀ b left passed = left
 
 pub walk-list-spec : {M : Type 1} → statement M
 walk-list-spec =
@@ -24,10 +24,10 @@ walk-list-spec =
     Inv-loop
     μ-loop
     (λ c. (omega arith, omega arith))
-    (λ c. let l = c .before .before .loop in omega (arith, l .inv .1, list-ends (headers 3 (wordsOf (c .before .before .before .before .args .heap .now))) (l .left) (l .b) (c .if1 .taken)))
+    (λ c. let l = c .before .before .loop in omega (arith, l .inv .1, list-ends (headers (c .before .before .before .before .args .g .fields) (wordsOf (c .before .before .before .before .args .heap .now))) (l .left) (l .b) (c .if1 .taken)))
     (λ c κs. search needs)
     (λ c. omega arith)
     (λ c. omega arith)
     (λ c. omega arith)
-    (λ c. let h = headers 3 (wordsOf (c .before .before .before .before .before .args .heap .now)) in let l = c .before .before .before .loop in (omega (arith, l .inv .0), omega (arith, l .inv .1, list-goes h (l .left) (l .b) (c .before .before .loop-test .taken) (c .before .if1 .left), ap (listLength h (l .left - 1)) (c .first-word .ensures))))
-    (λ c. let l = c .before .loop in omega (arith, l .inv .1, list-stays (headers 3 (wordsOf (c .before .before .before .args .heap .now))) (l .left) (l .b) (c .loop-test .left))))
+    (λ c. let h = headers (c .before .before .before .before .before .args .g .fields) (wordsOf (c .before .before .before .before .before .args .heap .now)) in let l = c .before .before .before .loop in (omega (arith, l .inv .0), omega (arith, l .inv .1, list-goes h (l .left) (l .b) (c .before .before .loop-test .taken) (c .before .if1 .left), ap (listLength h (l .left - 1)) (c .first-word .ensures))))
+    (λ c. let l = c .before .loop in omega (arith, l .inv .1, list-stays (headers (c .before .before .before .args .g .fields) (wordsOf (c .before .before .before .args .heap .now))) (l .left) (l .b) (c .loop-test .left))))

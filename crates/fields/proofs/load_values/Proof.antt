@@ -7,24 +7,23 @@ use lib.ListN.{length}
 use Rattle.emit.specs.declared.cursor.Cursor.{Cursor}
 use Rattle.emit.specs.Emitted.{Emits}
 use Rattle.emit.specs.Laws.{_⨟_, emits-nop}
-use Rattle.layout.specs.Config.{base}
-use Rattle.memory.specs.Objects.{extIn, loadValues}
+use Rattle.memory.specs.Objects.{extIn, loadValue, loadValues}
 use Rattle.memory.specs.Sizes.{load-value-size}
 use Rattle.memory.specs.Unfolded.{next-loaded}
 use Rattle.fields.proofs.load_values.Statement.{statement}
 use Rattle.fields.proofs.load_values.Tie as tie
 
 abbrev Inv-loop : tie.InvT-loop
-Inv-loop out₀ table kinds first shared v k free r q₀ left₀ at₀ out q left at =
+Inv-loop out₀ g table kinds first shared v k free r q₀ left₀ at₀ out q left at =
     (left ≤ k)
     × (at + k ≡ free + left)
     × (length out ≡ length out₀)
     × (q .at + 192 * left + 24 < 2 ^ 64)
     × (q .counter + left < 2 ^ 32)
-    × ((o : List ℕ) (s : Cursor) → Emits out q o s (loadValues base (extIn kinds first) shared v left at r) → Emits out₀ q₀ o s (loadValues base (extIn kinds first) shared v k free r))
+    × ((o : List ℕ) (s : Cursor) → Emits out q o s (loadValues g (extIn kinds first) shared v left at r) → Emits out₀ q₀ o s (loadValues g (extIn kinds first) shared v k free r))
 
 abbrev μ-loop : tie.MeasureT-loop
-μ-loop out₀ table kinds first shared v k free r q₀ left₀ at₀ out q left at = left
+μ-loop out₀ g table kinds first shared v k free r q₀ left₀ at₀ out q left at = left
 
 pub load-values-spec : {M : Type 1} → statement M
 load-values-spec =
@@ -36,10 +35,10 @@ load-values-spec =
     (λ c. search needs)
     (λ c. omega arith)
     (λ c. omega arith)
-    (λ c κs. let a = c .before .before .before .before .before .args in let w = c .before .before .before .before .before .pre in (w .0, omega arith, omega arith, omega arith, omega arith, omega arith, omega arith))
+    (λ c κs. let a = c .before .before .before .before .before .args in let w = c .before .before .before .before .before .pre in (w .0, omega arith, omega arith, omega arith, omega arith, omega arith, omega arith, w .8))
     (λ c. search needs)
     (λ c. omega arith)
     (λ c. omega arith)
-    (λ c. let l = c .before .before .before .before .before .loop in let a = c .before .before .before .before .before .before .before .before .args in let w = c .before .before .before .before .before .before .before .before .pre in let d = c .before .before .load-value .ensures in let z = load-value-size (extIn (a .kinds .now) (a .first)) (a .shared) (a .v + (l .left - 1)) (l .at - 1) (a .r) in (omega arith, omega arith, search needs, omega (arith, d .place), omega (arith, d .drawn), λ o s x. l .inv .5 o s (rw (next-loaded (extIn (a .kinds .now) (a .first)) (a .shared) (a .v) (l .left) (l .at) (a .r) (c .before .before .before .before .loop-test .taken)) (d ⨟ x))))
+    (λ c. let l = c .before .before .before .before .before .loop in let a = c .before .before .before .before .before .before .before .before .args in let w = c .before .before .before .before .before .before .before .before .pre in let d = c .before .before .load-value .ensures in let z = load-value-size (a .g) (extIn (a .kinds .now) (a .first)) (a .shared) (a .v + (l .left - 1)) (l .at - 1) (a .r) in (omega arith, omega arith, search needs, omega (arith, d .place), omega (arith, d .drawn), λ o s x. l .inv .5 o s (rw (next-loaded (a .g) (extIn (a .kinds .now) (a .first)) (a .shared) (a .v) (l .left) (l .at) (a .r) (c .before .before .before .before .loop-test .taken)) (_⨟_ {t = loadValue (a .g) (extIn (a .kinds .now) (a .first)) (a .shared) (a .v + (l .left - 1)) (l .at - 1) (a .r)} d x))))
     (λ c. search needs)
     (λ c. let l = c .before .loop in let n : l .left ≡ 0 = omega arith in l .inv .5 _ _ (rw n emits-nop)))

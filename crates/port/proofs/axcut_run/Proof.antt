@@ -9,5 +9,7 @@ axcut-run-spec =
     (tie.spec
     (λ c κs. search needs)
     (λ c κs. search needs)
+    (λ c κs. search needs)
+    (λ c κs. search needs)
     (λ c. search needs)
-    (λ c. gives (c .before .before .before .before .before .before .before .before .run-lent .ensures) (c .told .ensures)))
+    (λ c. rw (c .before .before .before .before .before .before .before .before .before .before .before .block-words .ensures .0, c .before .before .before .before .before .before .before .before .before .before .before .before .base .ensures .0) at (gives (c .before .before .before .before .before .before .before .before .run-lent .ensures) (c .told .ensures))))

@@ -3,7 +3,6 @@ use native.Mathlib.Omega.{arith}
 use Prim.Native.Nat.{ℕ, _*_}
 use mathlib.Core.Path.{refl, sym, ap, _∙_}
 use Rattle.records.proofs.BindingsRead.{context-within}
-use Rattle.layout.specs.Config.{base}
 use Rattle.orders.specs.Writes.{treeOf, contextAfter}
 use Rattle.answering.specs.Decided.{written}
 use Rattle.judging.proofs.Asking.{few-after}
@@ -19,13 +18,13 @@ write-order-spec =
     (tie.spec
     (λ c κs. search needs)
     (λ c. search needs)
-    (λ c κs. let a = c .before .before .before .before .before .before .before .args in let w = c .before .before .before .before .before .before .before .pre in let s = a .context .now in let b = a .bindings .now in let x = context-within s _ (w .0) in let y = context-within b _ (w .1) in (c .before .before .positions .ensures, x .1, x .0, y .1, w .2, w .3, omega arith, omega arith))
+    (λ c κs. let a = c .before .before .before .before .before .before .before .args in let w = c .before .before .before .before .before .before .before .pre in let s = a .context .now in let b = a .bindings .now in let x = context-within s _ (w .0) in let y = context-within b _ (w .1) in (c .before .before .positions .ensures, x .1, x .0, y .1, w .2, w .3, omega arith, omega arith, w .4))
     (λ c κs. let a = c .before .before .before .before .before .before .before .before .before .args in let w = c .before .before .before .before .before .before .before .before .before .pre in let s = a .context .now in let b = a .bindings .now in let x = context-within s _ (w .0) in let y = context-within b _ (w .1) in x .0)
-    (λ c κs. let a = c .before .before .before .before .before .before .before .before .before .before .args in let w = c .before .before .before .before .before .before .before .before .before .before .pre in let s = a .context .now in let b = a .bindings .now in let x = context-within s _ (w .0) in let y = context-within b _ (w .1) in let z = order-extent s (a .k) b (a .order) (w .2) (w .3) in (omega (arith, c .before .before .emit-order .ensures .drawn, z .0), omega (arith, c .count-after .ensures, few-after s (a .k) b (a .order) (x .0) (w .2) (w .3))))
+    (λ c κs. let a = c .before .before .before .before .before .before .before .before .before .before .args in let w = c .before .before .before .before .before .before .before .before .before .before .pre in let s = a .context .now in let b = a .bindings .now in let x = context-within s _ (w .0) in let y = context-within b _ (w .1) in let z = order-extent (w .4) s (a .k) b (a .order) (w .2) (w .3) in (omega (arith, c .before .before .emit-order .ensures .drawn, z .0), omega (arith, c .count-after .ensures, few-after (w .4) s (a .k) b (a .order) (w .2) (w .3), x .0, w .4 .frame)))
     (λ c κs. search needs)
-    (λ c. let a = c .before .before .before .before .before .before .before .before .before .before .before .before .before .args in let w = c .before .before .before .before .before .before .before .before .before .before .before .before .before .pre in let s = a .context .now in let b = a .bindings .now in let x = context-within s _ (w .0) in let y = context-within b _ (w .1) in let m = after-long s (a .k) b (a .order) (context-long s _ (w .0)) (context-long b _ (w .1)) ∙ ap (λ (i : ℕ). 8 * i) (sym (c .before .before .before .count-after .ensures)) in not-written (treeOf base s (a .k) b (a .order)) (contextAfter s (a .k) b (a .order)) (a .counter) (c .before .before .before .count-after .result) (c .before .before .before .before .before .emit-order .ensures) refl refl m _ _ (c .before .before .grant .ensures) (c .before .is-accepted .ensures) _ _ (written s (a .k) b (a .order) (a .counter)) (c .if1 .left))
-    (λ c κs. let a = c .before .before .before .before .before .before .before .before .before .before .before .before .before .before .before .args in let w = c .before .before .before .before .before .before .before .before .before .before .before .before .before .before .before .pre in let s = a .context .now in let b = a .bindings .now in let x = context-within s _ (w .0) in let y = context-within b _ (w .1) in let m = after-long s (a .k) b (a .order) (context-long s _ (w .0)) (context-long b _ (w .1)) ∙ ap (λ (i : ℕ). 8 * i) (sym (c .before .before .before .before .before .count-after .ensures)) in let g = bounds (treeOf base s (a .k) b (a .order)) (contextAfter s (a .k) b (a .order)) (a .counter) (c .before .before .before .before .before .count-after .result) (c .before .before .before .before .before .before .before .emit-order .ensures) refl refl m _ _ (c .before .before .before .before .grant .ensures) (c .before .before .before .is-accepted .ensures) (c .before .before .if1 .taken) in (c .before .before .before .before .before .before .before .before .before .before .positions .ensures, x .1, x .0, y .1, w .2, w .3, omega arith, omega (arith, g .0)))
-    (λ c κs. let a = c .before .before .before .before .before .before .before .before .before .before .before .before .before .before .before .before .before .before .before .args in let w = c .before .before .before .before .before .before .before .before .before .before .before .before .before .before .before .before .before .before .before .pre in let s = a .context .now in let b = a .bindings .now in let x = context-within s _ (w .0) in let y = context-within b _ (w .1) in let m = after-long s (a .k) b (a .order) (context-long s _ (w .0)) (context-long b _ (w .1)) ∙ ap (λ (i : ℕ). 8 * i) (sym (c .before .before .before .before .before .before .before .before .before .count-after .ensures)) in let g = bounds (treeOf base s (a .k) b (a .order)) (contextAfter s (a .k) b (a .order)) (a .counter) (c .before .before .before .before .before .before .before .before .before .count-after .result) (c .before .before .before .before .before .before .before .before .before .before .before .emit-order .ensures) refl refl m _ _ (c .before .before .before .before .before .before .before .before .grant .ensures) (c .before .before .before .before .before .before .before .is-accepted .ensures) (c .before .before .before .before .before .before .if1 .taken) in let f = few-after s (a .k) b (a .order) (x .0) (w .2) (w .3) in (context-long s _ (w .0), x .0, context-long b _ (w .1), w .2, omega (arith, f), omega (arith, g .2, c .before .before .before .before .before .before .before .before .before .count-after .ensures)))
+    (λ c. let a = c .before .before .before .before .before .before .before .before .before .before .before .before .before .args in let w = c .before .before .before .before .before .before .before .before .before .before .before .before .before .pre in let s = a .context .now in let b = a .bindings .now in let x = context-within s _ (w .0) in let y = context-within b _ (w .1) in let m = after-long s (a .k) b (a .order) (context-long s _ (w .0)) (context-long b _ (w .1)) ∙ ap (λ (i : ℕ). 8 * i) (sym (c .before .before .before .count-after .ensures)) in not-written (treeOf (a .g) s (a .k) b (a .order)) (contextAfter s (a .k) b (a .order)) (a .counter) (c .before .before .before .count-after .result) (c .before .before .before .before .before .emit-order .ensures) refl refl m _ _ (c .before .before .grant .ensures) (c .before .is-accepted .ensures) _ _ (written (a .g) s (a .k) b (a .order) (a .counter)) (c .if1 .left))
+    (λ c κs. let a = c .before .before .before .before .before .before .before .before .before .before .before .before .before .before .before .args in let w = c .before .before .before .before .before .before .before .before .before .before .before .before .before .before .before .pre in let s = a .context .now in let b = a .bindings .now in let x = context-within s _ (w .0) in let y = context-within b _ (w .1) in let m = after-long s (a .k) b (a .order) (context-long s _ (w .0)) (context-long b _ (w .1)) ∙ ap (λ (i : ℕ). 8 * i) (sym (c .before .before .before .before .before .count-after .ensures)) in let g = bounds (treeOf (a .g) s (a .k) b (a .order)) (contextAfter s (a .k) b (a .order)) (a .counter) (c .before .before .before .before .before .count-after .result) (c .before .before .before .before .before .before .before .emit-order .ensures) refl refl m _ _ (c .before .before .before .before .grant .ensures) (c .before .before .before .is-accepted .ensures) (c .before .before .if1 .taken) in (c .before .before .before .before .before .before .before .before .before .before .positions .ensures, x .1, x .0, y .1, w .2, w .3, omega arith, omega (arith, g .0), w .4))
+    (λ c κs. let a = c .before .before .before .before .before .before .before .before .before .before .before .before .before .before .before .before .before .before .before .args in let w = c .before .before .before .before .before .before .before .before .before .before .before .before .before .before .before .before .before .before .before .pre in let s = a .context .now in let b = a .bindings .now in let x = context-within s _ (w .0) in let y = context-within b _ (w .1) in let m = after-long s (a .k) b (a .order) (context-long s _ (w .0)) (context-long b _ (w .1)) ∙ ap (λ (i : ℕ). 8 * i) (sym (c .before .before .before .before .before .before .before .before .before .count-after .ensures)) in let g = bounds (treeOf (a .g) s (a .k) b (a .order)) (contextAfter s (a .k) b (a .order)) (a .counter) (c .before .before .before .before .before .before .before .before .before .count-after .result) (c .before .before .before .before .before .before .before .before .before .before .before .emit-order .ensures) refl refl m _ _ (c .before .before .before .before .before .before .before .before .grant .ensures) (c .before .before .before .before .before .before .before .is-accepted .ensures) (c .before .before .before .before .before .before .if1 .taken) in let f = few-after (w .4) s (a .k) b (a .order) (w .2) (w .3) in (context-long s _ (w .0), x .0, context-long b _ (w .1), w .2, omega (arith, f, x .0, w .4 .frame), omega (arith, g .2, c .before .before .before .before .before .before .before .before .before .count-after .ensures)))
     (λ c. search needs)
     (λ c. search needs)
-    (λ c. let a = c .before .before .before .before .before .before .before .before .before .before .before .before .before .before .before .before .before .before .before .before .before .before .args in let w = c .before .before .before .before .before .before .before .before .before .before .before .before .before .before .before .before .before .before .before .before .before .before .pre in let s = a .context .now in let b = a .bindings .now in let x = context-within s _ (w .0) in let y = context-within b _ (w .1) in let m = after-long s (a .k) b (a .order) (context-long s _ (w .0)) (context-long b _ (w .1)) ∙ ap (λ (i : ℕ). 8 * i) (sym (c .before .before .before .before .before .before .before .before .before .before .before .before .count-after .ensures)) in all-written (treeOf base s (a .k) b (a .order)) (contextAfter s (a .k) b (a .order)) (a .counter) (c .before .before .before .before .before .before .before .before .before .before .before .before .count-after .result) (c .before .before .before .before .before .before .before .before .before .before .before .before .before .before .emit-order .ensures) refl refl m (c .before .before .before .before .before .before .before .before .before .before .before .grant .ensures) (c .before .before .before .before .before .before .before .before .before .before .is-accepted .ensures) (c .before .before .before .before .before .before .before .before .before .if1 .taken) (c .before .before .before .before .before .before .emit-order2 .ensures) refl refl (c .before .before .write-context .ensures)))
+    (λ c. let a = c .before .before .before .before .before .before .before .before .before .before .before .before .before .before .before .before .before .before .before .before .before .before .args in let w = c .before .before .before .before .before .before .before .before .before .before .before .before .before .before .before .before .before .before .before .before .before .before .pre in let s = a .context .now in let b = a .bindings .now in let x = context-within s _ (w .0) in let y = context-within b _ (w .1) in let m = after-long s (a .k) b (a .order) (context-long s _ (w .0)) (context-long b _ (w .1)) ∙ ap (λ (i : ℕ). 8 * i) (sym (c .before .before .before .before .before .before .before .before .before .before .before .before .count-after .ensures)) in all-written (treeOf (a .g) s (a .k) b (a .order)) (contextAfter s (a .k) b (a .order)) (a .counter) (c .before .before .before .before .before .before .before .before .before .before .before .before .count-after .result) (c .before .before .before .before .before .before .before .before .before .before .before .before .before .before .emit-order .ensures) refl refl m (c .before .before .before .before .before .before .before .before .before .before .before .grant .ensures) (c .before .before .before .before .before .before .before .before .before .before .is-accepted .ensures) (c .before .before .before .before .before .before .before .before .before .if1 .taken) (c .before .before .before .before .before .before .emit-order2 .ensures) refl refl (c .before .before .write-context .ensures)))

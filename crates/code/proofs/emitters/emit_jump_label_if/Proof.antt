@@ -2,7 +2,6 @@ use borrow.Author.Needs.{needs}
 use mathlib.Core.List.{[], _∷_}
 use Rattle.trees.specs.Tree.{flat}
 use Rattle.emit.specs.Laws.{_⨾_, fields-append}
-use Rattle.layout.specs.Config.{base}
 use Rattle.code.specs.Code.{compareWords, jumpIf}
 use Rattle.code.specs.Sizes.{plain-compare}
 use Rattle.code.specs.Listed.{plain-list}
@@ -15,6 +14,6 @@ emit-jump-label-if-spec =
     tie.close
     (tie.spec
     (λ c κs. search needs)
-    (λ c κs. let s = plain-compare base (c .before .before .before .before .before .before .args .x) (c .before .before .before .before .before .before .args .y) in omega arith)
+    (λ c κs. let s = plain-compare (c .before .before .before .before .before .before .args .g) (c .before .before .before .before .before .before .args .x) (c .before .before .before .before .before .before .args .y) in omega arith)
     (λ c. search needs)
-    (λ c. rw (fields-append (flat (compareWords base (c .before .before .before .before .before .before .before .before .before .args .x) (c .before .before .before .before .before .before .before .before .before .args .y)) 0) (jumpIf (c .before .before .before .before .before .before .before .before .before .args .condition) (c .before .before .before .before .before .before .before .before .before .args .label) ∷ [])) (plain-list (plain-compare base (c .before .before .before .before .before .before .before .before .before .args .x) (c .before .before .before .before .before .before .before .before .before .args .y)) (c .before .before .before .before .before .before .emit-compare .ensures) ⨾ c .before .before .emit-jump-if .ensures)))
+    (λ c. rw (fields-append (flat (compareWords (c .before .before .before .before .before .before .before .before .before .args .g) (c .before .before .before .before .before .before .before .before .before .args .x) (c .before .before .before .before .before .before .before .before .before .args .y)) 0) (jumpIf (c .before .before .before .before .before .before .before .before .before .args .condition) (c .before .before .before .before .before .before .before .before .before .args .label) ∷ [])) (plain-list (plain-compare (c .before .before .before .before .before .before .before .before .before .args .g) (c .before .before .before .before .before .before .before .before .before .args .x) (c .before .before .before .before .before .before .before .before .before .args .y)) (c .before .before .before .before .before .before .emit-compare .ensures) ⨾ c .before .before .emit-jump-if .ensures)))

@@ -2,7 +2,6 @@ use borrow.Author.Needs.{needs}
 use mathlib.Core.List.{[], _∷_}
 use Rattle.trees.specs.Tree.{flat}
 use Rattle.emit.specs.Laws.{_⨾_, fields-append}
-use Rattle.layout.specs.Config.{base}
 use Rattle.code.specs.Code.{compareImmediate, jumpIf}
 use Rattle.code.specs.Sizes.{plain-compare-immediate}
 use Rattle.code.specs.Listed.{plain-list}
@@ -15,6 +14,6 @@ emit-jump-label-if-zero-spec =
     tie.close
     (tie.spec
     (λ c κs. search needs)
-    (λ c κs. let s = plain-compare-immediate base (c .before .before .before .before .before .before .args .w) 0 in omega arith)
+    (λ c κs. let s = plain-compare-immediate (c .before .before .before .before .before .before .args .g) (c .before .before .before .before .before .before .args .w) 0 in omega arith)
     (λ c. search needs)
-    (λ c. rw (fields-append (flat (compareImmediate base (c .before .before .before .before .before .before .before .before .before .args .w) 0) 0) (jumpIf (c .before .before .before .before .before .before .before .before .before .args .condition) (c .before .before .before .before .before .before .before .before .before .args .label) ∷ [])) (plain-list (plain-compare-immediate base (c .before .before .before .before .before .before .before .before .before .args .w) 0) (c .before .before .before .before .before .before .emit-compare-immediate .ensures) ⨾ c .before .before .emit-jump-if .ensures)))
+    (λ c. rw (fields-append (flat (compareImmediate (c .before .before .before .before .before .before .before .before .before .args .g) (c .before .before .before .before .before .before .before .before .before .args .w) 0) 0) (jumpIf (c .before .before .before .before .before .before .before .before .before .args .condition) (c .before .before .before .before .before .before .before .before .before .args .label) ∷ [])) (plain-list (plain-compare-immediate (c .before .before .before .before .before .before .before .before .before .args .g) (c .before .before .before .before .before .before .before .before .before .args .w) 0) (c .before .before .before .before .before .before .emit-compare-immediate .ensures) ⨾ c .before .before .emit-jump-if .ensures)))

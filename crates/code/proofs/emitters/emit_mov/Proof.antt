@@ -1,6 +1,6 @@
 use borrow.Author.Needs.{needs}
 use Rattle.emit.specs.Laws.{_⨟_}
-use Rattle.layout.specs.Config.{base, TEMP}
+use Rattle.layout.specs.Config.{TEMP}
 use Rattle.code.specs.Choices.{on-register, on-spill}
 use Rattle.code.specs.Sizes.{plain-move-to}
 use native.Mathlib.Omega.{arith}
@@ -20,6 +20,6 @@ emit-mov-spec =
     (λ c. search needs)
     (λ c. on-spill _ _ (c .before .before .before .before .before .if1 .left) (on-register _ _ (c .before .before .before .before .if2 .taken) (c .before .before .move-to-register .ensures)))
     (λ c κs. search needs)
-    (λ c κs. let s = plain-move-to base TEMP (c .before .before .before .before .before .before .before .before .args .x) in (omega arith, search needs))
+    (λ c κs. let s = plain-move-to (c .before .before .before .before .before .before .before .before .args .g) TEMP (c .before .before .before .before .before .before .before .before .args .x) in (omega arith, search needs, search needs))
     (λ c. search needs)
     (λ c. on-spill _ _ (c .before .before .before .before .before .before .before .before .before .if1 .left) (on-spill _ _ (c .before .before .before .before .before .before .before .before .if2 .left) (c .before .before .before .before .before .before .move-to-register2 .ensures ⨟ c .before .before .move-from-register2 .ensures))))

@@ -1,6 +1,5 @@
 use borrow.Author.Needs.{needs}
 use Rattle.emit.specs.Laws.{_⨟_}
-use Rattle.layout.specs.Config.{base}
 use Rattle.code.specs.Sizes.{plain-divide-kept}
 use native.Mathlib.Omega.{arith}
 use Rattle.code.proofs.emitters.emit_remainder.Statement.{statement}
@@ -11,6 +10,6 @@ emit-remainder-spec =
     tie.close
     (tie.spec
     (λ c κs. search needs)
-    (λ c κs. let s = plain-divide-kept base (c .before .before .before .before .before .before .args .w) (c .before .before .before .before .before .before .args .x) (c .before .before .before .before .before .before .args .y) in (omega arith, search needs))
+    (λ c κs. let s = plain-divide-kept (c .before .before .before .before .before .before .args .g) (c .before .before .before .before .before .before .args .w) (c .before .before .before .before .before .before .args .x) (c .before .before .before .before .before .before .args .y) in (omega arith, search needs, search needs))
     (λ c. search needs)
     (λ c. c .before .before .before .before .before .before .divide-kept .ensures ⨟ c .before .before .restore .ensures))

@@ -1,6 +1,6 @@
 use borrow.Author.Needs.{needs}
 use Rattle.emit.specs.Laws.{_⨟_}
-use Rattle.layout.specs.Config.{base, TEMP}
+use Rattle.layout.specs.Config.{TEMP}
 use Rattle.code.specs.Sizes.{plain-into-register}
 use native.Mathlib.Omega.{arith}
 use Rattle.code.proofs.parts.through_temp.Statement.{statement}
@@ -11,6 +11,6 @@ through-temp-spec =
     tie.close
     (tie.spec
     (λ c κs. search needs)
-    (λ c κs. let s = plain-into-register base (c .before .before .before .before .before .before .args .n) TEMP (c .before .before .before .before .before .before .args .x) (c .before .before .before .before .before .before .args .y) in (omega arith, search needs))
+    (λ c κs. let s = plain-into-register (c .before .before .before .before .before .before .args .g) (c .before .before .before .before .before .before .args .n) TEMP (c .before .before .before .before .before .before .args .x) (c .before .before .before .before .before .before .args .y) in (omega arith, search needs, search needs))
     (λ c. search needs)
     (λ c. c .before .before .before .before .before .before .into-register .ensures ⨟ c .before .before .move-from-register .ensures))

@@ -10,4 +10,4 @@ extend-spec =
     (λ c. search needs)
     (λ c κs. search needs)
     (λ c. search needs)
-    (λ c. λ S H l. let s = c .before .before in extend-goes (s .args .registers .now) S H (s .args .pair) (record { registers = s .pre; stack = l }) (c .signs .ensures)))
+    (λ c. λ S H. let s = c .before .before in extend-goes (s .args .registers .now) S H (s .args .pair) (s .pre) (c .signs .ensures)))

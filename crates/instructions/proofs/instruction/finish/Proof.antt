@@ -11,5 +11,5 @@ finish-spec =
     (λ c. search needs)
     (λ c κs. search needs)
     (λ c. search needs)
-    (λ c. λ S H l. let s = c .before .before .before .before in return-goes (s .args .registers .now) S H (s .args .pair) (record { registers = s .pre; stack = l }) (c .before .before .if1 .taken) (c .sum .ensures))
-    (λ c. λ S H l. let s = c .before .before in return-stops (s .args .registers .now) S H (s .args .pair) (record { registers = s .pre; stack = l }) (c .if1 .left)))
+    (λ c. λ S H. let s = c .before .before .before .before in return-goes (s .args .registers .now) S H (s .args .pair) (s .pre) (c .before .before .if1 .taken) (c .sum .ensures))
+    (λ c. λ S H. let s = c .before .before in return-stops (s .args .registers .now) S H (s .args .pair) (s .pre) (c .if1 .left)))

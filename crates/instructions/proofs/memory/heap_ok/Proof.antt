@@ -1,3 +1,4 @@
+use borrow.Author.Needs.{needs}
 use borrow.Author.Tests.{eq-eqb, ne-eqb, le-leb, lt-leb}
 use Rattle.instructions.specs.Memory.{heapOk}
 use Rattle.instructions.proofs.memory.heap_ok.Statement.{statement}
@@ -8,6 +9,9 @@ unfolding heapOk
 heap-ok-spec =
     tie.close
     (tie.spec
-    (λ c. rw (ne-eqb _ _ (c .if1 .left)))
-    (λ c. rw (eq-eqb _ _ (c .before .if1 .taken), lt-leb _ _ (c .if2 .taken)))
-    (λ c. rw (eq-eqb _ _ (c .before .if1 .taken), le-leb _ _ (c .if2 .left))))
+    (λ c. rw (lt-leb _ _ (c .if1 .taken)))
+    (λ c. search needs)
+    (λ c. rw (le-leb _ _ (c .before .if1 .left), ne-eqb _ _ (c .if2 .left)))
+    (λ c. search needs)
+    (λ c. rw (le-leb _ _ (c .before .before .if1 .left), eq-eqb _ _ (c .before .if2 .taken), lt-leb _ _ (c .if3 .taken)))
+    (λ c. rw (le-leb _ _ (c .before .before .if1 .left), eq-eqb _ _ (c .before .if2 .taken), le-leb _ _ (c .if3 .left))))

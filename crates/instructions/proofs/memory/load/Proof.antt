@@ -1,5 +1,5 @@
 use borrow.Author.Needs.{needs}
-use Rattle.instructions.proofs.Seeing.{in-stack, in-heap, loads}
+use Rattle.instructions.proofs.Seeing.{in-stack, in-heap, loads, loads-stack}
 use native.Mathlib.Omega.{arith}
 use Rattle.instructions.proofs.memory.load.Statement.{statement}
 use Rattle.instructions.proofs.memory.load.Tie as tie
@@ -11,11 +11,13 @@ load-spec =
     (λ c κs. search needs)
     (λ c. search needs)
     (λ c. omega (arith, in-stack _ (c .before .k .given .1) (c .before .before .before .place-of .ensures .1)))
-    (λ c. search in-stack)
+    (λ c. omega (arith, in-stack _ (c .before .k .given .1) (c .before .before .before .place-of .ensures .1)))
     (λ c. search needs)
-    (λ c. omega (arith, in-heap (c .before .k2 .given .1) (c .before .before .before .place-of .ensures .1)))
+    (λ c. omega (arith, in-stack _ (c .before .before .k .given .1) (c .before .before .before .before .place-of .ensures .1)))
+    (λ c. search needs)
+    (λ c. omega (arith, in-heap _ (c .before .k2 .given .1) (c .before .before .before .place-of .ensures .1)))
     (λ c. search in-heap)
     (λ c. search needs)
-    (λ c. loads _ _ (c .before .before .before .before .place-of .ensures .0) (c .before .before .k .given .1))
+    (λ c. let h = in-stack _ (c .before .before .k .given .1) (c .before .before .before .before .place-of .ensures .1) in loads-stack (c .before .before .before .before .before .before .before .args .stack .now) _ (c .before .before .before .before .place-of .ensures .0) (c .before .before .k .given .1) h (omega (arith, h)))
     (λ c. loads _ _ (c .before .before .before .before .place-of .ensures .0) (c .before .before .k2 .given .1))
     (λ c. loads _ _ (c .before .before .place-of .ensures .0) (c .enum-told .given .1)))

@@ -13,4 +13,5 @@ place-of-spec =
     (λ c. search tests)
     (λ c. search tests)
     (λ c. search tests)
+    (λ c. search tests)
     (λ c. search tests))

@@ -1,4 +1,5 @@
 use borrow.Author.Needs.{needs}
+use mathlib.Core.Path.{refl}
 use lib.ListN.{length-set}
 use Rattle.instructions.proofs.Seeing.{in-stack, in-heap, stores-stack, stores-heap, stores-nowhere}
 use native.Mathlib.Omega.{arith}
@@ -12,12 +13,15 @@ store-spec =
     (λ c κs. search needs)
     (λ c. search needs)
     (λ c. omega (arith, in-stack _ (c .before .k .given .1) (c .before .before .before .place-of .ensures .1)))
-    (λ c. search in-stack)
+    (λ c. omega (arith, in-stack _ (c .before .k .given .1) (c .before .before .before .place-of .ensures .1)))
     (λ c. search needs)
-    (λ c. omega (arith, in-heap (c .before .k2 .given .1) (c .before .before .before .place-of .ensures .1)))
+    (λ c. omega (arith, in-stack _ (c .before .k .given .1) (c .before .before .before .place-of .ensures .1)))
+    (λ c. search needs)
+    (λ c. omega (arith, in-heap _ (c .before .k2 .given .1) (c .before .before .before .place-of .ensures .1)))
     (λ c. search in-heap)
     (λ c. search needs)
-    (λ c. let h = in-stack _ (c .before .k .given .1) (c .before .before .before .place-of .ensures .1) in let s = c .before .before .before .before .before in (simp length-set (s .pre), λ R. stores-stack R (s .args .stack .now) (s .args .heap .now) (s .args .address) (s .args .v) (c .before .before .before .place-of .ensures .0) (c .before .k .given .1) (omega (arith, s .pre))))
     (λ c. search needs)
-    (λ c. let s = c .before .before .before .before .before in (s .pre, λ R. stores-heap R (s .args .stack .now) (s .args .heap .now) (s .args .address) (s .args .v) (c .before .before .before .place-of .ensures .0) (c .before .k2 .given .1) (in-heap (c .before .k2 .given .1) (c .before .before .before .place-of .ensures .1))))
-    (λ c. let s = c .before .before .before .before in (s .pre, λ R. stores-nowhere R (s .args .stack .now) (s .args .heap .now) (s .args .address) (s .args .v) (c .before .before .place-of .ensures .0) (c .enum-told .given .1))))
+    (λ c. let h = in-stack _ (c .before .k .given .1) (c .before .before .before .place-of .ensures .1) in let s = c .before .before .before .before .before .before in (simp length-set, λ R. stores-stack R (s .args .stack .now) (s .args .heap .now) (s .args .address) (s .args .v) (c .before .before .before .place-of .ensures .0) (c .before .k .given .1) h (omega (arith, h))))
+    (λ c. search needs)
+    (λ c. let s = c .before .before .before .before .before .before in (refl, λ R. stores-heap R (s .args .stack .now) (s .args .heap .now) (s .args .address) (s .args .v) (c .before .before .before .place-of .ensures .0) (c .before .k2 .given .1) (in-heap _ (c .before .k2 .given .1) (c .before .before .before .place-of .ensures .1))))
+    (λ c. let s = c .before .before .before .before .before in (refl, λ R. stores-nowhere R (s .args .stack .now) (s .args .heap .now) (s .args .address) (s .args .v) (c .before .before .place-of .ensures .0) (c .enum-told .given .1))))

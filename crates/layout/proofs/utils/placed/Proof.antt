@@ -10,5 +10,5 @@ placed-spec =
     (λ c. search needs)
     (λ c. search needs)
     (λ c κs. search needs)
-    (λ c. rw (lt-ltb _ _ (c .before .if1 .taken)) (c .position .ensures .answer))
+    (λ c. rw (lt-ltb _ _ (c .before .if1 .taken)) (c .position-in .ensures .answer))
     (λ c. rw (le-ltb _ _ (c .if1 .left))))

@@ -1,6 +1,4 @@
 use borrow.Author.Needs.{needs}
-use Rattle.records.proofs.Answers.{answers-by}
-use Rattle.layout.proofs.Placing.{position-none, position-operand}
 use Rattle.layout.proofs.utils.position.Statement.{statement}
 use Rattle.layout.proofs.utils.position.Tie as tie
 
@@ -8,7 +6,6 @@ pub position-spec : {M : Type 1} → statement M
 position-spec =
     tie.close
     (tie.spec
-    (λ c. answers-by (position-none _ (c .if1 .taken)))
     (λ c κs. search needs)
     (λ c κs. search needs)
-    (λ c. answers-by (position-operand _ (c .before .before .before .if1 .left) (c .location-at .ensures .0))))
+    (λ c. rw (c .before .base .ensures .0) at (c .position-in .ensures)))

@@ -1,9 +1,8 @@
 use borrow.Author.Needs.{needs}
 use mathlib.Core.Path.{refl}
 use native.Mathlib.Omega.{arith}
-use Rattle.layout.specs.Config.{base}
 use Rattle.memory.specs.Objects.{extIn, loadObject}
-use Rattle.memory.specs.Sizes.{object-size}
+use Rattle.memory.specs.Sizes.{load-object-records}
 use Rattle.storing.proofs.AtOnce.{at-once}
 use Rattle.loading.proofs.Answering.{fits-few}
 use Rattle.loading.proofs.load.load_at_once.Statement.{statement}
@@ -13,6 +12,6 @@ pub load-at-once-spec : {M : Type 1} → statement M
 load-at-once-spec =
     tie.close
     (tie.spec
-    (λ c κs. let w = c .before .before .before .pre in (w .0, w .1, w .2, omega arith, omega (arith, w .3)))
+    (λ c κs. let w = c .before .before .before .pre in (w .0, w .1, w .2, omega arith, omega (arith, w .3), w .5))
     (λ c. search needs)
-    (λ c. let a = c .before .before .before .before .before .before .before .args in let w = c .before .before .before .before .before .before .before .pre in let z = object-size (extIn (a .loaded .now) (a .v)) (a .v) (a .n) (fits-few (a .v) (a .n) (w .2)) in at-once (loadObject base (extIn (a .loaded .now) (a .v)) (a .v) (a .n)) (a .counter) (c .before .before .before .load-object .ensures) refl refl (omega (arith, w .3, z .0)) (omega (arith, w .4, z .1))))
+    (λ c. let a = c .before .before .before .before .before .before .before .args in let w = c .before .before .before .before .before .before .before .pre in let z = load-object-records (a .g) (extIn (a .loaded .now) (a .v)) (w .5) (a .v) (a .n) in at-once (loadObject (a .g) (extIn (a .loaded .now) (a .v)) (a .v) (a .n)) (a .counter) (c .before .before .before .load-object .ensures) refl refl (omega (arith, w .3, z .0, fits-few (a .g) (w .5) (a .v) (a .n) (w .2), w .5 .frame)) (omega (arith, w .4, z .1))))

@@ -10,7 +10,8 @@ use Rattle.trees.specs.Tree.{Tree, leaf, seq, if-zero}
 use Rattle.emit.specs.declared.cursor.Cursor.{Cursor}
 use Rattle.emit.specs.Emitted.{fieldsList, Emitted, Emits}
 use Rattle.emit.specs.Laws.{chosen}
-use Rattle.layout.specs.Config.{base, MINUSONE}
+use Rattle.layout.specs.declared.config.Shape.{Shape}
+use Rattle.layout.specs.Config.{Supported, MINUSONE}
 use Rattle.memory.specs.Objects.{extIn, loadSome}
 use Rattle.memory.specs.Sizes.{some-size}
 use Rattle.loading.specs.Linked.{linkedIn}
@@ -18,12 +19,12 @@ use Rattle.loading.proofs.Labels.{released-labels, shared-labels}
 use Rattle.loading.proofs.load.load_counted.Statement.{statement}
 use Rattle.loading.proofs.load.load_counted.Tie as tie
 
-module _ (s : List ℕ) (v n r : ℕ) where
+module _ (g : Shape) (f : Supported g) (s : List ℕ) (v n r : ℕ) where
   abbrev released : Tree
-  released = loadSome base (extIn s v) false v n
+  released = loadSome g (extIn s v) false v n
 
   abbrev shared : Tree
-  shared = seq (leaf (ADDIM r 0 MINUSONE) refl) (loadSome base (extIn s v) true v n)
+  shared = seq (leaf (ADDIM r 0 MINUSONE) refl) (loadSome g (extIn s v) true v n)
 
   -- the last label's number is the counter after both branches
   by-count : {o o₁ o₂ o₃ o₄ o₅ : List ℕ} {p p₁ p₂ p₃ p₄ p₅ : Cursor} (k : ℕ)
@@ -35,8 +36,8 @@ module _ (s : List ℕ) (v n r : ℕ) where
       → Emitted o₄ p₄ o₅ p₅ (fieldsList (LAB (p .counter + k + 2) ∷ [])) 0
       → Emits o p o₅ (record { at = p₅ .at; counter = p .counter + k + 2 }) (if-zero (CMPIM r 0 0) refl released shared)
   by-count {p = p} k m a b d e z =
-      let f = released-labels (extIn s v) v n in
-      let g = shared-labels s v n in
+      let x = released-labels g (extIn s v) f v n in
+      let y = shared-labels g f s v n in
       chosen refl (p .counter + k + 2 - 1) (p .counter + k + 2) {t = released} {e = shared} a refl (omega (arith, a .drawn)) b d refl refl e
       (record { bytes = z .bytes; place = z .place; drawn = omega (arith, e .drawn) })
       (omega arith)
@@ -53,8 +54,8 @@ load-counted-spec =
     (λ c. search needs)
     (λ c κs. search needs)
     (λ c κs. search needs)
-    (λ c κs. let a = c .before .before .before .before .before .before .before .before .before .before .before .before .before .args in let w = c .before .before .before .before .before .before .before .before .before .before .before .before .before .pre in let h : a .n ≤ 133 = omega (arith, w .2) in let z = some-size (extIn (a .kinds .now) (a .v)) true (a .v) (a .n) h in omega (arith, w .3, c .before .before .before .before .before .before .before .emit2 .ensures .place, c .before .before .before .load-shared .ensures .place, z .1))
-    (λ c κs. let a = c .before .before .before .before .before .before .before .before .before .before .before .before .before .before .before .before .before .args in let w = c .before .before .before .before .before .before .before .before .before .before .before .before .before .before .before .before .before .pre in let h : a .n ≤ 133 = omega (arith, w .2) in let z = some-size (extIn (a .kinds .now) (a .v)) true (a .v) (a .n) h in (w .0, omega arith, omega (arith, w .1), w .2, omega (arith, w .3, c .before .before .before .before .before .before .before .before .before .before .before .emit2 .ensures .place, c .before .before .before .before .before .before .before .load-shared .ensures .place, c .before .before .before .emit22 .ensures .place, z .1), omega (arith, w .4)))
-    (λ c κs. let a = c .before .before .before .before .before .before .before .before .before .before .before .before .before .before .before .before .before .before .before .before .before .args in let w = c .before .before .before .before .before .before .before .before .before .before .before .before .before .before .before .before .before .before .before .before .before .pre in let h : a .n ≤ 133 = omega (arith, w .2) in let z = some-size (extIn (a .kinds .now) (a .v)) true (a .v) (a .n) h in let y = some-size (extIn (a .kinds .now) (a .v)) false (a .v) (a .n) h in omega (arith, w .3, c .before .before .before .before .before .before .before .before .before .before .before .before .before .before .before .emit2 .ensures .place, c .before .before .before .before .before .before .before .before .before .before .before .load-shared .ensures .place, c .before .before .before .before .before .before .before .emit22 .ensures .place, c .before .before .before .load-some .ensures .place, z .1, y .1))
+    (λ c κs. let a = c .before .before .before .before .before .before .before .before .before .before .before .before .before .args in let w = c .before .before .before .before .before .before .before .before .before .before .before .before .before .pre in let h : a .n ≤ 261 = omega (arith, w .2, w .5 .frame) in let z = some-size (a .g) (extIn (a .kinds .now) (a .v)) true (w .5) (a .v) (a .n) in omega (arith, w .3, c .before .before .before .before .before .before .before .emit2 .ensures .place, c .before .before .before .load-shared .ensures .place, z .1))
+    (λ c κs. let a = c .before .before .before .before .before .before .before .before .before .before .before .before .before .before .before .before .before .args in let w = c .before .before .before .before .before .before .before .before .before .before .before .before .before .before .before .before .before .pre in let h : a .n ≤ 261 = omega (arith, w .2, w .5 .frame) in let z = some-size (a .g) (extIn (a .kinds .now) (a .v)) true (w .5) (a .v) (a .n) in (w .0, omega arith, omega (arith, w .1), w .2, omega (arith, w .3, c .before .before .before .before .before .before .before .before .before .before .before .emit2 .ensures .place, c .before .before .before .before .before .before .before .load-shared .ensures .place, c .before .before .before .emit22 .ensures .place, z .1), omega (arith, w .4), w .5))
+    (λ c κs. let a = c .before .before .before .before .before .before .before .before .before .before .before .before .before .before .before .before .before .before .before .before .before .args in let w = c .before .before .before .before .before .before .before .before .before .before .before .before .before .before .before .before .before .before .before .before .before .pre in let h : a .n ≤ 261 = omega (arith, w .2, w .5 .frame) in let z = some-size (a .g) (extIn (a .kinds .now) (a .v)) true (w .5) (a .v) (a .n) in let y = some-size (a .g) (extIn (a .kinds .now) (a .v)) false (w .5) (a .v) (a .n) in omega (arith, w .3, c .before .before .before .before .before .before .before .before .before .before .before .before .before .before .before .emit2 .ensures .place, c .before .before .before .before .before .before .before .before .before .before .before .load-shared .ensures .place, c .before .before .before .before .before .before .before .emit22 .ensures .place, c .before .before .before .load-some .ensures .place, z .1, y .1))
     (λ c. omega (arith, c .before .before .before .before .before .before .before .before .before .before .before .before .before .before .before .before .before .before .emit2 .kept, c .before .before .before .before .before .before .before .before .before .before .before .before .before .before .load-shared .kept, c .before .before .before .before .before .before .before .before .before .before .emit22 .kept, c .before .before .before .before .before .before .load-some .kept, c .before .before .emit .kept))
-    (λ c. let a = c .before .before .before .before .before .before .before .before .before .before .before .before .before .before .before .before .before .before .before .before .before .before .before .before .args in let k = c .before .before .before .before .before .before .before .before .before .before .before .before .before .before .before .before .before .before .before .before .before .linked in by-count (a .kinds .now) (a .v) (a .n) (a .r) (k .result) (k .ensures .0) (c .before .before .before .before .before .before .before .before .before .before .before .before .before .before .before .before .before .before .emit2 .ensures) (c .before .before .before .before .before .before .before .before .before .before .before .before .before .before .load-shared .ensures) (c .before .before .before .before .before .before .before .before .before .before .emit22 .ensures) (c .before .before .before .before .before .before .load-some .ensures) (c .before .before .emit .ensures)))
+    (λ c. let a = c .before .before .before .before .before .before .before .before .before .before .before .before .before .before .before .before .before .before .before .before .before .before .before .before .args in let k = c .before .before .before .before .before .before .before .before .before .before .before .before .before .before .before .before .before .before .before .before .before .linked in by-count (a .g) (c .before .before .before .before .before .before .before .before .before .before .before .before .before .before .before .before .before .before .before .before .before .before .before .before .pre .5) (a .kinds .now) (a .v) (a .n) (a .r) (k .result) (k .ensures .0) (c .before .before .before .before .before .before .before .before .before .before .before .before .before .before .before .before .before .before .emit2 .ensures) (c .before .before .before .before .before .before .before .before .before .before .before .before .before .before .load-shared .ensures) (c .before .before .before .before .before .before .before .before .before .before .emit22 .ensures) (c .before .before .before .before .before .before .load-some .ensures) (c .before .before .emit .ensures)))

@@ -10,11 +10,11 @@ run-spec =
     tie.close
     (tie.spec
     (λ c κs. search needs)
-    (λ c. let s = c .before .before .before .before in ran-heap (wordsOf (s .args .words)) (s .args .records .now) (s .args .limit) (s .args .state .registers) (s .args .state .stack) (s .args .heap .now) (c .before .heap-ok .ensures) (c .if1 .left))
+    (λ c. let s = c .before .before .before .before in ran-heap (s .args .block) (wordsOf (s .args .words)) (s .args .records .now) (s .args .limit) (s .args .state .registers) (s .args .state .stack) (s .args .heap .now) (c .before .heap-ok .ensures) (c .if1 .left))
     (λ c κs. search needs)
     (λ c. search needs)
     (λ c. search needs)
     (λ c κs. (accepted 65536 _ (sym (c .before .before .before .before .check-codes .ensures .answer) ∙ c .before .before .n .given .1), sym (c .before .before .before .before .before .before .heap-ok .ensures) ∙ c .before .before .before .before .before .if1 .taken))
-    (λ c. let s = c .before .before .before .before .before .before .before .before in ran-malformed (wordsOf (s .args .words)) (s .args .records .now) (s .args .limit) (s .args .state .registers) (s .args .state .stack) (s .args .heap .now) (c .before .before .before .before .before .heap-ok .ensures) (c .before .before .before .before .if1 .taken) (c .before .before .before .check-codes .ensures .answer) (c .before .place .given .1))
+    (λ c. let s = c .before .before .before .before .before .before .before .before in ran-malformed (s .args .block) (wordsOf (s .args .words)) (s .args .records .now) (s .args .limit) (s .args .state .registers) (s .args .state .stack) (s .args .heap .now) (c .before .before .before .before .before .heap-ok .ensures) (c .before .before .before .before .if1 .taken) (c .before .before .before .check-codes .ensures .answer) (c .before .place .given .1))
     (λ c. search needs)
-    (λ c. let s = c .before .before .before .before .before .before .before .before .before .before .before .before in ran-ends (wordsOf (s .args .words)) (s .args .records .now) (s .args .limit) (s .args .state .registers) (s .args .state .stack) (s .args .heap .now) (c .before .before .before .before .before .before .before .before .before .heap-ok .ensures) (c .before .before .before .before .before .before .before .before .if1 .taken) (c .before .before .before .before .before .before .before .check-codes .ensures .answer) (c .before .before .before .before .before .n .given .1) (c .before .before .turns .ensures)))
+    (λ c. let s = c .before .before .before .before .before .before .before .before .before .before .before .before in ran-ends (s .args .block) (wordsOf (s .args .words)) (s .args .records .now) (s .args .limit) (s .args .state .registers) (s .args .state .stack) (s .args .heap .now) (c .before .before .before .before .before .before .before .before .before .heap-ok .ensures) (c .before .before .before .before .before .before .before .before .if1 .taken) (c .before .before .before .before .before .before .before .check-codes .ensures .answer) (c .before .before .before .before .before .n .given .1) (c .before .before .turns .ensures)))

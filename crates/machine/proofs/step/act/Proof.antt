@@ -12,12 +12,13 @@ act-spec =
     tie.close
     (tie.spec
     (λ c. search needs)
-    (λ c. let s = c .before .before in ok-code (s .args .f) (s .pre .1) .0)
+    (λ c. let s = c .before .before .before in ok-code (s .args .f) (s .pre .1) .0)
     (λ c. search needs)
-    (λ c. let s = c .before .before in let k = ok-code (s .args .f) (s .pre .1) in omega arith)
+    (λ c. let s = c .before .before .before in let k = ok-code (s .args .f) (s .pre .1) in omega arith)
     (λ c. search needs)
     (λ c. search needs)
     (λ c. search needs)
-    (λ c κs. let s = c .before .before .before .before .before .before in let r = ok-registers (s .args .f) (s .pre .1) in (r .0, r .1, s .pre .2))
+    (λ c κs. let s = c .before .before .before .before .before .before .before in let r = ok-registers (s .args .f) (s .pre .1) in (r .0, r .1, s .pre .2))
     (λ c. search needs)
-    (λ c. let s = c .before .before .before .before .before .before .before .before .before in acts (wordsOf (s .args .words .now)) (s .args .kinds .now) (s .args .f) (s .pre .0) (s .pre .1) (c .before .before .perform .ensures)))
+    (λ c. search needs)
+    (λ c. let s = c .before .before .before .before .before .before .before .before .before .before .before .before in acts (wordsOf (s .args .words .now)) (s .args .kinds .now) (s .args .f) (s .pre .0) (s .pre .1) (c .before .before .before .before .perform .ensures)))

@@ -12,8 +12,8 @@ acquire-block-spec =
     (tie.spec
     (λ c κs. search needs)
     (λ c. search needs)
-    (λ c κs. let d = c .before .before .before .before .take-block .ensures in let z = take-size (c .before .before .before .before .before .before .before .args .w) in (omega (arith, d .place), omega (arith, d .drawn)))
-    (λ c κs. let d = c .before .before .before .before .take-block .ensures in let z = take-size (c .before .before .before .before .before .before .before .args .w) in (omega (arith, d .place), omega (arith, d .drawn)))
+    (λ c κs. let d = c .before .before .before .before .take-block .ensures in let z = take-size (c .before .before .before .before .before .before .before .args .g) (c .before .before .before .before .before .before .before .args .w) in (omega (arith, d .place), omega (arith, d .drawn), search needs))
+    (λ c κs. let d = c .before .before .before .before .take-block .ensures in let z = take-size (c .before .before .before .before .before .before .before .args .g) (c .before .before .before .before .before .before .before .args .w) in (omega (arith, d .place), omega (arith, d .drawn), search needs))
     (λ c. search needs)
     (λ c. c .before .before .before .before .before .before .before .take-block .ensures ⨟ rw (lt-ltb _ 16 (c .before .before .before .before .if1 .taken)) (c .before .before .next-block .ensures))
     (λ c. search needs)

@@ -1,10 +1,4 @@
 use borrow.Author.Needs.{needs}
-use mathlib.Core.Path.{refl, sym, _∙_}
-use Rattle.emit.specs.Wrote.{refused}
-use Rattle.layout.specs.Config.{base}
-use Rattle.operations.specs.Operations.{recordsOf}
-use Rattle.operations.proofs.Answering.{not-written, wrote}
-use native.Mathlib.Omega.{arith}
 use Rattle.operations.proofs.operation.operate.Statement.{statement}
 use Rattle.operations.proofs.operation.operate.Tie as tie
 
@@ -13,12 +7,6 @@ operate-spec =
     tie.close
     (tie.spec
     (λ c κs. search needs)
-    (λ c. rw (← (c .before .operands-ok .ensures), c .if1 .left) (refused refl refl refl))
-    (λ c. search needs)
-    (λ c κs. (omega arith, sym (c .before .before .operands-ok .ensures) ∙ c .before .if1 .taken))
     (λ c κs. search needs)
-    (λ c κs. search needs)
-    (λ c. rw (← (c .before .before .before .before .before .before .before .operands-ok .ensures), c .before .before .before .before .before .before .if1 .taken) (not-written (recordsOf base (c .before .before .before .before .before .before .before .before .before .args .operation)) (c .before .before .before .before .emit-operation .ensures) refl refl (c .before .before .before .before .before .before .before .before .before .args .out .now) (c .before .before .grant .ensures) (c .before .is-written .ensures) (c .if2 .left)))
-    (λ c κs. (omega arith, sym (c .before .before .before .before .before .before .before .before .operands-ok .ensures) ∙ c .before .before .before .before .before .before .before .if1 .taken))
     (λ c. search needs)
-    (λ c. rw (← (c .before .before .before .before .before .before .before .before .before .before .before .operands-ok .ensures), c .before .before .before .before .before .before .before .before .before .before .if1 .taken) (wrote (recordsOf base (c .before .before .before .before .before .before .before .before .before .before .before .before .before .args .operation)) (c .before .before .before .before .before .before .before .before .emit-operation .ensures) refl refl (c .before .before .before .before .before .before .before .before .before .before .before .before .before .args .out .now) (c .before .before .before .before .before .before .grant .ensures) (c .before .before .before .before .before .is-written .ensures) (c .before .before .before .before .if2 .taken) (c .before .before .emit-operation2 .ensures) refl)))
+    (λ c. rw (c .before .before .before .base .ensures .0) at (c .before .before .operate-in .ensures)))

@@ -1,4 +1,5 @@
 use borrow.Author.Needs.{needs}
+use Rattle.layout.specs.Config.{base}
 use Rattle.playing.proofs.Played.{starts}
 use Rattle.playing.proofs.channel.fresh.Statement.{statement}
 use Rattle.playing.proofs.channel.fresh.Tie as tie
@@ -8,4 +9,4 @@ fresh-spec =
     tie.close
     (tie.spec
     (λ c κs. search needs)
-    (λ c. starts _ (c .fresh .ensures)))
+    (λ c. starts base _ (c .fresh .ensures)))

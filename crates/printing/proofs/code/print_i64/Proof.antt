@@ -1,7 +1,4 @@
 use borrow.Author.Needs.{needs}
-use mathlib.Core.Path.{refl, sym, _∙_}
-use Rattle.emit.specs.Wrote.{refused}
-use Rattle.records.proofs.BindingsRead.{context-within}
 use Rattle.printing.proofs.code.print_i64.Statement.{statement}
 use Rattle.printing.proofs.code.print_i64.Tie as tie
 
@@ -10,9 +7,6 @@ print-i64-spec =
     tie.close
     (tie.spec
     (λ c κs. search needs)
+    (λ c κs. search needs)
     (λ c. search needs)
-    (λ c κs. let w = context-within (c .before .before .before .before .before .before .before .args .context .now) _ (sym (c .before .before .before .before .check-context .ensures .answer) ∙ c .before .before .n .given .1) in (w .1, w .0))
-    (λ c. search needs)
-    (λ c. search needs)
-    (λ c. rw (sym (c .before .before .before .before .before .before .before .check-context .ensures .answer) ∙ c .before .before .before .before .before .n .given .1) (c .before .before .print-checked .ensures))
-    (λ c. rw (sym (c .before .before .check-context .ensures .answer) ∙ c .enum-told .given .1) (refused refl refl refl)))
+    (λ c. rw (c .before .before .before .base .ensures .0) at (c .before .before .print-i64-in .ensures)))

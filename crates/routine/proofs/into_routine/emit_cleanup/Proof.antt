@@ -7,6 +7,7 @@ pub emit-cleanup-spec : {M : Type 1} → statement M
 emit-cleanup-spec =
     tie.close
     (tie.spec
+    (λ c. search needs)
     (λ c κs. search needs)
     (λ c κs. search needs)
     (λ c κs. search needs)

@@ -1,3 +1,4 @@
+use native.Mathlib.Omega.{arith}
 use borrow.Author.Needs.{needs}
 use Rattle.showing.proofs.Rows.{line-of}
 use Rattle.showing.proofs.variables.put_variable.Statement.{statement}
@@ -7,12 +8,12 @@ pub put-variable-spec : {M : Type 1} → statement M
 put-variable-spec =
     tie.close
     (tie.spec
-    (λ c. search needs)
+    (λ c. let w = c .before .before .before .pre in omega (arith, w .1, w .5 .frame))
+    (λ c κs. let w = c .before .before .before .pre in (w .2 .registers, omega (arith, w .1, w .2 .stack), w .3, omega (arith, w .1, w .5 .frame)))
+    (λ c. let w = c .before .before .before .before .pre in omega (arith, w .1, w .5 .frame))
+    (λ c. let w = c .before .before .before .before .pre in omega (arith, w .1, w .5 .frame))
+    (λ c κs. let w = c .before .before .before .before .pre in (w .2 .registers, omega (arith, w .1, w .2 .stack), w .3, omega (arith, w .1, w .5 .frame)))
+    (λ c κs. search needs)
     (λ c κs. search needs)
     (λ c. search needs)
-    (λ c. search needs)
-    (λ c κs. search needs)
-    (λ c κs. search needs)
-    (λ c κs. search needs)
-    (λ c. search needs)
-    (λ c. line-of _ _ _ _ (c .before .before .before .before .before .before .word-at .ensures) (c .before .before .before .before .before .word-at2 .ensures) (c .before .before .before .before .is-ext .ensures) (c .before .before .put-cell .ensures)))
+    (λ c. line-of _ _ _ _ _ (c .before .before .before .before .before .before .word-at .ensures) (c .before .before .before .before .before .word-at2 .ensures) (c .before .before .before .before .is-ext .ensures) (c .before .before .put-cell .ensures)))

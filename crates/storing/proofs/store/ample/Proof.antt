@@ -1,3 +1,4 @@
+use borrow.Author.Needs.{needs}
 use borrow.Author.Tests.{lt-ltb, le-ltb}
 use Rattle.storing.proofs.store.ample.Statement.{statement}
 use Rattle.storing.proofs.store.ample.Tie as tie
@@ -7,4 +8,6 @@ ample-spec =
     tie.close
     (tie.spec
     (λ c. rw (le-ltb _ 2147480000 (c .if1 .left)))
-    (λ c. rw (lt-ltb _ 2147480000 (c .if1 .taken))))
+    (λ c κs. search needs)
+    (λ c. search needs)
+    (λ c. rw (lt-ltb _ 2147480000 (c .before .if1 .taken), c .object-records .ensures .0)))

@@ -1,19 +1,12 @@
 use borrow.Author.Needs.{needs}
-use mathlib.Core.Path.{refl, sym, _∙_}
-use Rattle.emit.specs.Wrote.{refused}
-use Rattle.memory.specs.Answered.{storeAnswer}
 use Rattle.storing.proofs.store.store.Statement.{statement}
 use Rattle.storing.proofs.store.store.Tie as tie
 
 pub store-spec : {M : Type 1} → statement M
-unfolding storeAnswer
 store-spec =
     tie.close
     (tie.spec
     (λ c κs. search needs)
+    (λ c κs. search needs)
     (λ c. search needs)
-    (λ c κs. sym (c .before .before .before .before .check-context .ensures .answer) ∙ c .before .before .k .given .1)
-    (λ c. search needs)
-    (λ c. search needs)
-    (λ c. c .before .before .store-last .ensures)
-    (λ c. rw (sym (c .before .before .check-context .ensures .answer) ∙ c .enum-told .given .1) (refused refl refl refl)))
+    (λ c. rw (c .before .before .before .base .ensures .0) at (c .before .before .store-in .ensures)))

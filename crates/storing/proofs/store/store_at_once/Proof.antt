@@ -1,9 +1,8 @@
 use borrow.Author.Needs.{needs}
 use mathlib.Core.Path.{refl}
 use native.Mathlib.Omega.{arith}
-use Rattle.layout.specs.Config.{base}
 use Rattle.memory.specs.Objects.{extIn, storeObject}
-use Rattle.memory.specs.Sizes.{store-object-size}
+use Rattle.memory.specs.Sizes.{store-object-records}
 use Rattle.storing.proofs.AtOnce.{at-once}
 use Rattle.storing.proofs.store.store_at_once.Statement.{statement}
 use Rattle.storing.proofs.store.store_at_once.Tie as tie
@@ -12,6 +11,6 @@ pub store-at-once-spec : {M : Type 1} → statement M
 store-at-once-spec =
     tie.close
     (tie.spec
-    (λ c κs. let w = c .before .before .before .pre in (w .0, w .1, w .2, omega arith, omega (arith, w .3)))
+    (λ c κs. let w = c .before .before .before .pre in (w .0, w .1, w .2, omega arith, omega (arith, w .3), w .5))
     (λ c. search needs)
-    (λ c. let a = c .before .before .before .before .before .before .before .args in let w = c .before .before .before .before .before .before .before .pre in let z = store-object-size (extIn (a .kinds .now) 0) (a .v) (a .n) (omega (arith, w .2)) in at-once (storeObject base (extIn (a .kinds .now) 0) (a .v) (a .n)) (a .counter) (c .before .before .before .store-object .ensures) refl refl (omega (arith, w .3, z .0)) (omega (arith, w .4, z .1))))
+    (λ c. let a = c .before .before .before .before .before .before .before .args in let w = c .before .before .before .before .before .before .before .pre in let z = store-object-records (a .g) (extIn (a .kinds .now) 0) (w .5) (a .v) (a .n) in at-once (storeObject (a .g) (extIn (a .kinds .now) 0) (a .v) (a .n)) (a .counter) (c .before .before .before .store-object .ensures) refl refl (omega (arith, w .2, w .3, w .5 .frame, z .0)) (omega (arith, w .4, z .1))))

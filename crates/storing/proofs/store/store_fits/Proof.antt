@@ -1,4 +1,6 @@
 use borrow.Author.Needs.{needs}
+use native.Mathlib.Omega.{arith}
+use Rattle.layout.specs.Config.{positions}
 use borrow.Author.Tests.{eq-eqb, ne-eqb}
 use Rattle.storing.proofs.Answering.{last-fits}
 use Rattle.storing.proofs.store.store_fits.Statement.{statement}
@@ -9,5 +11,8 @@ store-fits-spec =
     tie.close
     (tie.spec
     (λ c. search needs)
+    (λ c. search needs)
     (λ c. rw (eq-eqb _ 0 (c .if1 .taken)))
-    (λ c. rw (ne-eqb _ 0 (c .if1 .left)) (last-fits (c .before .args .k))))
+    (λ c. search needs)
+    (λ c. search needs)
+    (λ c. let a = c .before .before .args in rw (ne-eqb _ 0 (c .if1 .left)) (last-fits (a .k) (positions (a .g)) (omega arith))))

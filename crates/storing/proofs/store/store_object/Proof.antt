@@ -11,7 +11,7 @@ store-object-spec =
     (λ c. search needs)
     (λ c κs. search needs)
     (λ c κs. search needs)
-    (λ c κs. let w = c .before .before .before .before .pre in (w .0, omega arith, omega arith, omega arith, omega arith, omega arith))
+    (λ c κs. let w = c .before .before .before .before .pre in (w .0, omega arith, omega arith, omega arith, omega arith, omega arith, w .5))
     (λ c. search needs)
     (λ c. rw (eq-eqb _ 0 (c .before .before .before .before .before .if1 .taken), ← (c .before .before .before .before .location-at .ensures .0)) (c .before .before .emit-load-immediate .ensures))
     (λ c. search needs)
