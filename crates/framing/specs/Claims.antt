@@ -16,7 +16,7 @@ use Rattle.layout.specs.Config.{Supported, STACK, HEAP, FREE, stackDepth, frame
 use Rattle.word.specs.Words.{sum}
 use Rattle.instructions.specs.declared.instruction.Compared.the-variants.{Absent}
 use Rattle.instructions.specs.View.{View}
-use Rattle.instructions.specs.Memory.{heapOk}
+use Rattle.instructions.specs.Memory.{stackEnd, stackEntry, heapOk}
 use Rattle.instructions.specs.Step.{Config, config}
 use Rattle.machine.specs.declared.run.Answer.the-variants.{Ended, Limit}
 use Rattle.machine.specs.Run.{done, codesOf, ran}
@@ -53,7 +53,7 @@ pub record SetUp (G : Shape) (n : ℕ) (v : View) (d : Config) : Type 0 where
 -- what the cleanup leaves of the configuration b, to a caller with such registers
 pub record Returned (registers : ℕ → ℕ) (b d : Config) : Type 0 where
   -- 8 more than at entry
-  pub stack : d .state .reg STACK ≡ 1099511627776
+  pub stack : d .state .reg STACK ≡ stackEnd
   pub rbx : d .state .reg 2 ≡ registers 2
   pub rbp : d .state .reg 3 ≡ registers 3
   pub r12 : d .state .reg 12 ≡ registers 12
@@ -99,4 +99,4 @@ pub record Frames (G : Shape) (words : ℕ → ℕ) (n k : ℕ) (body : List ℕ
 unfoldable pub RoutineReturns : Type 0
 RoutineReturns =
     (G : Shape) → Supported G → (words : ℕ → ℕ) (room n k : ℕ) (body : List ℕ) (v : View) → Bytes body → accepted (routineAnswer G room n body) ≡ true
-    → checkedCodes 65506 body ≡ Good k → v .reg STACK ≡ 1099511627768 → v .depth ≡ stackDepth G → heapOk (blockWords G) (v .size) ≡ true → Frames G words n k body v
+    → checkedCodes 65506 body ≡ Good k → v .reg STACK ≡ stackEntry → v .depth ≡ stackDepth G → heapOk (blockWords G) (v .size) ≡ true → Frames G words n k body v

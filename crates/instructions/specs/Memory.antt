@@ -11,9 +11,12 @@ use Rattle.instructions.specs.declared.memory.Loaded.the-variants.{Word,
 use Rattle.instructions.specs.View.{View, putReg, putStk, putMem}
 use Rattle.word.specs.Words.{sum}
 
--- the address past the stack, 2^40
+-- the address past the stack, 2^40, and that of its last word, at which STACK enters
 abbrev pub stackEnd : ℕ
 stackEnd = 1099511627776
+
+abbrev pub stackEntry : ℕ
+stackEntry = 1099511627768
 
 abbrev pub heapStart : ℕ
 heapStart = 65536
@@ -27,7 +30,7 @@ unfoldable pub placeOf : ℕ → ℕ → ℕ → Place
 placeOf depth size address =
     cond (eqb (address % 8) 0)
     (cond (leb stackEnd address) Nowhere
-    (cond (ltb ((1099511627768 - address) / 8) depth) (Stack ((1099511627768 - address) / 8))
+    (cond (ltb ((stackEntry - address) / 8) depth) (Stack ((stackEntry - address) / 8))
     (cond (leb heapStart address && ltb ((address - heapStart) / 8) size) (Heap ((address - heapStart) / 8)) Nowhere)))
     Nowhere
 

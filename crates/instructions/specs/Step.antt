@@ -15,7 +15,7 @@ use Rattle.instructions.specs.declared.instruction.Went.{Went}
 use Rattle.instructions.specs.declared.instruction.Went.the-variants.{Next, Called, Jump, End, Fault}
 use Rattle.instructions.specs.View.{View, upd, putReg}
 use Rattle.word.specs.Words.{sum, difference, product, signs, quotient, remainder, divides, less}
-use Rattle.instructions.specs.Memory.{Operand, register, memory, immediate, load, store, valueOf, assigned}
+use Rattle.instructions.specs.Memory.{stackEntry, Operand, register, memory, immediate, load, store, valueOf, assigned}
 
 -- a call that was made: the name's number, and what register 7 held
 pub record Call : Type 0 where
@@ -116,7 +116,7 @@ call words label c =
 
 -- only at 2^40 − 8
 abbrev pub return : Config → Outcome
-return c = cond (eqb (c .state .reg 0) 1099511627768) (end (changed c (putReg (c .state) 0 (sum (c .state .reg 0) 8)))) (fault c)
+return c = cond (eqb (c .state .reg 0) stackEntry) (end (changed c (putReg (c .state) 0 (sum (c .state .reg 0) 8)))) (fault c)
 
 -- the instruction, where print calls leave the nine words
 unfoldable pub step : (ℕ → ℕ) → Code → Config → Outcome

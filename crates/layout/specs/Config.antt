@@ -13,19 +13,23 @@ use Rattle.layout.specs.declared.config.Shaped.the-variants.{Of, Edition
 abbrev pub base : Shape
 base = record { fields = 3; spills = 256 }
 
+-- no frame has more spills
+abbrev pub mostSpills : ℕ
+mostSpills = 512
+
 -- the shapes that every claim is for: an object's blocks but the last hold a value and the link, no address wraps, spill 0 is there to set register 4 aside,
 -- and a frame is a whole number of 16 bytes
 pub record Supported (g : Shape) : Type 0 where
   pub some : 2 ≤ g .fields
   pub few : g .fields ≤ 7
-  pub frame : g .spills ≤ 512
+  pub frame : g .spills ≤ mostSpills
   pub even : g .spills % 2 ≡ 0
   pub aside : 1 ≤ g .spills
 
 -- an edition's fields: 3 in the first, 7 in the second; a frame of 256 or 512 spills
 unfoldable pub framed : ℕ → ℕ → Shaped
 framed fields spills
-    = cond (eqb spills 256) (Of (record { fields = fields; spills = spills })) (cond (eqb spills 512) (Of (record { fields = fields; spills = spills })) Frame)
+    = cond (eqb spills 256) (Of (record { fields = fields; spills = spills })) (cond (eqb spills mostSpills) (Of (record { fields = fields; spills = spills })) Frame)
 
 unfoldable pub shapeOf : ℕ → ℕ → Shaped
 shapeOf edition spills = cond (eqb edition 1) (framed 3 spills) (cond (eqb edition 2) (framed 7 spills) Edition)
@@ -72,7 +76,7 @@ SPILLTEMP = spill 0
 unfoldable pub stackOffset : Shape → ℕ → ℕ
 stackOffset g w = 8 * g .spills - 8 * (w - 16 + 1)
 
--- how many words the machine's stack has: the frame, the six saved words, and what prints push
+-- how many words the machine's stack has: the frame, seven words above it (the one that STACK enters at, and six saved registers), and below it room for what prints push
 abbrev pub stackDepth : Shape → ℕ
 stackDepth g = g .spills + 64
 

@@ -10,7 +10,7 @@ use Rattle.records.specs.Causes.{ACCEPTED, CONTEXT, MISSING, POSITION}
 use Rattle.layout.specs.declared.config.Shape.{Shape}
 use Rattle.layout.specs.declared.utils.Temporary.{Temporary}
 use Rattle.layout.specs.declared.utils.Temporary.the-variants.{Operand, Malformed, Missing, OutOfTemporaries}
-use Rattle.layout.specs.Config.{operands, positions}
+use Rattle.layout.specs.Config.{base, mostSpills, operands, positions}
 
 -- the operand of position p
 unfoldable pub location : ℕ → ℕ
@@ -18,7 +18,7 @@ location p = cond (ltb p 12) (p + 4) (p + 5)
 
 -- the positions of the largest frame
 abbrev pub entries : ℕ
-entries = 523
+entries = positions (record { fields = base .fields; spills = mostSpills })
 
 -- a table that gives each of them its operand
 abbrev pub Table : List ℕ → Type 0

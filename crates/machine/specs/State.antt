@@ -6,7 +6,7 @@ use lib.ListN.{replicate}
 use Rattle.layout.specs.declared.config.Shape.{Shape}
 use Rattle.layout.specs.Config.{stackDepth, framePointer, blockBytes}
 use Rattle.instructions.specs.View.{View, view}
-use Rattle.instructions.specs.Memory.{heapStart}
+use Rattle.instructions.specs.Memory.{stackEntry, heapStart}
 use Rattle.machine.specs.declared.state.State.{State}
 
 -- a state beside a heap, as functions
@@ -15,7 +15,7 @@ see s heap = view (s .registers) (s .stack) heap
 
 -- with a stack as deep as the frame asks
 abbrev pub entryState : Shape → State
-entryState g = record { registers = 1099511627768 ∷ 0 ∷ 0 ∷ 0 ∷ 0 ∷ 0 ∷ 0 ∷ heapStart ∷ 0 ∷ 0 ∷ 0 ∷ 0 ∷ 0 ∷ 0 ∷ 0 ∷ 0 ∷ []; stack = replicate (stackDepth g) 0 }
+entryState g = record { registers = stackEntry ∷ 0 ∷ 0 ∷ 0 ∷ 0 ∷ 0 ∷ 0 ∷ heapStart ∷ 0 ∷ 0 ∷ 0 ∷ 0 ∷ 0 ∷ 0 ∷ 0 ∷ 0 ∷ []; stack = replicate (stackDepth g) 0 }
 
 -- what the records before the body of a routine with no argument leave: STACK below seven words and the frame, HEAP at block 0, FREE at block 1
 abbrev pub freshRegisters : Shape → List ℕ
