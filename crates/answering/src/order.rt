@@ -5,7 +5,7 @@ ghost use Prim.Native.Nat.{_+_, _*_, _<_, _≤_, _^_};
 ghost use lib.ListN.{length};
 ghost use Rattle.records.specs.declared.check.Checked.the-variants.{Good};
 ghost use Rattle.records.specs.Contexts.{checkedContext};
-ghost use Rattle.layout.specs.Config.{Supported, base, positions};
+ghost use Rattle.layout.specs.Config.{Supported, positions, shapeOf};
 ghost use Rattle.orders.specs.Answered.{accepted};
 ghost use Rattle.orders.specs.Writes.{wanted, contextAfter, present, asked};
 ghost use Rattle.answering.specs.Answers.{asking, AnswersOrder};
@@ -13,6 +13,7 @@ ghost use Rattle.answering.specs.Decided.{fitting, written, fits, judged
 use emit::cursor::Cursor;
 use judging::after;
 use judging::checks;
+use layout::config::Framed;
 use layout::config::Shape;
 use ordering::emitters;
 use orders::answer::Answer;
@@ -48,6 +49,7 @@ pub fn is_accepted(answer: Answer) -> bool
         Answer::Accepted(_, _, _) => true,
         Answer::Context => false,
         Answer::Malformed(_) => false,
+        Answer::Frame => false,
         Answer::Missing => false,
         Answer::Kind => false,
         Answer::Count => false,
@@ -141,39 +143,17 @@ fn judge(
     )
 }
 
-// An order's bytes with the context, the label counter and the bindings that follow it.
+// An order's bytes with the frame, the context, the label counter and the bindings that follow it.
 pub fn order(
     records_out: &mut [u8],
     context_out: &mut [u8],
+    frame: u64,
     context: &[u8],
     counter: u64,
     order: &[u8],
     bindings: &[u8],
 ) -> Answer
-    ensures { λ r. ⌜ AnswersOrder base (now (context .entry)) (asking (now (order .entry)) (now (bindings .entry)) counter (now («records_out» .entry)) (now («context_out» .entry))) r (now («records_out» .entry)) (now («records_out» .exit)) (now («context_out» .entry)) (now («context_out» .exit)) ⌝ }
-{
-    order_in(
-        records_out,
-        context_out,
-        layout::config::base(),
-        context,
-        counter,
-        order,
-        bindings,
-    )
-}
-
-fn order_in(
-    records_out: &mut [u8],
-    context_out: &mut [u8],
-    g: Shape,
-    context: &[u8],
-    counter: u64,
-    order: &[u8],
-    bindings: &[u8],
-) -> Answer
-    requires { ⌜ Supported g ⌝ }
-    ensures { λ r. ⌜ AnswersOrder g (now (context .entry)) (asking (now (order .entry)) (now (bindings .entry)) counter (now («records_out» .entry)) (now («context_out» .entry))) r (now («records_out» .entry)) (now («records_out» .exit)) (now («context_out» .entry)) (now («context_out» .exit)) ⌝ }
+    ensures { λ r. ⌜ AnswersOrder (shapeOf frame) (now (context .entry)) (asking (now (order .entry)) (now (bindings .entry)) counter (now («records_out» .entry)) (now («context_out» .entry))) r (now («records_out» .entry)) (now («records_out» .exit)) (now («context_out» .entry)) (now («context_out» .exit)) ⌝ }
 {
     let Checked::Good(k) = records::binding::check_context(context) else {
         return Answer::Context;
@@ -191,6 +171,9 @@ fn order_in(
     if order.len() == 24 {} else {
         return Answer::Malformed(2);
     }
+    let Framed::Of(g) = layout::config::shape_of(frame) else {
+        return Answer::Frame;
+    };
     judge(
         records_out,
         context_out,

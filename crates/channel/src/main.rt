@@ -1,10 +1,10 @@
 // Plays lists of order records, from standard input or from the files named, each on a fresh channel, and prints what came of each order, what was printed,
-// and the variables and blocks at the end, unless a run did not end. A first argument `listing` asks for the instructions too.
+// and the variables and blocks at the end, unless a run did not end. An argument `listing` asks for the instructions too, and `frame N` for a frame of so many
+// spills, of the files after it; a frame has 256 where none is asked.
 ghost use Prim.Native.Nat.{_<_, _≤_};
 use libc::STDERR_FILENO;
 use libc::STDIN_FILENO;
 use libc::STDOUT_FILENO;
-use machine::state::State;
 use orders::answer::Answer;
 use playing::channel::Channel;
 
@@ -21,8 +21,8 @@ struct Going {
     channel: Channel,
 }
 
-fn start() -> Going {
-    let channel = playing::channel::fresh();
+fn start(frame: u64) -> Going {
+    let channel = playing::channel::fresh(frame);
     Going {
         at: 0,
         number: 1,
@@ -70,9 +70,9 @@ fn is_ended(ran: machine::run::Answer) -> bool {
     }
 }
 
-fn tell(number: u64, order: &[u8], before: u64, answer: Answer) {
+fn tell(frame: u64, number: u64, order: &[u8], before: u64, answer: Answer) {
     let mut line = [0u8; 256];
-    let size = reporting::answers::put_order(&mut line, 0, number, order, before, answer);
+    let size = reporting::answers::put_order(&mut line, 0, frame, number, order, before, answer);
     show(&line, size);
 }
 
@@ -93,10 +93,33 @@ fn list_first(records: &[u8], count: usize, text: &mut [u8], listed: bool) {
     }
 }
 
+// How many of the stack's words are the frame's: its spills and 64.
+fn stack_words(frame: u64) -> usize {
+    word::sum(frame, 64) as usize
+}
+
 // What an accepted order prints goes after what was printed before.
-fn print(prints: &mut [u8], printed: usize, order: &[u8], state: State) -> usize {
+fn print(
+    prints: &mut [u8],
+    printed: usize,
+    frame: u64,
+    order: &[u8],
+    registers: &[u64; 16],
+    stack: &[u64],
+) -> usize {
+    let words = stack_words(frame);
+    if stack.len() < words {
+        return printed;
+    }
     if printed < 262144 {
-        return showing::prints::put_print(prints, printed, order, state);
+        return showing::prints::put_print(
+            prints,
+            printed,
+            frame,
+            order,
+            registers,
+            &stack[..words],
+        );
     }
     printed
 }
@@ -113,10 +136,11 @@ fn accepted(
     ran: machine::run::Answer,
 ) -> usize {
     let channel = g.channel;
-    let state = channel.state;
+    let registers = channel.registers;
+    let stack = channel.stack;
     list_first(records, count, text, listed);
     tell_stop(g.number, order, ran);
-    print(prints, g.printed, order, state)
+    print(prints, g.printed, channel.frame, order, &registers, &stack)
 }
 
 // One order with its bindings; the next starts at `next`.
@@ -144,7 +168,7 @@ fn item(
     let answer = played.answer;
     let ran = played.ran;
     let channel = played.channel;
-    tell(g.number, order, g.counter, answer);
+    tell(channel.frame, g.number, order, g.counter, answer);
     let Answer::Accepted(count, counter, _) = answer else {
         return Going {
             at: next,
@@ -207,8 +231,9 @@ fn play(
     text: &mut [u8],
     prints: &mut [u8],
     listed: bool,
+    frame: u64,
 ) -> Going {
-    let mut g = start();
+    let mut g = start(frame);
     let mut left = input.len() / 24 + 1;
     while 0 < left {
         g = turn(input, heap, records, text, prints, listed, g);
@@ -230,9 +255,27 @@ fn show_prints(prints: &[u8], printed: usize) {
     }
 }
 
-fn show_context(context: &[u8], used: usize, state: State, text: &mut [u8]) {
+fn show_context(
+    context: &[u8],
+    used: usize,
+    frame: u64,
+    registers: &[u64; 16],
+    stack: &[u64],
+    text: &mut [u8],
+) {
+    let words = stack_words(frame);
+    if stack.len() < words {
+        return;
+    }
     if used <= context.len() {
-        let size = showing::variables::put_variables(text, 0, &context[..used], state);
+        let size = showing::variables::put_variables(
+            text,
+            0,
+            frame,
+            &context[..used],
+            registers,
+            &stack[..words],
+        );
         show(text, size);
     }
 }
@@ -240,13 +283,20 @@ fn show_context(context: &[u8], used: usize, state: State, text: &mut [u8]) {
 fn show_variables(channel: Channel, text: &mut [u8]) {
     io::write_all(STDOUT_FILENO, b"variables\n");
     let context = channel.context;
-    let state = channel.state;
-    show_context(&context, channel.used, state, text);
+    let registers = channel.registers;
+    let stack = channel.stack;
+    show_context(
+        &context,
+        channel.used,
+        channel.frame,
+        &registers,
+        &stack,
+        text,
+    );
 }
 
 fn show_blocks(channel: Channel, heap: &[u64]) {
-    let state = channel.state;
-    let registers = state.registers;
+    let registers = channel.registers;
     let blocks = chains::count_blocks(&registers, heap);
     let mut line = [0u8; 256];
     let size = reporting::put_blocks(
@@ -260,13 +310,21 @@ fn show_blocks(channel: Channel, heap: &[u64]) {
     show(&line, size);
 }
 
-// A list played on a channel of its own: 8,192 blocks, the records of the largest order, a store of 133 linked variables, and more than the 10,922 orders
+// A list played on a channel of its own: 8,192 blocks, the records of the largest order, a store of 261 linked variables, and more than the 10,922 orders
 // of the longest list can print.
-fn channel(input: &[u8], text: &mut [u8], listed: bool) {
+fn channel(input: &[u8], text: &mut [u8], listed: bool, frame: u64) {
     let mut heap = [0u64; 65536];
-    let mut records = [0u8; 102624];
+    let mut records = [0u8; 202464];
     let mut prints = [0u8; 262144];
-    let g = play(input, &mut heap, &mut records, text, &mut prints, listed);
+    let g = play(
+        input,
+        &mut heap,
+        &mut records,
+        text,
+        &mut prints,
+        listed,
+        frame,
+    );
     let last = g.channel;
     show_prints(&prints, g.printed);
     if g.stopped {
@@ -277,7 +335,7 @@ fn channel(input: &[u8], text: &mut [u8], listed: bool) {
 }
 
 // What can be read of a file, played.
-fn channel_from(file: i32, listed: bool) {
+fn channel_from(file: i32, listed: bool, frame: u64) {
     let mut input = [0u8; 262145];
     let mut text = [0u8; listing::LONGEST];
     let n = io::read_full(file, &mut input);
@@ -288,10 +346,10 @@ fn channel_from(file: i32, listed: bool) {
         );
         return;
     }
-    channel(&input[..n], &mut text, listed);
+    channel(&input[..n], &mut text, listed, frame);
 }
 
-fn channel_of(name: &[u8], listed: bool) {
+fn channel_of(name: &[u8], listed: bool, frame: u64) {
     let file = os::open_read(name);
     if file < 0 {
         os::fail(name);
@@ -299,38 +357,98 @@ fn channel_of(name: &[u8], listed: bool) {
     }
     io::write_all(STDOUT_FILENO, name);
     io::write_all(STDOUT_FILENO, b"\n");
-    channel_from(file, listed);
+    channel_from(file, listed, frame);
     libc::close(file);
 }
 
-// Whether the first argument asks for the instructions.
-fn asks_listing() -> bool {
+// What the arguments asked so far: instructions, a frame, 0 where there is none of that number, whether its number comes next, and whether a file was named.
+struct Asked {
+    listed: bool,
+    frame: u64,
+    number: bool,
+    named: bool,
+}
+
+// The frame that a word names by its number of spills.
+fn frame_of(word: &[u8]) -> u64 {
+    if check::same(word, b"256") {
+        return 256;
+    }
+    if check::same(word, b"512") {
+        return 512;
+    }
+    io::write_all(STDERR_FILENO, b"a frame has 256 or 512 spills\n");
+    0
+}
+
+fn read_word(word: &[u8], a: Asked) -> Asked {
+    if a.number {
+        return Asked {
+            listed: a.listed,
+            frame: frame_of(word),
+            number: false,
+            named: a.named,
+        };
+    }
+    if check::same(word, b"frame") {
+        return Asked {
+            listed: a.listed,
+            frame: 0,
+            number: true,
+            named: a.named,
+        };
+    }
+    if check::same(word, b"listing") {
+        return Asked {
+            listed: true,
+            frame: a.frame,
+            number: false,
+            named: a.named,
+        };
+    }
+    if a.frame != 0 {
+        channel_of(word, a.listed, a.frame);
+    }
+    Asked {
+        listed: a.listed,
+        frame: a.frame,
+        number: false,
+        named: true,
+    }
+}
+
+fn read_argument(i: usize, a: Asked) -> Asked {
     let mut word = io::buffer();
-    let n = os::arg(1, &mut word);
-    check::same(&word[..n], b"listing")
+    let n = os::arg(i, &mut word);
+    read_word(&word[..n], a)
 }
 
-fn play_argument(i: usize, listed: bool) {
-    let mut name = io::buffer();
-    let n = os::arg(i, &mut name);
-    channel_of(&name[..n], listed);
-}
-
-fn play_files(first: usize, count: usize, listed: bool) {
-    let mut i = first;
+// The files are played as they are named.
+fn read_arguments(count: usize) -> Asked {
+    let mut a = Asked {
+        listed: false,
+        frame: 256,
+        number: false,
+        named: false,
+    };
+    let mut i = 1;
     while i < count {
-        play_argument(i, listed);
+        a = read_argument(i, a);
         i += 1;
     }
+    a
 }
 
 fn main() {
-    let count = os::arg_count();
-    let listed = asks_listing();
-    let first = if listed { 2 } else { 1 };
-    if count <= first {
-        channel_from(STDIN_FILENO, listed);
+    let a = read_arguments(os::arg_count());
+    if a.number {
+        frame_of(b"");
         return;
     }
-    play_files(first, count, listed);
+    if a.named {
+        return;
+    }
+    if a.frame != 0 {
+        channel_from(STDIN_FILENO, a.listed, a.frame);
+    }
 }

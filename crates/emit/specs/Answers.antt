@@ -1,5 +1,5 @@
--- What an operation answers and leaves in its output, where nothing but the labels or the room can refuse it.
--- From document 01, 'Causes and numbers': 9 before 10, a refusal writes nothing, output bytes past the records stay.
+-- What an operation answers and leaves in its output, where nothing but the labels or the room can refuse it, and where there is no such frame.
+-- From document 01, 'Causes and numbers': 1 before 3, 9 before 10, a refusal writes nothing, output bytes past the records stay.
 use Prim.Native.Nat.{ℕ, _+_, _/_}
 use mathlib.Core.Bool.{Bool, true, false, cond}
 use mathlib.Core.Path.{_≡_}
@@ -7,6 +7,8 @@ use mathlib.Core.List.{List, [], _∷_}
 use lib.Dec.{ltb}
 use lib.Seq.{sets}
 use Rattle.records.specs.Causes.{ACCEPTED, CONTEXT, MALFORMED, OPERAND, MISSING, ARGUMENTS, COUNT, POSITION, LABELS, ROOM}
+use Rattle.records.specs.declared.check.Checked.{Checked}
+use Rattle.records.specs.declared.check.Checked.the-variants.{Good, Malformed}
 use Rattle.records.specs.declared.code.Code.{Code}
 use Rattle.records.specs.ReadBack.{joined, codeBytes}
 use Rattle.emit.specs.declared.answer.Answer.{Answer}
@@ -24,6 +26,11 @@ causeOf Count = COUNT ∷ []
 causeOf Position = POSITION ∷ []
 causeOf Labels = LABELS ∷ []
 causeOf (Room bytes) = ROOM ∷ bytes ∷ []
+
+-- 1 comes before 3, which another number of spills than a frame has is: by the context that is read
+abbrev pub unframed : Checked → Answer
+unframed (Good n) = Operand
+unframed (Malformed place) = Context
 
 -- the answer for records of so many bytes that draw n labels
 unfoldable pub granted : ℕ → ℕ → ℕ → ℕ → Answer

@@ -1,8 +1,11 @@
 // What an operation answers.
 ghost use mathlib.Core.Path.{_≡_};
+ghost use mathlib.Core.Bool.{false};
 ghost use Prim.Native.Nat.{_+_, _<_, _^_};
-ghost use Rattle.emit.specs.Answers.{granted, accepted};
+ghost use Rattle.records.specs.Contexts.{checkedContext};
+ghost use Rattle.emit.specs.Answers.{unframed, granted, accepted};
 use crate::cursor::Cursor;
+use records::check::Checked;
 
 // Written, with the number of records and the counter after them; or refused, by document 01's causes.
 pub enum Answer {
@@ -11,7 +14,7 @@ pub enum Answer {
     Context,
     // 2: a record of the body, with its place
     Body(usize),
-    // 3: an operand or a label
+    // 3: an operand, a label or a frame
     Operand,
     // 4: an id or a place that is not there
     Missing,
@@ -25,6 +28,16 @@ pub enum Answer {
     Labels,
     // 10: the output is too short, with the bytes needed
     Room(usize),
+}
+
+// The answer where there is no such frame, by the context that an operation reads.
+pub fn unframed(context: &[u8]) -> Answer
+    ensures { λ r. ⌜ (r ≡ unframed (checkedContext (now (context .entry)))) × (accepted r ≡ false) ⌝ }
+{
+    match records::binding::check_context(context) {
+        Checked::Good(_) => Answer::Operand,
+        Checked::Malformed(_) => Answer::Context,
+    }
 }
 
 // The answer where nothing but labels or room can refuse: need is the cursor past the records, from a cursor at 0 and counter 0.

@@ -37,8 +37,8 @@ fn heap_sound(heap: &[u64], memory: &mut [u64], head: u64, free: u64) -> bool {
 }
 
 // The context has as many variables as there are values, and STACK is where the routine's setup leaves it.
-fn frame_sound(context: &[u8], registers: &[u64; 16], length: u64) -> bool {
-    if registers[0] == shape::STACK {} else {
+fn frame_sound(context: &[u8], registers: &[u64; 16], stack: &[u64], length: u64) -> bool {
+    if registers[0] == shape::stack_pointer(stack.len() as u64) {} else {
         return false;
     }
     (context.len() as u64) == arithmetic::product(8, length)
@@ -56,11 +56,11 @@ fn words_sound(heap: &[u64], memory: &mut [u64], head: u64, free: u64) -> bool {
 pub fn sound(
     context: &[u8],
     registers: &[u64; 16],
-    stack: &[u64; shape::DEPTH],
+    stack: &[u64],
     heap: &[u64],
     memory: &mut [u64],
 ) -> bool {
-    if frame_sound(context, registers, plain::length(memory)) {} else {
+    if frame_sound(context, registers, stack, plain::length(memory)) {} else {
         return false;
     }
     words::note(memory, context, registers, stack);

@@ -8,24 +8,24 @@ pub const NODES: u64 = 0;
 
 pub const CELLS: u64 = 32768;
 
-pub const VALUES: u64 = 65536;
+pub const VALUES: u64 = 98304;
 
-pub const VARIABLES: u64 = 65792;
+pub const VARIABLES: u64 = 98816;
 
-pub const MARKS: u64 = 66560;
+pub const MARKS: u64 = 100352;
 
-pub const WORK: u64 = 72560;
+pub const WORK: u64 = 106352;
 
 // Four words by themselves.
-pub const MADE: u64 = 84560;
+pub const MADE: u64 = 118352;
 
-pub const USED: u64 = 84561;
+pub const USED: u64 = 118353;
 
-pub const LENGTH: u64 = 84562;
+pub const LENGTH: u64 = 118354;
 
-pub const PEAK: u64 = 84563;
+pub const PEAK: u64 = 118355;
 
-pub const MEMORY: usize = 84564;
+pub const MEMORY: usize = 118356;
 
 pub fn at(words: &[u64], i: u64) -> u64 {
     let n = i as usize;

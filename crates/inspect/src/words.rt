@@ -2,7 +2,6 @@
 use crate::arithmetic;
 use crate::plain;
 use crate::shape;
-use crate::shape::DEPTH;
 use crate::table;
 
 // How many blocks there are.
@@ -51,11 +50,14 @@ pub fn snd_in(heap: &[u64], block: u64, field: u64) -> u64 {
 }
 
 // Positions 0 to 11 are registers 4 to 15; 12 and on are spills 1 and on, which end seven words before the stack's end.
-fn at_position(registers: &[u64; 16], stack: &[u64; DEPTH], position: u64) -> u64 {
+fn at_position(registers: &[u64; 16], stack: &[u64], position: u64) -> u64 {
     if position < 12 {
         return table::at(registers, position + 4);
     }
-    table::at(stack, arithmetic::difference((DEPTH as u64) + 3, position))
+    table::at(
+        stack,
+        arithmetic::difference(arithmetic::sum(stack.len() as u64, 3), position),
+    )
 }
 
 // Among VARIABLES a variable has three words: its Fst, its Snd and its kind.
@@ -63,7 +65,7 @@ fn place(i: u64, j: u64) -> u64 {
     table::place_in(table::VARIABLES, table::MARKS, 3, i, j)
 }
 
-fn note_words(memory: &mut [u64], registers: &[u64; 16], stack: &[u64; DEPTH], i: u64) {
+fn note_words(memory: &mut [u64], registers: &[u64; 16], stack: &[u64], i: u64) {
     let position = arithmetic::product(2, i);
     table::set(memory, place(i, 0), at_position(registers, stack, position));
     table::set(
@@ -79,7 +81,7 @@ fn note_kind(memory: &mut [u64], context: &[u8], i: u64) {
 }
 
 // A state's variables.
-pub fn note(memory: &mut [u64], context: &[u8], registers: &[u64; 16], stack: &[u64; DEPTH]) {
+pub fn note(memory: &mut [u64], context: &[u8], registers: &[u64; 16], stack: &[u64]) {
     let n = plain::length(memory);
     let mut i = 0;
     while i < n {

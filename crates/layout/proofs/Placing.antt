@@ -1,26 +1,26 @@
 -- The table of positions is the rule, by one computed test; and the answers of the queries.
 use Prim.Native.Nat.{ℕ, suc, _+_, _*_, _-_, _≤_, _<_}
-use mathlib.Core.Path.{_≡_, refl, sym, _∙_}
+use mathlib.Core.Path.{_≡_, refl, sym, ap, _∙_}
 use mathlib.Core.Bool.{Bool, true, false, _&&_, _||_, cond}
 use mathlib.Core.List.{List, [], _∷_}
 use native.Mathlib.Numerals.{add-one}
 use native.Mathlib.Omega.{arith}
 use lib.Dec.{leb, ltb, eqb, eqb→eq}
 use lib.ListN.{getD, drop}
-use borrow.Author.Tests.{eq-eqb, ne-eqb, lt-ltb, le-ltb, lt-leb, le-leb, leb-true, ltb-true}
+use borrow.Author.Tests.{eq-eqb, eqb-true, ne-eqb, lt-ltb, le-ltb, lt-leb, le-leb, leb-true, ltb-true}
 use Rattle.records.proofs.Conditions.{and-left, and-right}
 use Rattle.records.proofs.Table.{at}
 use Rattle.records.specs.declared.check.Checked.the-variants.{Good, Malformed}
 use Rattle.records.specs.Contexts.{bindingIn, checkedContext}
 use Rattle.layout.specs.declared.config.Offset.the-variants as offset
 use Rattle.layout.specs.declared.config.Shape.{Shape}
-use Rattle.layout.specs.declared.config.Shaped.{Shaped}
-use Rattle.layout.specs.declared.config.Shaped.the-variants.{Of, Edition, Frame}
+use Rattle.layout.specs.declared.config.Framed.{Framed}
+use Rattle.layout.specs.declared.config.Framed.the-variants.{Of, Unknown}
 use Rattle.layout.specs.declared.utils.TemporaryNumber.{TemporaryNumber}
 use Rattle.layout.specs.declared.utils.Temporary.{Temporary}
 use Rattle.layout.specs.declared.utils.Temporary.the-variants.{Operand, Missing, OutOfTemporaries}
 use Rattle.layout.specs.declared.utils.Temporary.the-variants as temporary
-use Rattle.layout.specs.Config.{Supported, base, framed, shapeOf, operands, positions, stackOffset}
+use Rattle.layout.specs.Config.{Supported, base, larger, shapeOf, inShape, inFrame, shapeOn, operands, positions, stackOffset, stackDepth}
 use Rattle.layout.specs.Positions.{location, Table, operandOk, positionAnswer}
 use Rattle.layout.specs.Queries.{numberOf, idPlace, freshTemporary, variableTemporary, spillOffset, wordOffset, fieldOffset}
 
@@ -130,61 +130,75 @@ module _ (g : Shape) (number : TemporaryNumber) (i : ℕ) where
 pub base-supported : Supported base
 base-supported = record { some = omega arith; few = omega arith; frame = omega arith; even = refl; aside = omega arith }
 
-module _ (fields spills : ℕ) where
-  pub small-frame : spills ≡ 256 → Of (record { fields = fields; spills = spills }) ≡ framed fields spills
-  unfolding framed
-  small-frame h = rw (eq-eqb spills 256 h)
+pub larger-supported : Supported larger
+larger-supported = record { some = omega arith; few = omega arith; frame = omega arith; even = refl; aside = omega arith }
 
-  pub large-frame : (spills ≡ 256 → ⊥) → spills ≡ 512 → Of (record { fields = fields; spills = spills }) ≡ framed fields spills
-  unfolding framed
-  large-frame n h = rw (ne-eqb spills 256 n, eq-eqb spills 512 h)
-
-  pub no-frame : (spills ≡ 256 → ⊥) → (spills ≡ 512 → ⊥) → Frame ≡ framed fields spills
-  unfolding framed
-  no-frame n h = rw (ne-eqb spills 256 n, ne-eqb spills 512 h)
-
-module _ (edition spills : ℕ) where
-  pub first-edition : {r : Shaped} → edition ≡ 1 → r ≡ framed 3 spills → r ≡ shapeOf edition spills
+module _ (frame : ℕ) where
+  pub small-frame : {g : Shape} → frame ≡ base .spills → g ≡ base → Of g ≡ shapeOf frame
   unfolding shapeOf
-  first-edition h e = rw (eq-eqb edition 1 h) e
+  small-frame h e = rw (e, eq-eqb frame 256 h)
 
-  pub second-edition : {r : Shaped} → (edition ≡ 1 → ⊥) → edition ≡ 2 → r ≡ framed 7 spills → r ≡ shapeOf edition spills
+  pub large-frame : {g : Shape} → (frame ≡ base .spills → ⊥) → frame ≡ larger .spills → g ≡ larger → Of g ≡ shapeOf frame
   unfolding shapeOf
-  second-edition n h e = rw (ne-eqb edition 1 n, eq-eqb edition 2 h) e
+  large-frame n h e = rw (e, ne-eqb frame 256 n, eq-eqb frame 512 h)
 
-  pub no-edition : (edition ≡ 1 → ⊥) → (edition ≡ 2 → ⊥) → Edition ≡ shapeOf edition spills
+  pub no-frame : (frame ≡ base .spills → ⊥) → (frame ≡ larger .spills → ⊥) → Unknown ≡ shapeOf frame
   unfolding shapeOf
-  no-edition n h = rw (ne-eqb edition 1 n, ne-eqb edition 2 h)
+  no-frame n h = rw (ne-eqb frame 256 n, ne-eqb frame 512 h)
 
--- the shapes that an edition and a spill number name are among those that the claims are for
-abbrev OnlySupported : Shaped → Type 0
+-- the frames are among the shapes that the claims are for
+abbrev OnlySupported : Framed → Type 0
 OnlySupported (Of g) = Supported g
-OnlySupported Edition = Unit {0}
-OnlySupported Frame = Unit {0}
+OnlySupported Unknown = Unit {0}
 
-framed-supported : (fields spills : ℕ) → 2 ≤ fields → fields ≤ 7 → OnlySupported (framed fields spills)
-unfolding framed
-framed-supported fields spills l h = small (eqb spills 256) refl
-  where
-    large : (b : Bool) → eqb spills 512 ≡ b → OnlySupported (cond b (Of (record { fields = fields; spills = spills })) Frame)
-    large true e = let s = eqb→eq spills 512 (rw e tt) in record { some = l; few = h; frame = omega (arith, s); even = rw s refl; aside = omega (arith, s) }
-    large false e = tt
-
-    small : (b : Bool) → eqb spills 256 ≡ b → OnlySupported (cond b (Of (record { fields = fields; spills = spills })) (cond (eqb spills 512) (Of (record { fields = fields; spills = spills })) Frame))
-    small true e = let s = eqb→eq spills 256 (rw e tt) in record { some = l; few = h; frame = omega (arith, s); even = rw s refl; aside = omega (arith, s) }
-    small false e = large (eqb spills 512) refl
-
-shape-of-supported : (edition spills : ℕ) → OnlySupported (shapeOf edition spills)
+only-supported : (frame : ℕ) → OnlySupported (shapeOf frame)
 unfolding shapeOf
-shape-of-supported edition spills = first (eqb edition 1)
+only-supported frame = small (eqb frame (base .spills))
   where
-    second : (b : Bool) → OnlySupported (cond b (framed 7 spills) Edition)
-    second true = framed-supported 7 spills (omega arith) (omega arith)
-    second false = tt
+    large : (b : Bool) → OnlySupported (cond b (Of larger) Unknown)
+    large true = larger-supported
+    large false = tt
 
-    first : (b : Bool) → OnlySupported (cond b (framed 3 spills) (cond (eqb edition 2) (framed 7 spills) Edition))
-    first true = framed-supported 3 spills (omega arith) (omega arith)
-    first false = second (eqb edition 2)
+    small : (b : Bool) → OnlySupported (cond b (Of base) (cond (eqb frame (larger .spills)) (Of larger) Unknown))
+    small true = base-supported
+    small false = large (eqb frame (larger .spills))
 
-pub named-supported : (edition spills : ℕ) {g : Shape} → shapeOf edition spills ≡ Of g → Supported g
-named-supported edition spills e = rw e at (shape-of-supported edition spills)
+pub framed-supported : (frame : ℕ) {g : Shape} → shapeOf frame ≡ Of g → Supported g
+framed-supported frame e = rw e at (only-supported frame)
+
+-- what is answered in a frame, by what `shape_of` gave
+module _ {A : Type 0} (frame : ℕ) {r : Framed} (e : r ≡ shapeOf frame) (known : Shape → A) (other : A) where
+  pub in-frame : {g : Shape} → r ≡ Of g → known g ≡ inFrame frame known other
+  in-frame h = rw (← e, h)
+
+  pub no-such-frame : r ≡ Unknown → other ≡ inFrame frame known other
+  no-such-frame h = rw (← e, h)
+
+module _ (frame words : ℕ) where
+  pub on-its-stack : {g : Shape} → shapeOf frame ≡ Of g → words ≡ stackDepth g → Of g ≡ shapeOn frame words
+  unfolding shapeOn
+  on-its-stack {g} e h = rw (e, eq-eqb words (stackDepth g) h)
+
+  pub on-another-stack : {g : Shape} → shapeOf frame ≡ Of g → (words ≡ stackDepth g → ⊥) → Unknown ≡ shapeOn frame words
+  unfolding shapeOn
+  on-another-stack {g} e h = rw (e, ne-eqb words (stackDepth g) h)
+
+  pub on-no-frame : shapeOf frame ≡ Unknown → Unknown ≡ shapeOn frame words
+  unfolding shapeOn
+  on-no-frame e = rw e
+
+  -- a stack that goes with a frame has its words
+  pub on-stack : {g : Shape} → shapeOn frame words ≡ Of g → (shapeOf frame ≡ Of g) × (words ≡ stackDepth g)
+  unfolding shapeOn
+  on-stack {g} = by (shapeOf frame)
+    where
+      same : {h : Shape} → Of h ≡ Of g → h ≡ g
+      same e = cc
+
+      fits : (h : Shape) (b : Bool) → eqb words (stackDepth h) ≡ b → cond b (Of h) Unknown ≡ Of g → (Of h ≡ Of g) × (words ≡ stackDepth g)
+      fits h true p e = (e, eqb-true words (stackDepth h) p ∙ ap (λ (x : Shape). stackDepth x) (same e))
+      fits h false p e = let z : _≡_ {A = ℕ} 0 1 = cc in absurd (omega arith)
+
+      by : (f : Framed) → inShape f (λ h. cond (eqb words (stackDepth h)) (Of h) Unknown) Unknown ≡ Of g → (f ≡ Of g) × (words ≡ stackDepth g)
+      by (Of h) e = fits h (eqb words (stackDepth h)) refl e
+      by Unknown e = let z : _≡_ {A = ℕ} 0 1 = cc in absurd (omega arith)

@@ -6,8 +6,8 @@ use mathlib.Core.Path.{_≡_}
 use mathlib.Core.Bool.{cond}
 use lib.Dec.{eqb}
 use Rattle.layout.specs.declared.config.Shape.{Shape}
-use Rattle.layout.specs.declared.config.Shaped.{Shaped}
-use Rattle.layout.specs.declared.config.Shaped.the-variants.{Of, Edition, Frame}
+use Rattle.layout.specs.declared.config.Framed.{Framed}
+use Rattle.layout.specs.declared.config.Framed.the-variants.{Of, Unknown}
 
 -- the first edition's blocks, and the smaller frame
 abbrev pub base : Shape
@@ -16,6 +16,10 @@ base = record { fields = 3; spills = 256 }
 -- no frame has more spills
 abbrev pub mostSpills : ℕ
 mostSpills = 512
+
+-- the same blocks, and the larger frame
+abbrev pub larger : Shape
+larger = record { fields = base .fields; spills = mostSpills }
 
 -- the shapes that every claim is for: an object's blocks but the last hold a value and the link, no address wraps, spill 0 is there to set register 4 aside,
 -- and a frame is a whole number of 16 bytes
@@ -26,13 +30,17 @@ pub record Supported (g : Shape) : Type 0 where
   pub even : g .spills % 2 ≡ 0
   pub aside : 1 ≤ g .spills
 
--- an edition's fields: 3 in the first, 7 in the second; a frame of 256 or 512 spills
-unfoldable pub framed : ℕ → ℕ → Shaped
-framed fields spills
-    = cond (eqb spills 256) (Of (record { fields = fields; spills = spills })) (cond (eqb spills mostSpills) (Of (record { fields = fields; spills = spills })) Frame)
+-- a frame by its number of spills, 256 or 512; there is none of another number
+unfoldable pub shapeOf : ℕ → Framed
+shapeOf frame = cond (eqb frame (base .spills)) (Of base) (cond (eqb frame (larger .spills)) (Of larger) Unknown)
 
-unfoldable pub shapeOf : ℕ → ℕ → Shaped
-shapeOf edition spills = cond (eqb edition 1) (framed 3 spills) (cond (eqb edition 2) (framed 7 spills) Edition)
+-- what is answered in the shape that a frame has, and what where there is no such frame
+abbrev pub inShape : {A : Type 0} → Framed → (Shape → A) → A → A
+inShape (Of g) known other = known g
+inShape Unknown known other = other
+
+abbrev pub inFrame : {A : Type 0} → ℕ → (Shape → A) → A → A
+inFrame frame known other = inShape (shapeOf frame) known other
 
 abbrev pub STACK : ℕ
 STACK = 0
@@ -79,6 +87,10 @@ stackOffset g w = 8 * g .spills - 8 * (w - 16 + 1)
 -- how many words the machine's stack has: the frame, seven words above it (the one that STACK enters at, and six saved registers), and below it room for what prints push
 abbrev pub stackDepth : Shape → ℕ
 stackDepth g = g .spills + 64
+
+-- a frame where a stack of so many words goes with it
+unfoldable pub shapeOn : ℕ → ℕ → Framed
+shapeOn frame words = inFrame frame (λ g. cond (eqb words (stackDepth g)) (Of g) Unknown) Unknown
 
 -- where STACK is once six registers and the frame are on the stack, which begins at 2 ^ 40 − 8
 abbrev pub framePointer : Shape → ℕ

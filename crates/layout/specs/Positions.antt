@@ -6,11 +6,11 @@ use mathlib.Core.Bool.{Bool, _&&_, _||_, cond}
 use mathlib.Core.List.{List, [], _∷_}
 use lib.Dec.{leb, ltb}
 use lib.ListN.{getD}
-use Rattle.records.specs.Causes.{ACCEPTED, CONTEXT, MISSING, POSITION}
+use Rattle.records.specs.Causes.{ACCEPTED, CONTEXT, OPERAND, MISSING, POSITION}
 use Rattle.layout.specs.declared.config.Shape.{Shape}
 use Rattle.layout.specs.declared.utils.Temporary.{Temporary}
-use Rattle.layout.specs.declared.utils.Temporary.the-variants.{Operand, Malformed, Missing, OutOfTemporaries}
-use Rattle.layout.specs.Config.{base, mostSpills, operands, positions}
+use Rattle.layout.specs.declared.utils.Temporary.the-variants.{Operand, Malformed, Frame, Missing, OutOfTemporaries}
+use Rattle.layout.specs.Config.{larger, operands, positions}
 
 -- the operand of position p
 unfoldable pub location : ℕ → ℕ
@@ -18,7 +18,7 @@ location p = cond (ltb p 12) (p + 4) (p + 5)
 
 -- the positions of the largest frame
 abbrev pub entries : ℕ
-entries = positions (record { fields = base .fields; spills = mostSpills })
+entries = positions larger
 
 -- a table that gives each of them its operand
 abbrev pub Table : List ℕ → Type 0
@@ -36,5 +36,6 @@ positionAnswer g p = cond (ltb p (positions g)) (Operand (location p)) OutOfTemp
 abbrev pub temporaryCause : Temporary → List ℕ
 temporaryCause (Operand w) = ACCEPTED ∷ w ∷ []
 temporaryCause Malformed = CONTEXT ∷ []
+temporaryCause Frame = OPERAND ∷ []
 temporaryCause Missing = MISSING ∷ []
 temporaryCause OutOfTemporaries = POSITION ∷ []

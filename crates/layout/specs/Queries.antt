@@ -40,6 +40,10 @@ unfoldable pub variableTemporary : Shape → TemporaryNumber → List ℕ → �
 variableTemporary g number s id =
     onContext (checkedContext s) (λ n. cond (ltb (idPlace s id 0 n) n) (positionAnswer g (2 * idPlace s id 0 n + numberOf number)) Missing)
 
+-- 1 comes before 3, which another number of spills than a frame has is
+abbrev pub unframed : List ℕ → Temporary
+unframed s = onContext (checkedContext s) (λ n. temporary.Frame)
+
 -- where the spill that an operand names stands from STACK: spills from 1, as callers name them
 unfoldable pub spillOffset : Shape → ℕ → Offset
 spillOffset g w = cond (ltb 16 w && ltb w (operands g)) (At (stackOffset g w)) Operand

@@ -2,7 +2,8 @@
 ghost use mathlib.Core.Path.{_≡_};
 ghost use Prim.Native.Nat.{_≤_};
 ghost use Rattle.records.specs.Answers.{AnswersBy};
-ghost use Rattle.layout.specs.Config.{Supported, base, blockWords, framed, shapeOf};
+ghost use Rattle.layout.specs.Config.{Supported, base, larger, blockWords, shapeOf, shapeOn, inFrame};
+ghost use Rattle.layout.specs.declared.config.Offset.the-variants.{Operand};
 ghost use Rattle.layout.specs.Queries.{spillOffset, fieldOffset, offsetCause};
 use crate::offset;
 use crate::utils::TemporaryNumber;
@@ -31,35 +32,48 @@ pub fn block_words(g: Shape) -> u64
     2 + 2 * g.fields
 }
 
-// The shape that an edition and a spill number name, or which of them names none.
-pub enum Shaped {
+// The same blocks in the frame of 512 spills.
+pub fn larger() -> Shape
+    ensures { λ r. ⌜ (r ≡ larger) × Supported r ⌝ }
+{
+    let g = base();
+    Shape {
+        fields: g.fields,
+        spills: 512,
+    }
+}
+
+// The shape of a frame by its number of spills; there is none of another number.
+pub enum Framed {
     Of(Shape),
-    Edition,
-    Frame,
+    Unknown,
 }
 
-pub fn shape_of(edition: u64, spills: u64) -> Shaped
-    ensures { λ r. ⌜ r ≡ shapeOf edition spills ⌝ }
+pub fn shape_of(frame: u64) -> Framed
+    ensures { λ r. ⌜ r ≡ shapeOf frame ⌝ }
 {
-    if edition == 1 {
-        return framed(3, spills);
+    if frame == 256 {
+        return Framed::Of(base());
     }
-    if edition == 2 {
-        return framed(7, spills);
+    if frame == 512 {
+        return Framed::Of(larger());
     }
-    Shaped::Edition
+    Framed::Unknown
 }
 
-fn framed(fields: u64, spills: u64) -> Shaped
-    ensures { λ r. ⌜ r ≡ framed fields spills ⌝ }
+// The same where a stack of so many words goes with the frame.
+pub fn shape_on(frame: u64, words: usize) -> Framed
+    ensures { λ r. ⌜ r ≡ shapeOn frame words ⌝ }
 {
-    if spills == 256 {
-        return Shaped::Of(Shape { fields, spills });
+    match shape_of(frame) {
+        Framed::Of(g) => {
+            if (words as u64) == g.spills + 64 {
+                return Framed::Of(g);
+            }
+            Framed::Unknown
+        }
+        Framed::Unknown => Framed::Unknown,
     }
-    if spills == 512 {
-        return Shaped::Of(Shape { fields, spills });
-    }
-    Shaped::Frame
 }
 
 pub const STACK: u8 = 0;
@@ -77,17 +91,20 @@ pub const RETURN2: u8 = 5;
 // The spill that holds register 4 while a load borrows it.
 pub const SPILL_TEMP: u64 = 16;
 
-// Where a word stands, or document 01's 3: no caller's spill, or no field of a block.
+// Where a word stands, or document 01's 3: no caller's spill, no frame of so many, or no field of a block.
 pub enum Offset {
     At(u64),
     Operand,
 }
 
-// The offset from STACK of the spill, from 1, that an operand names.
-pub fn stack_offset(w: u64) -> Offset
-    ensures { λ r. ⌜ AnswersBy offsetCause r (spillOffset base w) ⌝ }
+// The offset from STACK of the spill, from 1, that an operand names in a frame.
+pub fn stack_offset(frame: u64, w: u64) -> Offset
+    ensures { λ r. ⌜ AnswersBy offsetCause r (inFrame frame (λ g. spillOffset g w) Operand) ⌝ }
 {
-    stack_offset_in(base(), w)
+    match shape_of(frame) {
+        Framed::Of(g) => stack_offset_in(g, w),
+        Framed::Unknown => Offset::Operand,
+    }
 }
 
 fn stack_offset_in(g: Shape, w: u64) -> Offset

@@ -6,11 +6,12 @@ ghost use lib.Dec.{ltb};
 ghost use lib.ListN.{length, drop};
 ghost use Rattle.records.specs.Answers.{AnswersBy};
 ghost use Rattle.records.specs.Contexts.{bindingIn, extAt};
-ghost use Rattle.layout.specs.declared.utils.Temporary.the-variants.{Missing};
-ghost use Rattle.layout.specs.Config.{Supported, base, positions};
+ghost use Rattle.layout.specs.declared.utils.Temporary.the-variants.{Frame, Missing};
+ghost use Rattle.layout.specs.Config.{Supported, positions, inFrame};
 ghost use Rattle.layout.specs.Positions.{location, entries, Table, operandOk, positionAnswer, temporaryCause};
-ghost use Rattle.layout.specs.Queries.{numberOf, idPlace, freshTemporary, variableTemporary};
+ghost use Rattle.layout.specs.Queries.{numberOf, idPlace, freshTemporary, variableTemporary, unframed};
 use crate::config;
+use crate::config::Framed;
 use crate::config::Shape;
 use records::check::Checked;
 
@@ -548,6 +549,7 @@ const POSITIONS: [u16; ENTRIES] = [
 pub enum Temporary {
     Operand(u64),
     Malformed,
+    Frame,
     Missing,
     OutOfTemporaries,
 }
@@ -587,10 +589,14 @@ pub fn location_at(table: &[u16; ENTRIES], p: u64) -> u64
     wide(table[p as usize])
 }
 
-pub fn position(p: u64) -> Temporary
-    ensures { λ r. ⌜ AnswersBy temporaryCause r (positionAnswer base p) ⌝ }
+// The operand of a position in a frame of so many spills.
+pub fn position(frame: u64, p: u64) -> Temporary
+    ensures { λ r. ⌜ AnswersBy temporaryCause r (inFrame frame (λ g. positionAnswer g p) Frame) ⌝ }
 {
-    position_in(config::base(), p)
+    match config::shape_of(frame) {
+        Framed::Of(g) => position_in(g, p),
+        Framed::Unknown => Temporary::Frame,
+    }
 }
 
 fn position_in(g: Shape, p: u64) -> Temporary
@@ -659,11 +665,24 @@ fn id_place(context: &[u8], id: u32, n: usize) -> usize
     k
 }
 
-// The temporary past the context's last variable.
-pub fn fresh_temporary(number: TemporaryNumber, context: &[u8]) -> Temporary
-    ensures { λ r. ⌜ AnswersBy temporaryCause r (freshTemporary base number (now (context .entry))) ⌝ }
+// What a frame of another number of spills is answered.
+fn unframed(context: &[u8]) -> Temporary
+    ensures { λ r. ⌜ AnswersBy temporaryCause r (unframed (now (context .entry))) ⌝ }
 {
-    fresh_temporary_in(config::base(), number, context)
+    match records::binding::check_context(context) {
+        Checked::Good(_) => Temporary::Frame,
+        Checked::Malformed(_) => Temporary::Malformed,
+    }
+}
+
+// The temporary past the context's last variable.
+pub fn fresh_temporary(frame: u64, number: TemporaryNumber, context: &[u8]) -> Temporary
+    ensures { λ r. ⌜ AnswersBy temporaryCause r (inFrame frame (λ g. freshTemporary g number (now (context .entry))) (unframed (now (context .entry)))) ⌝ }
+{
+    match config::shape_of(frame) {
+        Framed::Of(g) => fresh_temporary_in(g, number, context),
+        Framed::Unknown => unframed(context),
+    }
 }
 
 fn fresh_temporary_in(g: Shape, number: TemporaryNumber, context: &[u8]) -> Temporary
@@ -678,10 +697,13 @@ fn fresh_temporary_in(g: Shape, number: TemporaryNumber, context: &[u8]) -> Temp
 }
 
 // The temporary of the first variable that has the id.
-pub fn variable_temporary(number: TemporaryNumber, context: &[u8], id: u32) -> Temporary
-    ensures { λ r. ⌜ AnswersBy temporaryCause r (variableTemporary base number (now (context .entry)) id) ⌝ }
+pub fn variable_temporary(frame: u64, number: TemporaryNumber, context: &[u8], id: u32) -> Temporary
+    ensures { λ r. ⌜ AnswersBy temporaryCause r (inFrame frame (λ g. variableTemporary g number (now (context .entry)) id) (unframed (now (context .entry)))) ⌝ }
 {
-    variable_temporary_in(config::base(), number, context, id)
+    match config::shape_of(frame) {
+        Framed::Of(g) => variable_temporary_in(g, number, context, id),
+        Framed::Unknown => unframed(context),
+    }
 }
 
 fn variable_temporary_in(g: Shape, number: TemporaryNumber, context: &[u8], id: u32) -> Temporary

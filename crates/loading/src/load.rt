@@ -5,20 +5,21 @@ ghost use Prim.Native.Nat.{_+_, _*_, _<_, _≤_, _^_};
 ghost use lib.Dec.{ltb};
 ghost use lib.ListN.{length};
 ghost use Rattle.records.specs.declared.code.Code.the-variants.{MOVL, ADDIM, CMPIM};
-ghost use Rattle.records.specs.Contexts.{extAt};
+ghost use Rattle.records.specs.Contexts.{checkedContext, extAt};
 ghost use Rattle.trees.specs.Tree.{nop, leaf, seq, if-zero, flat};
 ghost use Rattle.emit.specs.Emitted.{Emits};
-ghost use Rattle.emit.specs.Answers.{Answers};
-ghost use Rattle.layout.specs.Config.{base, Supported, STACK, TEMP, MINUSONE, stackOffset, operands, positions};
+ghost use Rattle.emit.specs.Answers.{unframed, accepted, Answers};
+ghost use Rattle.layout.specs.Config.{Supported, STACK, TEMP, MINUSONE, stackOffset, operands, positions};
 ghost use Rattle.layout.specs.Positions.{Table};
 ghost use Rattle.memory.specs.Blocks.{blockRegister};
 ghost use Rattle.memory.specs.Objects.{extIn, objectRecords, loadSome, loadObject};
-ghost use Rattle.memory.specs.Answered.{treeAnswer};
-ghost use Rattle.memory.specs.LoadAnswered.{loadTree, loadFits, loadAfter, loadAnswer};
+ghost use Rattle.memory.specs.Answered.{treeAnswer, onContext};
+ghost use Rattle.memory.specs.LoadAnswered.{loadTree, loadFits, loadAfter, loadAnswer, loadIn, loadRecordsIn};
 ghost use Rattle.loading.specs.Linked.{oneIfLinked, linkedIn};
 use emit::answer::Answer;
 use emit::cursor::Cursor;
 use emit::cursor::Row;
+use layout::config::Framed;
 use layout::config::STACK;
 use layout::config::Shape;
 use layout::config::TEMP;
@@ -225,10 +226,23 @@ fn load_after(out: &mut [u8], g: Shape, counter: u64, loaded: &[u8], v: u64, n: 
 }
 
 // The variables of one context, out of the object in the Fst past the existing context.
-pub fn load(out: &mut [u8], counter: u64, loaded: &[u8], existing: &[u8]) -> Answer
-    ensures { λ r. ⌜ Answers (now (out .entry)) (now (out .exit)) r (loadAnswer base counter (length (now (out .entry))) (now (loaded .entry)) (now (existing .entry))) (flat (loadTree base (now (loaded .entry)) (now (existing .entry))) counter) ⌝ }
+pub fn load(out: &mut [u8], frame: u64, counter: u64, loaded: &[u8], existing: &[u8]) -> Answer
+    ensures { λ r. ⌜ Answers (now (out .entry)) (now (out .exit)) r (loadIn frame counter (length (now (out .entry))) (now (loaded .entry)) (now (existing .entry))) (loadRecordsIn frame counter (now (loaded .entry)) (now (existing .entry))) ⌝ }
 {
-    load_in(out, layout::config::base(), counter, loaded, existing)
+    match layout::config::shape_of(frame) {
+        Framed::Of(g) => load_in(out, g, counter, loaded, existing),
+        Framed::Unknown => unframed(loaded, existing),
+    }
+}
+
+// What a frame of another number of spills is answered.
+fn unframed(loaded: &[u8], existing: &[u8]) -> Answer
+    ensures { λ r. ⌜ (r ≡ onContext (checkedContext (now (loaded .entry))) (λ n. unframed (checkedContext (now (existing .entry))))) × (accepted r ≡ false) ⌝ }
+{
+    match records::binding::check_context(loaded) {
+        Checked::Good(_) => emit::answer::unframed(existing),
+        Checked::Malformed(_) => Answer::Context,
+    }
 }
 
 fn load_in(out: &mut [u8], g: Shape, counter: u64, loaded: &[u8], existing: &[u8]) -> Answer

@@ -13,9 +13,12 @@ use Rattle.machine.specs.declared.state.State.{State}
 abbrev pub see : State → List ℕ → View
 see s heap = view (s .registers) (s .stack) heap
 
+abbrev pub entryRegisters : List ℕ
+entryRegisters = stackEntry ∷ 0 ∷ 0 ∷ 0 ∷ 0 ∷ 0 ∷ 0 ∷ heapStart ∷ 0 ∷ 0 ∷ 0 ∷ 0 ∷ 0 ∷ 0 ∷ 0 ∷ 0 ∷ []
+
 -- with a stack as deep as the frame asks
 abbrev pub entryState : Shape → State
-entryState g = record { registers = stackEntry ∷ 0 ∷ 0 ∷ 0 ∷ 0 ∷ 0 ∷ 0 ∷ heapStart ∷ 0 ∷ 0 ∷ 0 ∷ 0 ∷ 0 ∷ 0 ∷ 0 ∷ 0 ∷ []; stack = replicate (stackDepth g) 0 }
+entryState g = record { registers = entryRegisters; stack = replicate (stackDepth g) 0 }
 
 -- what the records before the body of a routine with no argument leave: STACK below seven words and the frame, HEAP at block 0, FREE at block 1
 abbrev pub freshRegisters : Shape → List ℕ

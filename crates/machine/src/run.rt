@@ -257,36 +257,33 @@ pub fn run(
     }
 }
 
-// The same run, with the state's arrays lent to each step, so that no step copies the state: the library for C goes by it.
+// A lent array is as long as its type says: it is there as a slice of so many words.
+fn whole(registers: &[u64; 16])
+    ensures { λ r. ⌜ length (now (registers .entry)) ≡ 16 ⌝ }
+{
+    let _words: &[u64] = registers;
+}
+
+// The same run on a lent state, whose stack may have any number of words: no step copies it. The library for C and the channel go by it.
 pub fn run_lent(
     block: usize,
     records: &[u8],
-    state: State,
+    registers: &mut [u64; 16],
+    stack: &mut [u64],
     heap: &mut [u64],
-    words: [u64; 9],
+    words: &[u64; 9],
     limit: u64,
-) -> Ran
-    ensures { λ r. ⌜ is.Leaves (r .answer) (see (r .state) (now (heap .exit))) (is.ran block (wordsOf words) (now (records .entry)) limit (see state (now (heap .entry)))) ⌝ }
+) -> Answer
+    ensures { λ r. ⌜ is.Leaves r (view (now (registers .exit)) (now (stack .exit)) (now (heap .exit))) (is.ran block (wordsOf (now (words .entry))) (now (records .entry)) limit (view (now (registers .entry)) (now (stack .entry)) (now (heap .entry)))) ⌝ }
 {
     if memory::heap_ok(block, heap.len()) {} else {
-        return Ran {
-            state,
-            answer: Answer::Malformed(0),
-        };
+        return Answer::Malformed(0);
     }
     match code::check_codes(records, 65536) {
-        Checked::Malformed(place) => Ran {
-            state,
-            answer: Answer::Malformed(place),
-        },
+        Checked::Malformed(place) => Answer::Malformed(place),
         Checked::Good(n) => {
-            let mut registers = state.registers;
-            let mut stack = state.stack;
-            let answer = steps(records, n, &mut registers, &mut stack, heap, &words, limit);
-            Ran {
-                state: State { registers, stack },
-                answer,
-            }
+            whole(registers);
+            steps(records, n, registers, stack, heap, words, limit)
         }
     }
 }

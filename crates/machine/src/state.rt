@@ -1,7 +1,7 @@
 // The machine's state.
 ghost use mathlib.Core.Path.{_≡_};
 ghost use Rattle.layout.specs.Config.{Supported, base};
-ghost use Rattle.machine.specs.State.{entryState, freshRegisters, freshState};
+ghost use Rattle.machine.specs.State.{entryRegisters, entryState, freshRegisters, freshState};
 use layout::config;
 use layout::config::Shape;
 
@@ -13,35 +13,42 @@ pub struct State {
     pub stack: [u64; DEPTH],
 }
 
-// With which a routine is entered: the heap's address in register 7.
+// The registers with which a routine is entered: the heap's address in register 7.
+pub fn entry_registers() -> [u64; 16]
+    ensures { λ r. ⌜ r ≡ entryRegisters ⌝ }
+{
+    [
+        1099511627768,
+        0,
+        0,
+        0,
+        0,
+        0,
+        0,
+        65536,
+        0,
+        0,
+        0,
+        0,
+        0,
+        0,
+        0,
+        0,
+    ]
+}
+
+// The state then.
 pub fn entry() -> State
     ensures { λ r. ⌜ r ≡ entryState base ⌝ }
 {
     State {
-        registers: [
-            1099511627768,
-            0,
-            0,
-            0,
-            0,
-            0,
-            0,
-            65536,
-            0,
-            0,
-            0,
-            0,
-            0,
-            0,
-            0,
-            0,
-        ],
+        registers: entry_registers(),
         stack: [0; 320],
     }
 }
 
 // The registers after the records before the body of a routine with no argument.
-fn fresh_registers(g: Shape) -> [u64; 16]
+pub fn fresh_registers(g: Shape) -> [u64; 16]
     requires { ⌜ Supported g ⌝ }
     ensures { λ r. ⌜ r ≡ freshRegisters g ⌝ }
 {

@@ -1,18 +1,19 @@
 -- What the operations of memory.rs answer. From document 01, 'Causes and numbers', in rising order.
 use Prim.Native.Nat.{ℕ, _*_, _-_}
 use mathlib.Core.Bool.{cond}
-use mathlib.Core.List.{List}
+use mathlib.Core.List.{List, []}
 use lib.Dec.{ltb, eqb}
 use Rattle.records.specs.declared.check.Checked.{Checked}
 use Rattle.records.specs.declared.check.Checked.the-variants.{Good, Malformed}
+use Rattle.records.specs.declared.code.Code.{Code}
 use Rattle.records.specs.Contexts.{checkedContext}
 use Rattle.emit.specs.declared.answer.Answer.{Answer}
 use Rattle.emit.specs.declared.answer.Answer.the-variants.{Context, Operand, Missing, Count, Position}
-use Rattle.emit.specs.Answers.{granted}
+use Rattle.emit.specs.Answers.{unframed, granted}
 use Rattle.layout.specs.declared.config.Shape.{Shape}
-use Rattle.layout.specs.Config.{positions}
+use Rattle.layout.specs.Config.{positions, inFrame}
 use Rattle.layout.specs.Positions.{operandOk}
-use Rattle.trees.specs.Tree.{Tree, labels, size}
+use Rattle.trees.specs.Tree.{Tree, labels, size, flat}
 use Rattle.memory.specs.Blocks.{eraseBlock, shareBlock}
 use Rattle.memory.specs.Objects.{extIn, storeObject}
 
@@ -26,6 +27,19 @@ eraseAnswer g counter room w = cond (operandOk g w) (treeAnswer counter room (er
 unfoldable pub shareAnswer : Shape → ℕ → ℕ → ℕ → ℕ → Answer
 shareAnswer g counter room w n =
     cond (operandOk g w) (cond (ltb 2147483647 n) Count (treeAnswer counter room (shareBlock g w n))) Operand
+
+-- the answers and the records in a frame of so many spills
+abbrev pub eraseIn : ℕ → ℕ → ℕ → ℕ → Answer
+eraseIn frame counter room w = inFrame frame (λ g. eraseAnswer g counter room w) Operand
+
+abbrev pub eraseRecordsIn : ℕ → ℕ → ℕ → List Code
+eraseRecordsIn frame counter w = inFrame frame (λ g. flat (eraseBlock g w) counter) []
+
+abbrev pub shareIn : ℕ → ℕ → ℕ → ℕ → ℕ → Answer
+shareIn frame counter room w n = inFrame frame (λ g. shareAnswer g counter room w n) Operand
+
+abbrev pub shareRecordsIn : ℕ → ℕ → ℕ → ℕ → List Code
+shareRecordsIn frame counter w n = inFrame frame (λ g. flat (shareBlock g w n) counter) []
 
 -- by the number of variables of a context, which is refused where it is malformed
 abbrev pub onContext : Checked → (ℕ → Answer) → Answer
@@ -49,3 +63,11 @@ storeAnswer g counter room context n =
     onContext (checkedContext context)
     (λ k. cond (ltb k n) Missing
     (cond (ltb (storeHighest k n) (positions g)) (treeAnswer counter room (storeTree g context n)) Position))
+
+-- the answer and the records in a frame of so many spills
+abbrev pub storeIn : ℕ → ℕ → ℕ → List ℕ → ℕ → Answer
+storeIn frame counter room context n =
+    inFrame frame (λ g. storeAnswer g counter room context n) (unframed (checkedContext context))
+
+abbrev pub storeRecordsIn : ℕ → ℕ → List ℕ → ℕ → List Code
+storeRecordsIn frame counter context n = inFrame frame (λ g. flat (storeTree g context n) counter) []

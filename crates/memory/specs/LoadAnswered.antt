@@ -1,14 +1,16 @@
 -- What a load answers. From document 01, 'Causes and numbers', in rising order; a load of none writes no records after any length.
 use Prim.Native.Nat.{ℕ, _+_, _*_, _-_}
 use mathlib.Core.Bool.{Bool, true, cond}
-use mathlib.Core.List.{List}
+use mathlib.Core.List.{List, []}
 use lib.Dec.{ltb, eqb}
+use Rattle.records.specs.declared.code.Code.{Code}
 use Rattle.records.specs.Contexts.{checkedContext}
 use Rattle.emit.specs.declared.answer.Answer.{Answer}
 use Rattle.emit.specs.declared.answer.Answer.the-variants.{Position}
+use Rattle.emit.specs.Answers.{unframed}
 use Rattle.layout.specs.declared.config.Shape.{Shape}
-use Rattle.layout.specs.Config.{positions}
-use Rattle.trees.specs.Tree.{Tree}
+use Rattle.layout.specs.Config.{positions, inFrame}
+use Rattle.trees.specs.Tree.{Tree, flat}
 use Rattle.memory.specs.Objects.{extIn, loadObject}
 use Rattle.memory.specs.Answered.{treeAnswer, onContext, variablesIn}
 
@@ -30,3 +32,12 @@ unfoldable pub loadAnswer : Shape → ℕ → ℕ → List ℕ → List ℕ → 
 loadAnswer g counter room loaded existing =
     onContext (checkedContext loaded)
     (λ n. onContext (checkedContext existing) (λ v. loadAfter g counter room loaded v n))
+
+-- the answer and the records in a frame of so many spills: the context to load is checked first
+abbrev pub loadIn : ℕ → ℕ → ℕ → List ℕ → List ℕ → Answer
+loadIn frame counter room loaded existing =
+    inFrame frame (λ g. loadAnswer g counter room loaded existing)
+    (onContext (checkedContext loaded) (λ n. unframed (checkedContext existing)))
+
+abbrev pub loadRecordsIn : ℕ → ℕ → List ℕ → List ℕ → List Code
+loadRecordsIn frame counter loaded existing = inFrame frame (λ g. flat (loadTree g loaded existing) counter) []

@@ -3,8 +3,8 @@ ghost use Prim.Native.Nat.{_+_, _*_, _<_, _≤_, _^_};
 ghost use Rattle.emit.specs.Emitted.{fieldsList, Emitted, Emits};
 ghost use lib.ListN.{length};
 ghost use Rattle.emit.specs.Answers.{Answers};
-ghost use Rattle.layout.specs.Config.{Supported, base, operands};
-ghost use Rattle.memory.specs.Answered.{eraseAnswer, shareAnswer};
+ghost use Rattle.layout.specs.Config.{Supported, operands};
+ghost use Rattle.memory.specs.Answered.{eraseAnswer, eraseIn, eraseRecordsIn, shareAnswer, shareIn, shareRecordsIn};
 ghost use Rattle.memory.specs.Flattened.{nextBegin, nextEnd};
 ghost use Rattle.trees.specs.Tree.{flat};
 ghost use Rattle.memory.specs.Blocks.{eraseRegister, shareRegister, eraseBlock, shareSpill, shareBlock, eraseChild, eraseFields, takeBlock, nextBlock, acquireBlock, storeField, loadField, releaseBlock};
@@ -12,6 +12,7 @@ use emit::answer::Answer;
 use emit::cursor::Cursor;
 use emit::cursor::Row;
 use layout::config::FREE;
+use layout::config::Framed;
 use layout::config::HEAP;
 use layout::config::STACK;
 use layout::config::Shape;
@@ -292,10 +293,13 @@ pub fn release_block(out: &mut [u8], p: Cursor, r: u8) -> Cursor
 }
 
 // Erases the object that an operand points to.
-pub fn erase_block(out: &mut [u8], counter: u64, w: u64) -> Answer
-    ensures { λ r. ⌜ Answers (now (out .entry)) (now (out .exit)) r (eraseAnswer base counter (length (now (out .entry))) w) (flat (eraseBlock base w) counter) ⌝ }
+pub fn erase_block(out: &mut [u8], frame: u64, counter: u64, w: u64) -> Answer
+    ensures { λ r. ⌜ Answers (now (out .entry)) (now (out .exit)) r (eraseIn frame counter (length (now (out .entry))) w) (eraseRecordsIn frame counter w) ⌝ }
 {
-    erase_block_in(out, layout::config::base(), counter, w)
+    match layout::config::shape_of(frame) {
+        Framed::Of(g) => erase_block_in(out, g, counter, w),
+        Framed::Unknown => Answer::Operand,
+    }
 }
 
 fn erase_block_in(out: &mut [u8], g: Shape, counter: u64, w: u64) -> Answer
@@ -316,10 +320,13 @@ fn erase_block_in(out: &mut [u8], g: Shape, counter: u64, w: u64) -> Answer
 }
 
 // n references more to the object that an operand points to.
-pub fn share_block_n(out: &mut [u8], counter: u64, w: u64, n: u64) -> Answer
-    ensures { λ r. ⌜ Answers (now (out .entry)) (now (out .exit)) r (shareAnswer base counter (length (now (out .entry))) w n) (flat (shareBlock base w n) counter) ⌝ }
+pub fn share_block_n(out: &mut [u8], frame: u64, counter: u64, w: u64, n: u64) -> Answer
+    ensures { λ r. ⌜ Answers (now (out .entry)) (now (out .exit)) r (shareIn frame counter (length (now (out .entry))) w n) (shareRecordsIn frame counter w n) ⌝ }
 {
-    share_block_n_in(out, layout::config::base(), counter, w, n)
+    match layout::config::shape_of(frame) {
+        Framed::Of(g) => share_block_n_in(out, g, counter, w, n),
+        Framed::Unknown => Answer::Operand,
+    }
 }
 
 fn share_block_n_in(out: &mut [u8], g: Shape, counter: u64, w: u64, n: u64) -> Answer

@@ -10,13 +10,10 @@ use Rattle.code.specs.declared.emitters.Condition.the-variants.{Equal, NotEqual
 use Rattle.emit.specs.declared.answer.Answer.{Answer}
 use Rattle.emit.specs.declared.answer.Answer.the-variants.{Operand}
 use Rattle.emit.specs.Answers.{causeOf}
-use Rattle.trees.specs.Tree.{flat}
-use Rattle.layout.specs.declared.config.Shape.{Shape}
 use Rattle.operations.specs.declared.operation.Operation.{Operation}
 use Rattle.operations.specs.declared.operation.Operation.the-variants.{Label, Jump, JumpLabel, JumpLabelFixed, JumpLabelIf, JumpLabelIfZero, LoadImmediate, LoadLabel, AddAndJump, Arithmetic, Mov, Compare, CompareImmediate}
-use Rattle.memory.specs.Blocks.{eraseBlock, shareBlock}
-use Rattle.memory.specs.Answered.{eraseAnswer, shareAnswer, storeTree, storeAnswer}
-use Rattle.memory.specs.LoadAnswered.{loadTree, loadAnswer}
+use Rattle.memory.specs.Answered.{eraseIn, eraseRecordsIn, shareIn, shareRecordsIn, storeIn, storeRecordsIn}
+use Rattle.memory.specs.LoadAnswered.{loadIn, loadRecordsIn}
 use Rattle.numbered.specs.Numbers.{numbersIn}
 
 -- an answer's number and value; accepted, its value is the number of records written
@@ -63,17 +60,17 @@ operations x y z l value =
 unfoldable pub operationNumbered : ℕ → ℕ → ℕ → ℕ → ℕ → ℕ → Operation
 operationNumbered number x y z l value = getD (Label 0 ∷ operations x y z l value) number (Label 0)
 
--- the answers and the records of memory.rs: 1 erase_block, 2 share_block_n, 3 store, 4 load; any other number is refused with 3
-unfoldable pub memoryAnswer : Shape → ℕ → ℕ → ℕ → ℕ → ℕ → List ℕ → List ℕ → Answer
-memoryAnswer g number counter room w n context loaded =
-    cond (eqb number 1) (eraseAnswer g counter room w)
-    (cond (eqb number 2) (shareAnswer g counter room w n)
-    (cond (eqb number 3) (storeAnswer g counter room context n)
-    (cond (eqb number 4) (loadAnswer g counter room loaded context) Operand)))
+-- the answers and the records of memory.rs in a frame of so many spills: 1 erase_block, 2 share_block_n, 3 store, 4 load; any other number is refused with 3
+unfoldable pub memoryAnswer : ℕ → ℕ → ℕ → ℕ → ℕ → ℕ → List ℕ → List ℕ → Answer
+memoryAnswer frame number counter room w n context loaded =
+    cond (eqb number 1) (eraseIn frame counter room w)
+    (cond (eqb number 2) (shareIn frame counter room w n)
+    (cond (eqb number 3) (storeIn frame counter room context n)
+    (cond (eqb number 4) (loadIn frame counter room loaded context) Operand)))
 
-unfoldable pub memoryRecords : Shape → ℕ → ℕ → ℕ → ℕ → List ℕ → List ℕ → List Code
-memoryRecords g number counter w n context loaded =
-    cond (eqb number 1) (flat (eraseBlock g w) counter)
-    (cond (eqb number 2) (flat (shareBlock g w n) counter)
-    (cond (eqb number 3) (flat (storeTree g context n) counter)
-    (cond (eqb number 4) (flat (loadTree g loaded context) counter) [])))
+unfoldable pub memoryRecords : ℕ → ℕ → ℕ → ℕ → ℕ → List ℕ → List ℕ → List Code
+memoryRecords frame number counter w n context loaded =
+    cond (eqb number 1) (eraseRecordsIn frame counter w)
+    (cond (eqb number 2) (shareRecordsIn frame counter w n)
+    (cond (eqb number 3) (storeRecordsIn frame counter context n)
+    (cond (eqb number 4) (loadRecordsIn frame counter loaded context) [])))

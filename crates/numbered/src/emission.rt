@@ -3,7 +3,6 @@ ghost use mathlib.Core.Path.{_≡_};
 ghost use mathlib.Core.List.{[], _∷_};
 ghost use lib.ListN.{length};
 ghost use Rattle.emit.specs.Answers.{Answers};
-ghost use Rattle.layout.specs.Config.{base};
 ghost use Rattle.numbered.specs.Emission.{answerNumbers, counterAfter, operationNumbered, memoryAnswer, memoryRecords};
 use code::emitters::Condition;
 use emit::answer::Answer;
@@ -101,6 +100,7 @@ pub fn operation_numbered(
 
 pub fn memory(
     out: &mut [u8],
+    frame: u64,
     operation: u64,
     counter: u64,
     operand: u64,
@@ -108,13 +108,13 @@ pub fn memory(
     context: &[u8],
     loaded: &[u8],
 ) -> Answer
-    ensures { λ r. ⌜ Answers (now (out .entry)) (now (out .exit)) r (memoryAnswer base operation counter (length (now (out .entry))) operand n (now (context .entry)) (now (loaded .entry))) (memoryRecords base operation counter operand n (now (context .entry)) (now (loaded .entry))) ⌝ }
+    ensures { λ r. ⌜ Answers (now (out .entry)) (now (out .exit)) r (memoryAnswer frame operation counter (length (now (out .entry))) operand n (now (context .entry)) (now (loaded .entry))) (memoryRecords frame operation counter operand n (now (context .entry)) (now (loaded .entry))) ⌝ }
 {
     match operation {
-        1 => memory::block::erase_block(out, counter, operand),
-        2 => memory::block::share_block_n(out, counter, operand, n),
-        3 => storing::store::store(out, counter, context, n),
-        4 => loading::load::load(out, counter, loaded, context),
+        1 => memory::block::erase_block(out, frame, counter, operand),
+        2 => memory::block::share_block_n(out, frame, counter, operand, n),
+        3 => storing::store::store(out, frame, counter, context, n),
+        4 => loading::load::load(out, frame, counter, loaded, context),
         _ => Answer::Operand,
     }
 }

@@ -22,6 +22,7 @@ pub fn told(answer: Answer, value: &mut u64, bindings: &mut u64) -> u64
             *value = place as u64;
             2
         }
+        Answer::Frame => 3,
         Answer::Missing => 4,
         Answer::Kind => 5,
         Answer::Count => 7,
@@ -42,6 +43,7 @@ pub fn counter_after(answer: Answer, counter: u64) -> u64
         Answer::Accepted(_, after, _) => after,
         Answer::Context => counter,
         Answer::Malformed(_) => counter,
+        Answer::Frame => counter,
         Answer::Missing => counter,
         Answer::Kind => counter,
         Answer::Count => counter,

@@ -19,6 +19,10 @@ pub fn located(temporary: Temporary, value: &mut u64) -> u64
             *value = 0;
             1
         }
+        Temporary::Frame => {
+            *value = 0;
+            3
+        }
         Temporary::Missing => {
             *value = 0;
             4

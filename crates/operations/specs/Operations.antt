@@ -1,4 +1,4 @@
--- What each operation writes and answers. From document 01, 'Causes and numbers': 3 for an operand or a label, then 10 for the room.
+-- What each operation writes and answers. From document 01, 'Causes and numbers': 3 for an operand, a label or a frame, then 10 for the room.
 use Prim.Native.Nat.{ℕ, _*_}
 use mathlib.Core.Bool.{Bool, _&&_, cond}
 use mathlib.Core.List.{List, [], _∷_}
@@ -11,6 +11,7 @@ use Rattle.emit.specs.declared.answer.Answer.{Answer}
 use Rattle.emit.specs.declared.answer.Answer.the-variants as answer
 use Rattle.emit.specs.Answers.{granted, Answers}
 use Rattle.layout.specs.declared.config.Shape.{Shape}
+use Rattle.layout.specs.Config.{inFrame}
 use Rattle.layout.specs.Positions.{operandOk}
 use Rattle.operations.specs.declared.operation.Operation.{Operation}
 use Rattle.operations.specs.declared.operation.Operation.the-variants.{Label, Jump, JumpLabel, JumpLabelFixed, JumpLabelIf, JumpLabelIfZero, LoadImmediate, LoadLabel, AddAndJump, Arithmetic, Mov, Compare, CompareImmediate}
@@ -53,6 +54,13 @@ module _ (g : Shape) where
   abbrev pub answerOf : ℕ → Operation → Answer
   answerOf room o = cond (operandsOk o) (granted 0 room (24 * length (recordsOf o)) 0) answer.Operand
 
+-- its answer and its records in a frame of so many spills; another number than a frame has is 3, whatever the operation
+abbrev pub operateIn : ℕ → ℕ → Operation → Answer
+operateIn frame room o = inFrame frame (λ g. answerOf g room o) answer.Operand
+
+abbrev pub recordsIn : ℕ → Operation → List Code
+recordsIn frame o = inFrame frame (λ g. recordsOf g o) []
+
 -- what an operation ensures of the output before and after, and of its answer
-abbrev pub Operates : Shape → List ℕ → List ℕ → Answer → Operation → Type 0
-Operates g s s′ r o = Answers s s′ r (answerOf g (length s) o) (recordsOf g o)
+abbrev pub Operates : ℕ → List ℕ → List ℕ → Answer → Operation → Type 0
+Operates frame s s′ r o = Answers s s′ r (operateIn frame (length s) o) (recordsIn frame o)

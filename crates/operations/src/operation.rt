@@ -2,15 +2,18 @@
 ghost use mathlib.Core.Path.{_≡_};
 ghost use mathlib.Core.Bool.{true, _&&_};
 ghost use Prim.Native.Nat.{_+_, _<_, _^_};
+ghost use lib.ListN.{length};
+ghost use Rattle.emit.specs.Answers.{Answers};
 ghost use Rattle.emit.specs.Emitted.{fieldsList, Emitted};
-ghost use Rattle.layout.specs.Config.{Supported, base};
+ghost use Rattle.layout.specs.Config.{Supported};
 ghost use Rattle.layout.specs.Positions.{operandOk};
-ghost use Rattle.operations.specs.Operations.{recordsOf, operandsOk, Operates};
+ghost use Rattle.operations.specs.Operations.{recordsOf, operandsOk, answerOf, Operates};
 use code::emitters;
 use code::emitters::Condition;
 use emit::answer::Answer;
 use emit::cursor::Cursor;
 use emit::cursor::Row;
+use layout::config::Framed;
 use layout::config::Shape;
 use records::number::JMPL;
 use records::number::JMPLN;
@@ -114,16 +117,19 @@ fn emit_operation(out: &mut [u8], p: Cursor, g: Shape, operation: Operation) -> 
     }
 }
 
-// No operation here draws a label: none takes a counter, and the answer's is 0.
-pub fn operate(out: &mut [u8], operation: Operation) -> Answer
-    ensures { λ r. ⌜ Operates base (now (out .entry)) (now (out .exit)) r operation ⌝ }
+// In a frame of so many spills. No operation here draws a label: none takes a counter, and the answer's is 0.
+pub fn operate(out: &mut [u8], frame: u64, operation: Operation) -> Answer
+    ensures { λ r. ⌜ Operates frame (now (out .entry)) (now (out .exit)) r operation ⌝ }
 {
-    operate_in(out, layout::config::base(), operation)
+    match layout::config::shape_of(frame) {
+        Framed::Of(g) => operate_in(out, g, operation),
+        Framed::Unknown => Answer::Operand,
+    }
 }
 
 fn operate_in(out: &mut [u8], g: Shape, operation: Operation) -> Answer
     requires { ⌜ Supported g ⌝ }
-    ensures { λ r. ⌜ Operates g (now (out .entry)) (now (out .exit)) r operation ⌝ }
+    ensures { λ r. ⌜ Answers (now (out .entry)) (now (out .exit)) r (answerOf g (length (now (out .entry))) operation) (recordsOf g operation) ⌝ }
 {
     if operands_ok(g, operation) {} else {
         return Answer::Operand;

@@ -1,7 +1,7 @@
 -- What an accepted order says of its context, its bindings, its operands and its outputs.
 use Prim.Native.Nat.{ℕ, _+_, _*_, _/_, _≤_}
 use mathlib.Core.Path.{_≡_, refl, sym, ap, _∙_}
-use mathlib.Core.Bool.{true}
+use mathlib.Core.Bool.{Bool, true, false, cond}
 use mathlib.Core.List.{List}
 use native.Mathlib.Omega.{arith}
 use lib.Dec.{ltb, leb, eqb}
@@ -16,9 +16,9 @@ use Rattle.trees.specs.Tree.{Tree, labels, size}
 use Rattle.layout.specs.declared.config.Shape.{Shape}
 use Rattle.layout.specs.Config.{positions}
 use Rattle.orders.specs.declared.answer.Answer.{Answer}
-use Rattle.orders.specs.declared.answer.Answer.the-variants.{Accepted, Malformed, Missing, Kind, Count, Position, Labels, Room}
+use Rattle.orders.specs.declared.answer.Answer.the-variants.{Accepted, Malformed, Frame, Missing, Kind, Count, Position, Labels, Room}
 use Rattle.orders.specs.Writes.{wanted, countOk, treeOf, contextAfter, present, kindsOk, asked}
-use Rattle.orders.specs.Answered.{Asked, accepted, orderIs, granted, decided, onContext, answerTo}
+use Rattle.orders.specs.Answered.{Asked, accepted, orderIs, granted, decided, onContext, answerTo, unframed}
 
 -- the answer to an accepted order of records t and the context after them
 abbrev pub acceptance : Asked → Tree → List ℕ → Answer
@@ -85,11 +85,16 @@ module _ (G : Shape) (context : List ℕ) (q : Asked) (k : ℕ) where
         answer = rw (a .0, b .0, c .0, d .0) (g .answer);
       }
 
--- an order that passes 1 and 2
-all-passed : (G : Shape) (context : List ℕ) (q : Asked) {k m : ℕ} → checkedContext context ≡ checked.Good k → checkedContext (q .bindings) ≡ checked.Good m → orderStarts (q .order) ≡ true
+-- an order that passes 1 and 2, and one that passes 4 to 8
+pub all-passed : (G : Shape) (context : List ℕ) (q : Asked) {k m : ℕ} → checkedContext context ≡ checked.Good k → checkedContext (q .bindings) ≡ checked.Good m → orderStarts (q .order) ≡ true
     → eqb m (wanted (orderIs q)) ≡ true → eqb (length (q .order)) 24 ≡ true → answerTo G context q ≡ decided G context k q
 unfolding answerTo
 all-passed G context q c b s n w = rw (c, b, s, n, w)
+
+pub all-judged : (G : Shape) (context : List ℕ) (q : Asked) (k : ℕ) → present context k (q .bindings) (orderIs q) ≡ true → kindsOk context k (q .bindings) (orderIs q) ≡ true → countOk (orderIs q) ≡ true
+    → leb (asked context k (q .bindings) (orderIs q)) (positions G) ≡ true
+    → decided G context k q ≡ granted q (treeOf G context k (q .bindings) (orderIs q)) (contextAfter context k (q .bindings) (orderIs q))
+all-judged G context q k a b c d = rw (a, b, c, d)
 
 pub good-context : (G : Shape) (context : List ℕ) (q : Asked) → accepted (answerTo G context q) ≡ true → (k : ℕ) × (checkedContext context ≡ checked.Good k)
 unfolding answerTo
@@ -121,3 +126,20 @@ taken G context q k good e =
   where
     good-same : {j : ℕ} → checked.Good j ≡ checked.Good k → j ≡ k
     good-same e = cc
+
+-- no order is accepted where there is no such frame
+pub unframed-refused : (context : List ℕ) (q : Asked) → accepted (unframed context q) ≡ false
+unfolding unframed
+unframed-refused context q =
+    on-any (checkedContext context) _
+    (λ k. on-any (checkedContext (q .bindings)) _ (λ m. read-any (orderStarts (q .order)) (eqb m (wanted (orderIs q))) (eqb (length (q .order)) 24)))
+  where
+    on-any : (c : Checked) (f : ℕ → Answer) → ((k : ℕ) → accepted (f k) ≡ false) → accepted (onContext c f) ≡ false
+    on-any (checked.Good k) f h = h k
+    on-any (checked.Malformed place) f h = refl
+
+    read-any : (a b d : Bool) → accepted (cond a (cond b (cond d Frame (Malformed 2)) (Malformed 1)) (Malformed 1)) ≡ false
+    read-any true true true = refl
+    read-any true true false = refl
+    read-any true false d = refl
+    read-any false b d = refl

@@ -5,7 +5,7 @@ use mathlib.Core.List.{List, [], _∷_}
 use lib.Dec.{ltb, leb, eqb}
 use lib.ListN.{length, getD}
 use lib.Seq.{sets}
-use Rattle.records.specs.Causes.{ACCEPTED, CONTEXT, MALFORMED, MISSING, KIND, COUNT, POSITION, LABELS, ROOM}
+use Rattle.records.specs.Causes.{ACCEPTED, CONTEXT, MALFORMED, OPERAND, MISSING, KIND, COUNT, POSITION, LABELS, ROOM}
 use Rattle.records.specs.declared.check.Checked.{Checked}
 use Rattle.records.specs.declared.check.Checked.the-variants as checked
 use Rattle.records.specs.declared.order.Order.{Order}
@@ -14,10 +14,11 @@ use Rattle.records.specs.Orders.{orderOf, orderIn, orderStarts}
 use Rattle.records.specs.ReadBack.{joined, codeBytes}
 use Rattle.trees.specs.Tree.{Tree, labels, size, flat}
 use Rattle.layout.specs.declared.config.Shape.{Shape}
-use Rattle.layout.specs.Config.{positions}
+use Rattle.layout.specs.declared.config.Framed.{Framed}
+use Rattle.layout.specs.Config.{inShape, positions}
 use Rattle.memory.specs.Answered.{variablesIn}
 use Rattle.orders.specs.declared.answer.Answer.{Answer}
-use Rattle.orders.specs.declared.answer.Answer.the-variants.{Accepted, Context, Malformed, Missing, Kind, Count, Position, Labels, Room}
+use Rattle.orders.specs.declared.answer.Answer.the-variants.{Accepted, Context, Malformed, Frame, Missing, Kind, Count, Position, Labels, Room}
 use Rattle.orders.specs.Writes.{wanted, countOk, treeOf, contextAfter, present, kindsOk, asked}
 
 -- document 01's number and values for each answer: 0, with the records, the bindings and the counter after them, where the order is accepted
@@ -25,6 +26,7 @@ abbrev pub causeOf : Answer → List ℕ
 causeOf (Accepted records counter bindings) = ACCEPTED ∷ records ∷ bindings ∷ counter ∷ []
 causeOf Context = CONTEXT ∷ []
 causeOf (Malformed place) = MALFORMED ∷ place ∷ []
+causeOf Frame = OPERAND ∷ []
 causeOf Missing = MISSING ∷ []
 causeOf Kind = KIND ∷ []
 causeOf Count = COUNT ∷ []
@@ -40,6 +42,7 @@ abbrev pub accepted : Answer → Bool
 accepted (Accepted records counter bindings) = true
 accepted Context = false
 accepted (Malformed place) = false
+accepted Frame = false
 accepted Missing = false
 accepted Kind = false
 accepted Count = false
@@ -91,16 +94,23 @@ abbrev pub onContext : Checked → (ℕ → Answer) → Answer
 onContext (checked.Good k) answer = answer k
 onContext (checked.Malformed place) answer = Context
 
--- 1 for the context and the bindings, 2 for the order: record 1, the number of its bindings, a record too many
-unfoldable pub answerTo : Shape → List ℕ → Asked → Answer
-answerTo g context q =
+-- 1 for the context and the bindings, 2 for the order: record 1, the number of its bindings, a record too many; then what is answered on the context's variables
+abbrev pub read : List ℕ → Asked → (ℕ → Answer) → Answer
+read context q answer =
     onContext (checkedContext context)
     (λ k. onContext (checkedContext (q .bindings))
     (λ m. cond (orderStarts (q .order))
     (cond (eqb m (wanted (orderIs q)))
-    (cond (eqb (length (q .order)) 24) (decided g context k q) (Malformed 2))
+    (cond (eqb (length (q .order)) 24) (answer k) (Malformed 2))
     (Malformed 1))
     (Malformed 1)))
+
+unfoldable pub answerTo : Shape → List ℕ → Asked → Answer
+answerTo g context q = read context q (λ k. decided g context k q)
+
+-- 3 for another number of spills than a frame has, after 1 and 2
+unfoldable pub unframed : List ℕ → Asked → Answer
+unframed context q = read context q (λ k. Frame)
 
 -- the records' bytes
 abbrev pub recordsOf : Shape → List ℕ → Asked → List ℕ
@@ -112,3 +122,13 @@ recordsOutput g context q o = cond (accepted (answerTo g context q)) (sets o 0 (
 
 abbrev pub contextOutput : Shape → List ℕ → Asked → List ℕ → List ℕ
 contextOutput g context q o = cond (accepted (answerTo g context q)) (sets o 0 (orderContext context q)) o
+
+-- the answer and the two outputs by frame: where there is no such frame, both outputs stay
+abbrev pub answerIn : Framed → List ℕ → Asked → Answer
+answerIn f context q = inShape f (λ g. answerTo g context q) (unframed context q)
+
+abbrev pub recordsIn : Framed → List ℕ → Asked → List ℕ → List ℕ
+recordsIn f context q o = inShape f (λ g. recordsOutput g context q o) o
+
+abbrev pub contextIn : Framed → List ℕ → Asked → List ℕ → List ℕ
+contextIn f context q o = inShape f (λ g. contextOutput g context q o) o

@@ -7,6 +7,8 @@ pub enum Answer {
     Context,
     // 2: the order, or the number of its bindings, with the record's place
     Malformed(usize),
+    // 3: no frame of so many spills
+    Frame,
     // 4: a place that is not in the context, or more to store than there is
     Missing,
     // 5: a variable of the wrong kind

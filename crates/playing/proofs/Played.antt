@@ -1,11 +1,11 @@
 -- From an order's answer, its two outputs and its records' run to what playing it leaves.
-use Prim.Native.Nat.{ℕ, _*_, _≤_}
+use Prim.Native.Nat.{ℕ, zero, suc, _+_, _*_, _≤_}
 use mathlib.Core.Path.{_≡_, refl, sym, ap, _∙_, subst}
 use mathlib.Core.Bool.{true, false}
-use mathlib.Core.List.{List, [], _∷_}
+use mathlib.Core.List.{List, [], _∷_, _++_}
 use native.Mathlib.Omega.{arith}
-use lib.ListN.{length, replicate, take}
-use lib.Seq.{sets, sets-eq, take-at, take-all, length-sets}
+use lib.ListN.{length, replicate, take, length-replicate}
+use lib.Seq.{sets, sets-eq, take-at, take-all, take-append-le, length-take-le, length-sets}
 use denote.Enum.Declared.{tagOf}
 use types.Run.{OneOf, miss}
 use Rattle.records.specs.Contexts.{checkedContext}
@@ -16,37 +16,69 @@ use Rattle.records.proofs.Joined.{joined-length}
 use Rattle.trees.specs.Tree.{Tree, size, flat}
 use Rattle.trees.specs.Flat.{length-flat}
 use Rattle.layout.specs.declared.config.Shape.{Shape}
-use Rattle.layout.specs.Config.{blockWords}
+use Rattle.layout.specs.declared.config.Framed.{Framed}
+use Rattle.layout.specs.declared.config.Framed.the-variants.{Of, Unknown}
+use Rattle.layout.specs.Config.{Supported, larger, shapeOf, mostVariables, stackDepth, blockWords}
 use Rattle.memory.specs.Answered.{variablesIn}
-use Rattle.instructions.specs.View.{View}
+use Rattle.instructions.specs.View.{View, view}
 use Rattle.machine.specs.declared.run.Answer as run
-use Rattle.machine.specs.declared.state.State.{State}
 use Rattle.machine.specs.declared.run.Answer.the-variants.{Ended}
-use Rattle.machine.specs.State.{see, freshState}
+use Rattle.machine.specs.State.{freshRegisters}
 use Rattle.machine.specs.Run.{Done, ran, Leaves}
 use Rattle.orders.specs.declared.answer.Answer.{Answer}
-use Rattle.orders.specs.declared.answer.Answer.the-variants.{Accepted, Context, Malformed, Missing, Kind, Count, Position, Labels, Room}
+use Rattle.orders.specs.declared.answer.Answer.the-variants.{Accepted, Context, Malformed, Frame, Missing, Kind, Count, Position, Labels, Room}
 use Rattle.orders.proofs.answer.Answer.{the-type}
 use Rattle.orders.specs.Writes.{treeOf, contextAfter}
-use Rattle.orders.specs.Answered.{Asked, accepted, orderIs, orderTree, orderContext, answerTo, recordsOf}
+use Rattle.orders.specs.Answered.{Asked, accepted, orderIs, orderTree, orderContext, answerTo, unframed, recordsOf}
 use Rattle.judging.proofs.Leaving.{context-long, after-long}
 use Rattle.answering.specs.Answers.{AnswersOrder}
-use Rattle.playing.specs.Playing.{Channel, fresh, isAccepted, Plays}
+use Rattle.answering.specs.Answers as answering
+use Rattle.playing.specs.declared.channel.Channel as code
+use Rattle.playing.specs.Playing.{Channel, fresh, isAccepted, channelOf, asking, Plays, Stays, PlaysIn}
 use Rattle.orders.proofs.Accepting.{good-context, taken}
 
--- a channel as it starts
-pub starts : (g : Shape) (s : State) → s ≡ freshState g → (blocks : ℕ) → record { context = []; view = see s (replicate (blockWords g * blocks) 0) } ≡ fresh g blocks
-starts g s e blocks = rw e
+-- a frame has one shape, or none
+pub same-shape : {f : Framed} {g h : Shape} → f ≡ Of g → f ≡ Of h → g ≡ h
+same-shape e k = cc
+
+pub no-shape : {A : Type 0} {f : Framed} {g : Shape} → f ≡ Unknown → f ≡ Of g → A
+no-shape e k = let z : _≡_ {A = ℕ} 0 1 = cc in absurd (omega arith)
+
+-- what is taken of equal words
+take-replicate : (n m x : ℕ) → n ≤ m → take n (replicate m x) ≡ replicate n x
+take-replicate zero m x h = refl
+take-replicate (suc n) zero x h = absurd (omega arith)
+take-replicate (suc n) (suc m) x h = ap (λ (l : List ℕ). x ∷ l) (take-replicate n m x (omega arith))
+
+-- what a frame asks of the largest one's stack, and of its room for a context
+module _ (g : Shape) (u : Supported g) where
+  pub depth-there : stackDepth g ≤ stackDepth larger
+  depth-there = omega (arith, u .frame)
+
+  pub room-there : 8 * mostVariables g ≤ 8 * mostVariables larger
+  room-there = omega (arith, u .frame)
+
+  pub its-room : length {A = ℕ} (take (8 * mostVariables g) (replicate (8 * mostVariables larger) 0)) ≡ 8 * mostVariables g
+  its-room = rw (take-replicate (8 * mostVariables g) (8 * mostVariables larger) 0 room-there) (length-replicate (8 * mostVariables g) 0)
+
+  pub its-stack : (S : List ℕ) → length S ≡ stackDepth larger → length (take (stackDepth g) S) ≡ stackDepth g
+  its-stack S l = length-take-le (stackDepth g) S (omega (arith, depth-there))
+
+  -- a channel as it starts
+  pub starts-so : {R : List ℕ} → R ≡ freshRegisters g → (blocks : ℕ)
+      → record { context = []; view = view R (take (stackDepth g) (replicate (stackDepth larger) 0)) (replicate (blockWords g * blocks) 0) } ≡ fresh g blocks
+  starts-so e blocks = rw (e, take-replicate (stackDepth g) (stackDepth larger) 0 depth-there)
 
 -- a context of which all bytes are in use
-pub all-used : {g : Shape} {q : Asked} {r : Answer} {o o′ a a′ : List ℕ} (s : List ℕ) (used : ℕ) → length s ≤ used → AnswersOrder g s q r o o′ a a′ → AnswersOrder g (take used s) q r o o′ a a′
+pub all-used : {f : Framed} {q : Asked} {r : Answer} {o o′ a a′ : List ℕ} (s : List ℕ) (used : ℕ) → length s ≤ used → AnswersOrder f s q r o o′ a a′ → AnswersOrder f (take used s) q r o o′ a a′
 all-used s used h w = rw (take-all used s h) w
 
 -- an answer that is none but the first of its kinds is a refusal
-pub not-accepted : (r : Answer) → OneOf (1 ∷ 2 ∷ 3 ∷ 4 ∷ 5 ∷ 6 ∷ 7 ∷ 8 ∷ []) (tagOf the-type r) → accepted r ≡ false
-not-accepted (Accepted records counter bindings) k = absurd (miss (1 ∷ 2 ∷ 3 ∷ 4 ∷ 5 ∷ 6 ∷ 7 ∷ 8 ∷ []) 0 tt k)
+pub not-accepted : (r : Answer) → OneOf (1 ∷ 2 ∷ 3 ∷ 4 ∷ 5 ∷ 6 ∷ 7 ∷ 8 ∷ 9 ∷ []) (tagOf the-type r) → accepted r ≡ false
+not-accepted (Accepted records counter bindings) k = absurd (miss (1 ∷ 2 ∷ 3 ∷ 4 ∷ 5 ∷ 6 ∷ 7 ∷ 8 ∷ 9 ∷ []) 0 tt k)
 not-accepted Context k = refl
 not-accepted (Malformed place) k = refl
+not-accepted Frame k = refl
 not-accepted Missing k = refl
 not-accepted Kind k = refl
 not-accepted Count k = refl
@@ -87,7 +119,7 @@ start-of o s n e h = rw (sets-eq s o 0 (omega arith)) (take-at s _ n e)
 records-long : (t : Tree) (c : ℕ) → length (joined codeBytes (flat t c)) ≡ 24 * size t
 records-long t c = omega (arith, joined-length code-laws (flat t c), length-flat t c 0)
 
-module _ {g : Shape} (ch : Channel) (q : Asked) (words : ℕ → ℕ) {r : Answer} {o o′ a a′ : List ℕ} (s : AnswersOrder g (ch .context) q r o o′ a a′) where
+module _ {g : Shape} (ch : Channel) (q : Asked) (words : ℕ → ℕ) {r : Answer} {o o′ a a′ : List ℕ} (s : AnswersOrder (Of g) (ch .context) q r o o′ a a′) where
   pub refused-plays : accepted r ≡ false → Plays g ch q words ch r (Ended 0) o o′
   refused-plays f =
       let e : isAccepted g ch q ≡ false = ap accepted (sym (s .answer)) ∙ f in
@@ -124,3 +156,34 @@ module _ {g : Shape} (ch : Channel) (q : Asked) (words : ℕ → ℕ) {r : Answe
           ran = answers-by (rw yes (w .answer ∙ ap (λ (z : Done). z .answer) runs));
           records = s .records;
         }
+
+    -- the same where the outputs are the first parts of a longer context and stack
+    pub accepted-plays-on : length a ≡ q .contextRoom → (context stack : List ℕ) {x : run.Answer} (R S H : List ℕ) → length S ≡ stackDepth g
+        → Leaves x (view R S H) (ran (blockWords g) words (take (24 * n) o′) n (ch .view))
+        → Plays g ch q words (record { context = take (8 * m) (a′ ++ context); view = view R (take (stackDepth g) (S ++ stack)) H }) (Accepted n d m) x o o′
+    accepted-plays-on k context stack R S H h w =
+        let long : length a′ ≡ length a = rw (s .after, yes, length-sets) in
+        rw (take-append-le (8 * m) a′ context (omega (arith, long, k, bindings-there)), take-at S stack (stackDepth g) h) (accepted-plays k w)
+
+-- the room of a frame
+pub in-shape : {f : Framed} {g : Shape} {context order bindings : List ℕ} {counter : ℕ} {r : Answer} {o o′ a a′ : List ℕ} → f ≡ Of g → length a ≡ 8 * mostVariables g
+    → AnswersOrder f context (answering.asking order bindings counter o a) r o o′ a a′ → AnswersOrder (Of g) context (asking g order bindings counter o) r o o′ a a′
+in-shape e l w = rw (e, l) at w
+
+-- by the channel's frame
+module _ {c : code.Channel} {order bindings : List ℕ} {counter : ℕ} {r : Answer} {o o′ : List ℕ} where
+  -- what the answer leaves where there is no such frame, whatever room is lent for the context
+  pub refused-stays : {a a′ : List ℕ} → shapeOf (c .frame) ≡ Unknown → AnswersOrder (shapeOf (c .frame)) (take (c .used) (c .context)) (answering.asking order bindings counter o a) r o o′ a a′
+      → (heap : List ℕ) → Stays c (answering.asking order bindings counter o []) c heap heap r (Ended 0) o o′
+  unfolding unframed
+  refused-stays e w heap =
+      let s = rw e at w in
+      record { answer = answers-by (s .answer); channel = refl; heap-kept = refl; ran = answers-by refl; records = s .records }
+
+  module _ {c′ : code.Channel} {words : ℕ → ℕ} {heap heap′ : List ℕ} {x : run.Answer} where
+    pub plays-known : {g : Shape} → shapeOf (c .frame) ≡ Of g → c′ .frame ≡ c .frame → Plays g (channelOf g c heap) (asking g order bindings counter o) words (channelOf g c′ heap′) r x o o′
+        → PlaysIn c order bindings counter words c′ heap heap′ r x o o′
+    plays-known e k p = record { frame = k; known = λ h f. rw (same-shape e f) at p; unknown = λ f. no-shape f e }
+
+    pub plays-unknown : shapeOf (c .frame) ≡ Unknown → Stays c (answering.asking order bindings counter o []) c′ heap heap′ r x o o′ → PlaysIn c order bindings counter words c′ heap heap′ r x o o′
+    plays-unknown e s = record { frame = ap (λ (z : code.Channel). z .frame) (s .channel); known = λ h f. no-shape e f; unknown = λ f. s }

@@ -1,23 +1,34 @@
 // A channel, and one order played on it.
 ghost use mathlib.Core.Path.{_≡_};
 ghost use Prim.Native.Nat.{ℕ, _*_, _≤_};
-ghost use lib.ListN.{length, replicate, take};
-ghost use Rattle.layout.specs.Config.{base, blockWords};
-ghost use Rattle.instructions.specs.View.{wordsOf};
-ghost use Rattle.machine.specs.State.{see};
+ghost use mathlib.Core.List.{List, []};
+ghost use lib.ListN.{length, take};
+ghost use Rattle.layout.specs.declared.config.Shape.{Shape};
+ghost use Rattle.layout.specs.declared.config.Framed.the-variants.{Of, Unknown};
+ghost use Rattle.layout.specs.Config.{Supported, shapeOf, blockWords};
+ghost use Rattle.instructions.specs.View.{view, wordsOf};
+ghost use Rattle.machine.specs.State.{freshRegisters};
 ghost use Rattle.machine.specs.Run.{ran, Leaves};
 ghost use Rattle.answering.specs.Answers as answering;
 ghost use Rattle.playing.specs.Playing as is;
 use layout::config;
-use machine::run::Ran;
-use machine::state::State;
+use layout::config::Framed;
+use layout::config::Shape;
 use orders::answer::Answer;
 
-// The context's bytes, of which the first `used` count, beside the machine's state. The heap is lent.
+// The bytes of a context with as many variables as the largest frame has positions for, and the words of that frame's stack.
+pub const CONTEXT: usize = 2088;
+
+pub const STACK: usize = 576;
+
+// The context's bytes, of which the first `used` count, beside the machine's state: of the stack the frame's words count, its number of spills and 64. The heap
+// is lent.
 pub struct Channel {
+    pub frame: u64,
     pub used: usize,
-    pub context: [u8; 1064],
-    pub state: State,
+    pub context: [u8; CONTEXT],
+    pub registers: [u64; 16],
+    pub stack: [u64; STACK],
 }
 
 // The channel after an order, its answer, and how its run ended.
@@ -27,14 +38,26 @@ pub struct Played {
     pub ran: machine::run::Answer,
 }
 
+// In an unknown frame any will do: every order is refused there.
+fn fresh_registers(frame: u64) -> [u64; 16]
+    ensures { λ r. ⌜ ((g : Shape) → shapeOf frame ≡ Of g → r ≡ freshRegisters g) ⌝ }
+{
+    match config::shape_of(frame) {
+        Framed::Of(g) => machine::state::fresh_registers(g),
+        Framed::Unknown => [0; 16],
+    }
+}
+
 // With which a list of orders starts, on a zeroed heap.
-pub fn fresh() -> Channel
-    ensures { λ r. ⌜ ((blocks : ℕ) → is.channelOf r (replicate (blockWords base * blocks) 0) ≡ is.fresh base blocks) ⌝ }
+pub fn fresh(frame: u64) -> Channel
+    ensures { λ r. ⌜ is.Starts frame r ⌝ }
 {
     Channel {
+        frame,
         used: 0,
-        context: [0; 1064],
-        state: machine::state::fresh(),
+        context: [0; CONTEXT],
+        registers: fresh_registers(frame),
+        stack: [0; STACK],
     }
 }
 
@@ -42,39 +65,66 @@ pub fn fresh() -> Channel
 fn ask(
     records_out: &mut [u8],
     context_out: &mut [u8],
+    frame: u64,
     context: &[u8],
     used: usize,
     counter: u64,
     order: &[u8],
     bindings: &[u8],
 ) -> Answer
-    ensures { λ r. ⌜ answering.AnswersOrder base (take used (now (context .entry))) (answering.asking (now (order .entry)) (now (bindings .entry)) counter (now («records_out» .entry)) (now («context_out» .entry))) r (now («records_out» .entry)) (now («records_out» .exit)) (now («context_out» .entry)) (now («context_out» .exit)) ⌝ }
+    ensures { λ r. ⌜ answering.AnswersOrder (shapeOf frame) (take used (now (context .entry))) (answering.asking (now (order .entry)) (now (bindings .entry)) counter (now («records_out» .entry)) (now («context_out» .entry))) r (now («records_out» .entry)) (now («records_out» .exit)) (now («context_out» .entry)) (now («context_out» .exit)) ⌝ }
 {
     if used <= context.len() {
         return answering::order::order(
             records_out,
             context_out,
+            frame,
             &context[..used],
             counter,
             order,
             bindings,
         );
     }
-    answering::order::order(records_out, context_out, context, counter, order, bindings)
+    answering::order::order(
+        records_out,
+        context_out,
+        frame,
+        context,
+        counter,
+        order,
+        bindings,
+    )
 }
 
 // The first `count` records run, with their number as the step limit.
-fn run_records(records: &[u8], count: usize, state: State, heap: &mut [u64], words: [u64; 9]) -> Ran
-    requires { ⌜ 24 * count ≤ length (now records) ⌝ }
-    ensures { λ r. ⌜ Leaves (r .answer) (see (r .state) (now (heap .exit))) (ran (blockWords base) (wordsOf words) (take (24 * count) (now (records .entry))) count (see state (now (heap .entry)))) ⌝ }
+fn run_records(
+    records: &[u8],
+    count: usize,
+    g: Shape,
+    registers: &mut [u64; 16],
+    stack: &mut [u64],
+    heap: &mut [u64],
+    words: &[u64; 9],
+) -> machine::run::Answer
+    requires { ⌜ (24 * count ≤ length (now records)) × Supported g ⌝ }
+    ensures { λ r. ⌜ Leaves r (view (now (registers .exit)) (now (stack .exit)) (now (heap .exit))) (ran (blockWords g) (wordsOf (now (words .entry))) (take (24 * count) (now (records .entry))) count (view (now (registers .entry)) (now (stack .entry)) (now (heap .entry)))) ⌝ }
 {
     let end = 24 * count;
-    let block = config::block_words(config::base()) as usize;
-    machine::run::run(block, &records[..end], state, heap, words, count as u64)
+    let block = config::block_words(g) as usize;
+    machine::run::run_lent(
+        block,
+        &records[..end],
+        registers,
+        stack,
+        heap,
+        words,
+        count as u64,
+    )
 }
 
-// An order's bytes and the bindings that follow it, played on a channel: its records go into `records_out`, and run on the heap.
-pub fn play(
+// An order in the shape of the channel's frame.
+fn play_in(
+    g: Shape,
     channel: Channel,
     heap: &mut [u64],
     records_out: &mut [u8],
@@ -83,14 +133,19 @@ pub fn play(
     bindings: &[u8],
     words: [u64; 9],
 ) -> Played
-    ensures { λ r. ⌜ is.Plays base (is.channelOf channel (now (heap .entry))) (is.asking base (now (order .entry)) (now (bindings .entry)) counter (now («records_out» .entry))) (wordsOf words) (is.channelOf (r .channel) (now (heap .exit))) (r .answer) (r .ran) (now («records_out» .entry)) (now («records_out» .exit)) ⌝ }
+    requires { ⌜ (shapeOf (channel .frame) ≡ Of g) × Supported g ⌝ }
+    ensures { λ r. ⌜ (r .channel .frame ≡ channel .frame) × is.Plays g (is.channelOf g channel (now (heap .entry))) (is.asking g (now (order .entry)) (now (bindings .entry)) counter (now («records_out» .entry))) (wordsOf words) (is.channelOf g (r .channel) (now (heap .exit))) (r .answer) (r .ran) (now («records_out» .entry)) (now («records_out» .exit)) ⌝ }
 {
+    let room = (8 * ((g.spills + 11) / 2)) as usize;
+    let depth = (g.spills + 64) as usize;
     let context = channel.context;
-    let state = channel.state;
-    let mut after = [0u8; 1064];
+    let mut registers = channel.registers;
+    let mut stack = channel.stack;
+    let mut after = [0u8; CONTEXT];
     let answer = ask(
         records_out,
-        &mut after,
+        &mut after[..room],
+        channel.frame,
         &context,
         channel.used,
         counter,
@@ -104,16 +159,81 @@ pub fn play(
             ran: machine::run::Answer::Ended(0),
         };
     };
-    let ran = run_records(records_out, records, state, heap, words);
-    let left = ran.state;
-    let end = ran.answer;
+    let ran = run_records(
+        records_out,
+        records,
+        g,
+        &mut registers,
+        &mut stack[..depth],
+        heap,
+        &words,
+    );
     Played {
         channel: Channel {
+            frame: channel.frame,
             used: 8 * count,
             context: after,
-            state: left,
+            registers,
+            stack,
         },
         answer,
-        ran: end,
+        ran,
+    }
+}
+
+// An order where there is no such frame: it is answered, and nothing is played.
+fn refuse(
+    channel: Channel,
+    records_out: &mut [u8],
+    counter: u64,
+    order: &[u8],
+    bindings: &[u8],
+) -> Played
+    requires { ⌜ shapeOf (channel .frame) ≡ Unknown ⌝ }
+    ensures { λ r. ⌜ ((heap : List ℕ) → is.Stays channel (answering.asking (now (order .entry)) (now (bindings .entry)) counter (now («records_out» .entry)) []) (r .channel) heap heap (r .answer) (r .ran) (now («records_out» .entry)) (now («records_out» .exit))) ⌝ }
+{
+    let context = channel.context;
+    let mut none = [0u8; 1];
+    let answer = ask(
+        records_out,
+        &mut none,
+        channel.frame,
+        &context,
+        channel.used,
+        counter,
+        order,
+        bindings,
+    );
+    Played {
+        channel,
+        answer,
+        ran: machine::run::Answer::Ended(0),
+    }
+}
+
+// An order's bytes and the bindings that follow it, played on a channel: its records go into `records_out`, and run on the heap.
+pub fn play(
+    channel: Channel,
+    heap: &mut [u64],
+    records_out: &mut [u8],
+    counter: u64,
+    order: &[u8],
+    bindings: &[u8],
+    words: [u64; 9],
+) -> Played
+    ensures { λ r. ⌜ is.PlaysIn channel (now (order .entry)) (now (bindings .entry)) counter (wordsOf words) (r .channel) (now (heap .entry)) (now (heap .exit)) (r .answer) (r .ran) (now («records_out» .entry)) (now («records_out» .exit)) ⌝ }
+{
+    match config::shape_of(channel.frame) {
+        Framed::Of(g) => play_in(
+            g,
+            channel,
+            heap,
+            records_out,
+            counter,
+            order,
+            bindings,
+            words,
+        ),
+        Framed::Unknown => refuse(channel, records_out, counter, order, bindings),
     }
 }

@@ -3,7 +3,7 @@ use Prim.Native.Nat.{ℕ}
 use mathlib.Core.Path.{_≡_, ap, _∙_}
 use mathlib.Core.List.{List, [], _∷_}
 use Rattle.records.specs.declared.code.Code.{Code}
-use Rattle.layout.specs.declared.config.Shape.{Shape}
+use Rattle.layout.specs.declared.config.Framed.{Framed}
 use Rattle.emit.specs.declared.answer.Answer.{Answer}
 use Rattle.emit.specs.Answers.{Answers}
 use Rattle.routine.specs.Routine.{Assembles}
@@ -18,8 +18,8 @@ use Rattle.port.specs.Order.{TellsOrder}
 pub tells : {o o′ : List ℕ} {r expected : Answer} {cs : List Code} {number value : ℕ} → Answers o o′ r expected cs → number ∷ value ∷ [] ≡ answerNumbers r → Tells o o′ number value expected cs
 tells a e = record { numbers = e ∙ ap answerNumbers (a .answer); bytes = a .bytes }
 
-pub tells-routine : {g : Shape} {o o′ : List ℕ} {r expected : Answer} {n : ℕ} {body : List ℕ} {number value : ℕ} → Assembles g o o′ r expected n body → number ∷ value ∷ [] ≡ answerNumbers r → TellsRoutine g o o′ number value expected n body
+pub tells-routine : {o o′ : List ℕ} {r expected : Answer} {routine : List ℕ} {number value : ℕ} → Assembles o o′ r expected routine → number ∷ value ∷ [] ≡ answerNumbers r → TellsRoutine o o′ number value expected routine
 tells-routine a e = record { numbers = e ∙ ap answerNumbers (a .answer); bytes = a .bytes }
 
-pub tells-order : {g : Shape} {context o o′ a a′ : List ℕ} {q : Asked} {r : order.Answer} {number value bindings after : ℕ} → AnswersOrder g context q r o o′ a a′ → number ∷ value ∷ bindings ∷ [] ≡ orderNumbers r → after ≡ counterAfter (q .counter) r → TellsOrder g context q number value bindings after o o′ a a′
+pub tells-order : {f : Framed} {context o o′ a a′ : List ℕ} {q : Asked} {r : order.Answer} {number value bindings after : ℕ} → AnswersOrder f context q r o o′ a a′ → number ∷ value ∷ bindings ∷ [] ≡ orderNumbers r → after ≡ counterAfter (q .counter) r → TellsOrder f context q number value bindings after o o′ a a′
 tells-order {q = q} s e d = record { numbers = e ∙ ap orderNumbers (s .answer); counter = d ∙ ap (counterAfter (q .counter)) (s .answer); records = s .records; context-after = s .after }

@@ -7,8 +7,6 @@ use lib.Seq.{sets}
 use Rattle.records.specs.declared.code.Code.{Code}
 use Rattle.emit.specs.declared.answer.Answer.{Answer}
 use Rattle.emit.specs.Answers.{accepted, output}
-use Rattle.layout.specs.declared.config.Shape.{Shape}
-use Rattle.routine.specs.Routine.{routineBytes}
 use Rattle.numbered.specs.Emission.{answerNumbers}
 
 -- number and value, beside an output before and after, are those of an operation that answers so and writes the records cs
@@ -16,7 +14,7 @@ pub record Tells (o o′ : List ℕ) (number value : ℕ) (expected : Answer) (c
   pub numbers : number ∷ value ∷ [] ≡ answerNumbers expected
   pub bytes : o′ ≡ output expected o cs
 
--- the same for a routine
-pub record TellsRoutine (g : Shape) (o o′ : List ℕ) (number value : ℕ) (expected : Answer) (n : ℕ) (body : List ℕ) : Type 0 where
+-- the same for a routine's bytes
+pub record TellsRoutine (o o′ : List ℕ) (number value : ℕ) (expected : Answer) (routine : List ℕ) : Type 0 where
   pub numbers : number ∷ value ∷ [] ≡ answerNumbers expected
-  pub bytes : o′ ≡ cond (accepted expected) (sets o 0 (routineBytes g n body)) o
+  pub bytes : o′ ≡ cond (accepted expected) (sets o 0 routine) o

@@ -2,17 +2,16 @@
 // the value beside it is how many they are, the place of a bad record, or the bytes needed. An operation goes by a number.
 ghost use mathlib.Core.Path.{_≡_};
 ghost use lib.ListN.{length};
-ghost use Rattle.records.specs.Contexts.{checkedContext};
-ghost use Rattle.layout.specs.Config.{base};
-ghost use Rattle.operations.specs.Operations.{recordsOf, answerOf};
-ghost use Rattle.printing.specs.Print.{printAnswer, printRecords};
-ghost use Rattle.routine.specs.Routine.{routineAnswer};
+ghost use Rattle.operations.specs.Operations.{operateIn, recordsIn};
+ghost use Rattle.printing.specs.Print.{printIn, printRecordsIn};
+ghost use Rattle.routine.specs.Routine.{routineIn, routineBytesIn};
 ghost use Rattle.numbered.specs.Emission.{counterAfter, operationNumbered, memoryAnswer, memoryRecords};
 ghost use Rattle.port.specs.Emission.{Tells, TellsRoutine};
 
 // The operations of code.rs but print_i64. Operands stand in the Rust's sequence, the target first; those that an operation lacks are not read.
 #[no_mangle]
 pub extern "C" fn axcut_operation(
+    frame: u64,
     operation: u64,
     first: u64,
     second: u64,
@@ -22,7 +21,7 @@ pub extern "C" fn axcut_operation(
     out: &mut [u8],
     value: &mut u64,
 ) -> u64
-    ensures { λ r. ⌜ Tells (now (out .entry)) (now (out .exit)) r (now (value .exit)) (answerOf base (length (now (out .entry))) (operationNumbered operation first second third label immediate)) (recordsOf base (operationNumbered operation first second third label immediate)) ⌝ }
+    ensures { λ r. ⌜ Tells (now (out .entry)) (now (out .exit)) r (now (value .exit)) (operateIn frame (length (now (out .entry))) (operationNumbered operation first second third label immediate)) (recordsIn frame (operationNumbered operation first second third label immediate)) ⌝ }
 {
     let chosen = numbered::emission::operation_numbered(
         operation,
@@ -32,13 +31,14 @@ pub extern "C" fn axcut_operation(
         label,
         immediate,
     );
-    let answer = operations::operation::operate(out, chosen);
+    let answer = operations::operation::operate(out, frame, chosen);
     numbered::emission::told(answer, value)
 }
 
 // The operations of memory.rs: erase_block and share_block_n of an operand, a store of the context's last n variables, a load after the context.
 #[no_mangle]
 pub extern "C" fn axcut_memory(
+    frame: u64,
     operation: u64,
     operand: u64,
     n: u64,
@@ -48,11 +48,20 @@ pub extern "C" fn axcut_memory(
     out: &mut [u8],
     value: &mut u64,
 ) -> u64
-    ensures answer { λ r. ⌜ Tells (now (out .entry)) (now (out .exit)) r (now (value .exit)) (memoryAnswer base operation (now (counter .entry)) (length (now (out .entry))) operand n (now (context .entry)) (now (loaded .entry))) (memoryRecords base operation (now (counter .entry)) operand n (now (context .entry)) (now (loaded .entry))) ⌝ }
-    ensures counter { λ r. ⌜ now (counter .exit) ≡ counterAfter (now (counter .entry)) (memoryAnswer base operation (now (counter .entry)) (length (now (out .entry))) operand n (now (context .entry)) (now (loaded .entry))) ⌝ }
+    ensures answer { λ r. ⌜ Tells (now (out .entry)) (now (out .exit)) r (now (value .exit)) (memoryAnswer frame operation (now (counter .entry)) (length (now (out .entry))) operand n (now (context .entry)) (now (loaded .entry))) (memoryRecords frame operation (now (counter .entry)) operand n (now (context .entry)) (now (loaded .entry))) ⌝ }
+    ensures counter { λ r. ⌜ now (counter .exit) ≡ counterAfter (now (counter .entry)) (memoryAnswer frame operation (now (counter .entry)) (length (now (out .entry))) operand n (now (context .entry)) (now (loaded .entry))) ⌝ }
 {
     let before = *counter;
-    let answer = numbered::emission::memory(out, operation, before, operand, n, context, loaded);
+    let answer = numbered::emission::memory(
+        out,
+        frame,
+        operation,
+        before,
+        operand,
+        n,
+        context,
+        loaded,
+    );
     let after = numbered::emission::counter_after(answer, before);
     *counter = after;
     numbered::emission::told(answer, value)
@@ -60,27 +69,29 @@ pub extern "C" fn axcut_memory(
 
 #[no_mangle]
 pub extern "C" fn axcut_print(
+    frame: u64,
     newline: bool,
     source: u64,
     context: &[u8],
     out: &mut [u8],
     value: &mut u64,
 ) -> u64
-    ensures { λ r. ⌜ Tells (now (out .entry)) (now (out .exit)) r (now (value .exit)) (printAnswer base (length (now (out .entry))) newline source (now (context .entry)) (checkedContext (now (context .entry)))) (printRecords base newline source (now (context .entry)) (checkedContext (now (context .entry)))) ⌝ }
+    ensures { λ r. ⌜ Tells (now (out .entry)) (now (out .exit)) r (now (value .exit)) (printIn frame (length (now (out .entry))) newline source (now (context .entry))) (printRecordsIn frame newline source (now (context .entry))) ⌝ }
 {
-    let answer = printing::code::print_i64(out, newline, source, context);
+    let answer = printing::code::print_i64(out, frame, newline, source, context);
     numbered::emission::told(answer, value)
 }
 
 #[no_mangle]
 pub extern "C" fn axcut_routine(
+    frame: u64,
     body: &[u8],
     arguments: usize,
     out: &mut [u8],
     value: &mut u64,
 ) -> u64
-    ensures { λ r. ⌜ TellsRoutine base (now (out .entry)) (now (out .exit)) r (now (value .exit)) (routineAnswer base (length (now (out .entry))) arguments (now (body .entry))) arguments (now (body .entry)) ⌝ }
+    ensures { λ r. ⌜ TellsRoutine (now (out .entry)) (now (out .exit)) r (now (value .exit)) (routineIn frame (length (now (out .entry))) arguments (now (body .entry))) (routineBytesIn frame arguments (now (body .entry))) ⌝ }
 {
-    let answer = routine::into_routine::into_x86_64_routine(out, body, arguments);
+    let answer = routine::into_routine::into_x86_64_routine(out, frame, body, arguments);
     numbered::emission::told(answer, value)
 }

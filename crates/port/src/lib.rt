@@ -1,27 +1,30 @@
 // The library for C and Rust. A function answers document 01's number, 0 where its input is accepted; a value goes out beside it.
 ghost use mathlib.Core.Path.{_≡_};
-ghost use lib.ListN.{length};
+ghost use mathlib.Core.List.{[], _∷_};
+ghost use lib.ListN.{length, replicate};
 ghost use Rattle.records.specs.Bytes.{stored};
 ghost use Rattle.listing.specs.Names.{codeNames};
 ghost use Rattle.listing.specs.Listing.{listed, listedText};
 ghost use Rattle.instructions.specs.View.{view, wordsOf};
-ghost use Rattle.machine.specs.Run.{ran};
 ghost use Rattle.numbered.specs.Numbers.{numberIn, valueIn};
 ghost use Rattle.numbered.specs.List.{listedNumbers};
 ghost use Prim.Native.Nat.{_/_};
-ghost use Rattle.layout.specs.Config.{base, blockWords, HEAP, FREE};
+ghost use Rattle.layout.specs.Config.{Supported, base, blockWords, shapeOn, HEAP, FREE};
 ghost use Rattle.chains.specs.Blocks.{counted, fitIn};
 ghost use Rattle.port.specs.Blocks.{blockNumbers};
-ghost use Rattle.port.specs.Run.{startState, Gives};
+ghost use Rattle.port.specs.Run.{startState, Starts, unrun, Gives};
 
 pub mod check; // bytes checked: a context, instruction records, an order
 pub mod emission; // the operations of code.rs, memory.rs and into_routine.rs
 pub mod query; // the queries of utils.rs and config.rs
 pub mod order; // the seven orders
 
+use instructions::memory;
 use layout::config;
-use machine::state::DEPTH;
-use machine::state::State;
+use layout::config::Framed;
+use layout::config::Shape;
+use records::check::Checked;
+use records::code;
 
 // The listing of at most 2,730 records: its bytes, the place of a bad record, or the bytes needed.
 #[no_mangle]
@@ -34,58 +37,100 @@ pub extern "C" fn axcut_list(records: &[u8], text: &mut [u8], value: &mut u64) -
     numbered::list::told(answer, value)
 }
 
-fn start(fresh: bool) -> State
-    ensures { λ r. ⌜ r ≡ startState base fresh ⌝ }
+fn registers_of(g: Shape, fresh: bool) -> [u64; 16]
+    requires { ⌜ Supported g ⌝ }
+    ensures { λ r. ⌜ r ≡ startState g fresh .registers ⌝ }
 {
     if fresh {
-        machine::state::fresh()
+        machine::state::fresh_registers(g)
     } else {
-        machine::state::entry()
+        machine::state::entry_registers()
     }
 }
 
-// The state with which a routine is entered, or that a list of orders starts from.
-#[no_mangle]
-pub extern "C" fn axcut_start(fresh: bool, registers: &mut [u64; 16], stack: &mut [u64; DEPTH])
-    ensures registers { λ r. ⌜ now (registers .exit) ≡ startState base fresh .registers ⌝ }
-    ensures stack { λ r. ⌜ now (stack .exit) ≡ startState base fresh .stack ⌝ }
+fn clear(stack: &mut [u64])
+    ensures { λ r. ⌜ now (stack .exit) ≡ replicate (length (now (stack .entry))) 0 ⌝ }
 {
-    let state = start(fresh);
-    let words = state.registers;
-    let below = state.stack;
-    *registers = words;
-    *stack = below;
+    let mut i = 0;
+    while i < stack.len() {
+        stack[i] = 0;
+        i += 1;
+    }
+}
+
+// The state with which a routine is entered, or that a list of orders starts from, on a stack of the frame's words.
+#[no_mangle]
+pub extern "C" fn axcut_start(
+    frame: u64,
+    fresh: bool,
+    registers: &mut [u64; 16],
+    stack: &mut [u64],
+) -> u64
+    ensures { λ r. ⌜ Starts (shapeOn frame (length (now (stack .entry)))) fresh r (now (registers .entry)) (now (registers .exit)) (now (stack .entry)) (now (stack .exit)) ⌝ }
+{
+    match config::shape_on(frame, stack.len()) {
+        Framed::Unknown => 3,
+        Framed::Of(g) => {
+            let words = registers_of(g, fresh);
+            *registers = words;
+            clear(stack);
+            0
+        }
+    }
+}
+
+// What a run without a frame is answered.
+fn unrun(block: usize, records: &[u8], heap: usize, steps: &mut u64, place: &mut u64) -> u64
+    ensures { λ r. ⌜ r ∷ now (steps .exit) ∷ now (place .exit) ∷ [] ≡ unrun block (now (records .entry)) heap ⌝ }
+{
+    *steps = 0;
+    *place = 0;
+    if memory::heap_ok(block, heap) {} else {
+        return 2;
+    }
+    match code::check_codes(records, 65536) {
+        Checked::Malformed(bad) => {
+            *place = bad as u64;
+            2
+        }
+        Checked::Good(_) => 3,
+    }
 }
 
 // Document 01's run on a lent state, heap and print words: the answer's number, with the steps and the record's place that go with it.
 #[no_mangle]
 pub extern "C" fn axcut_run(
+    frame: u64,
     records: &[u8],
     registers: &mut [u64; 16],
-    stack: &mut [u64; DEPTH],
+    stack: &mut [u64],
     heap: &mut [u64],
     words: &[u64; 9],
     limit: u64,
     steps: &mut u64,
     place: &mut u64,
 ) -> u64
-    ensures { λ r. ⌜ Gives r (now (steps .exit)) (now (place .exit)) (view (now (registers .exit)) (now (stack .exit)) (now (heap .exit))) (ran (blockWords base) (wordsOf (now (words .entry))) (now (records .entry)) limit (view (now (registers .entry)) (now (stack .entry)) (now (heap .entry)))) ⌝ }
+    ensures { λ r. ⌜ Gives (shapeOn frame (length (now (stack .entry)))) (wordsOf (now (words .entry))) (now (records .entry)) limit (view (now (registers .entry)) (now (stack .entry)) (now (heap .entry))) (view (now (registers .exit)) (now (stack .exit)) (now (heap .exit))) r (now (steps .exit)) (now (place .exit)) ⌝ }
 {
-    let taken = *registers;
-    let held = *stack;
-    let state = State {
-        registers: taken,
-        stack: held,
-    };
-    let block = config::block_words(config::base()) as usize;
-    let ran = machine::run::run_lent(block, records, state, heap, *words, limit);
-    let left = ran.state;
-    let after = left.registers;
-    let below = left.stack;
-    *registers = after;
-    *stack = below;
-    let answer = ran.answer;
-    numbered::run::told(answer, steps, place)
+    match config::shape_on(frame, stack.len()) {
+        Framed::Unknown => {
+            let block = config::block_words(config::base()) as usize;
+            unrun(block, records, heap.len(), steps, place)
+        }
+        Framed::Of(g) => {
+            let block = config::block_words(g) as usize;
+            let answer = machine::run::run_lent(
+                block,
+                records,
+                registers,
+                stack,
+                heap,
+                words,
+                limit,
+            );
+            numbered::run::told(answer, steps, place)
+        }
+    }
 }
 
 // The blocks of a channel's heap between two runs, counted, and the most that were reachable at once.

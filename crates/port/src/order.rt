@@ -1,11 +1,12 @@
 // The seven orders for C and Rust: an order's bytes with the context, the label counter and the bindings that follow it.
 ghost use Rattle.answering.specs.Answers.{asking};
-ghost use Rattle.layout.specs.Config.{base};
+ghost use Rattle.layout.specs.Config.{shapeOf};
 ghost use Rattle.port.specs.Order.{TellsOrder};
 
 // Its records go into one output, the context after it into the other.
 #[no_mangle]
 pub extern "C" fn axcut_order(
+    frame: u64,
     context: &[u8],
     order: &[u8],
     bindings: &[u8],
@@ -15,12 +16,13 @@ pub extern "C" fn axcut_order(
     value: &mut u64,
     count: &mut u64,
 ) -> u64
-    ensures { λ r. ⌜ TellsOrder base (now (context .entry)) (asking (now (order .entry)) (now (bindings .entry)) (now (counter .entry)) (now («records_out» .entry)) (now («context_out» .entry))) r (now (value .exit)) (now (count .exit)) (now (counter .exit)) (now («records_out» .entry)) (now («records_out» .exit)) (now («context_out» .entry)) (now («context_out» .exit)) ⌝ }
+    ensures { λ r. ⌜ TellsOrder (shapeOf frame) (now (context .entry)) (asking (now (order .entry)) (now (bindings .entry)) (now (counter .entry)) (now («records_out» .entry)) (now («context_out» .entry))) r (now (value .exit)) (now (count .exit)) (now (counter .exit)) (now («records_out» .entry)) (now («records_out» .exit)) (now («context_out» .entry)) (now («context_out» .exit)) ⌝ }
 {
     let before = *counter;
     let answer = answering::order::order(
         records_out,
         context_out,
+        frame,
         context,
         before,
         order,

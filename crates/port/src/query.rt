@@ -1,13 +1,13 @@
 // Where variables and fields stand, for C and Rust: the queries of utils.rs and config.rs.
 ghost use mathlib.Core.Path.{_≡_};
 ghost use mathlib.Core.List.{[], _∷_};
-ghost use Rattle.layout.specs.Config.{base};
 ghost use Rattle.port.specs.Query.{queryNumbers};
 
 // 1 the operand of a position, 2 the fresh temporary past a context, 3 the temporary of a variable by its id, 4 a spill's offset from STACK,
-// 5 a field's offset in a block. `at` is the position, the spill's word or the field, 0 to 2.
+// 5 a field's offset in a block, whatever the frame. `at` is the position, the spill's word or the field, 0 to 2.
 #[no_mangle]
 pub extern "C" fn axcut_query(
+    frame: u64,
     query: u64,
     second: bool,
     at: u64,
@@ -15,14 +15,17 @@ pub extern "C" fn axcut_query(
     context: &[u8],
     value: &mut u64,
 ) -> u64
-    ensures { λ r. ⌜ r ∷ now (value .exit) ∷ [] ≡ queryNumbers base query second at id (now (context .entry)) ⌝ }
+    ensures { λ r. ⌜ r ∷ now (value .exit) ∷ [] ≡ queryNumbers frame query second at id (now (context .entry)) ⌝ }
 {
     let half = numbered::query::half_of(second);
     match query {
-        1 => numbered::query::located(layout::utils::position(at), value),
-        2 => numbered::query::located(layout::utils::fresh_temporary(half, context), value),
-        3 => numbered::query::located(layout::utils::variable_temporary(half, context, id), value),
-        4 => numbered::query::measured(layout::config::stack_offset(at), value),
+        1 => numbered::query::located(layout::utils::position(frame, at), value),
+        2 => numbered::query::located(layout::utils::fresh_temporary(frame, half, context), value),
+        3 => numbered::query::located(
+            layout::utils::variable_temporary(frame, half, context, id),
+            value,
+        ),
+        4 => numbered::query::measured(layout::config::stack_offset(frame, at), value),
         5 => numbered::query::measured(layout::config::field_offset(half, at), value),
         _ => {
             *value = 0;

@@ -1,5 +1,5 @@
 -- What print_i64 writes and answers. From code.rs, print_i64, save_caller_save_registers and restore_caller_save_registers, and document 01:
--- 'An even count of pushes, zero included, subtracts 8 from STACK'. Causes in rising order: 1 the context, 3 the source, 10 the room; no labels are drawn.
+-- 'An even count of pushes, zero included, subtracts 8 from STACK'. Causes in rising order: 1 the context, 3 the frame or the source, 10 the room; no labels are drawn.
 use Prim.Native.Nat.{ℕ, _+_, _*_, _-_, _%_}
 use mathlib.Core.Path.{_≡_, refl}
 use mathlib.Core.Bool.{Bool, true, cond}
@@ -14,9 +14,9 @@ use Rattle.records.specs.Contexts.{checkedContext, extAt}
 use Rattle.trees.specs.Tree.{Tree, straight, nop, leaf, seq, size, flat}
 use Rattle.emit.specs.declared.answer.Answer.{Answer}
 use Rattle.emit.specs.declared.answer.Answer.the-variants.{Context, Operand}
-use Rattle.emit.specs.Answers.{granted, Answers}
+use Rattle.emit.specs.Answers.{unframed, granted, Answers}
 use Rattle.layout.specs.declared.config.Shape.{Shape}
-use Rattle.layout.specs.Config.{STACK, TEMP, stackOffset}
+use Rattle.layout.specs.Config.{STACK, TEMP, stackOffset, inFrame}
 use Rattle.layout.specs.Positions.{operandOk}
 use Rattle.printing.specs.Registers.{registersToSave, firstBackup, backupsUsed}
 
@@ -90,7 +90,14 @@ abbrev pub printRecords : Shape → Bool → ℕ → List ℕ → Checked → Li
 printRecords g newline w s (Good n) = flat (printI64 g newline w (extAt s) n) 0
 printRecords g newline w s (Malformed place) = []
 
--- what print_i64 ensures of the output before and after, and of its answer, in the context s
-abbrev pub Prints : Shape → List ℕ → List ℕ → Answer → Bool → ℕ → List ℕ → Type 0
-Prints g o o′ r newline w s =
-    Answers o o′ r (printAnswer g (length o) newline w s (checkedContext s)) (printRecords g newline w s (checkedContext s))
+-- its answer and its records in a frame of so many spills, in the context s
+abbrev pub printIn : ℕ → ℕ → Bool → ℕ → List ℕ → Answer
+printIn frame room newline w s =
+    inFrame frame (λ g. printAnswer g room newline w s (checkedContext s)) (unframed (checkedContext s))
+
+abbrev pub printRecordsIn : ℕ → Bool → ℕ → List ℕ → List Code
+printRecordsIn frame newline w s = inFrame frame (λ g. printRecords g newline w s (checkedContext s)) []
+
+-- what print_i64 ensures of the output before and after, and of its answer
+abbrev pub Prints : ℕ → List ℕ → List ℕ → Answer → Bool → ℕ → List ℕ → Type 0
+Prints frame o o′ r newline w s = Answers o o′ r (printIn frame (length o) newline w s) (printRecordsIn frame newline w s)

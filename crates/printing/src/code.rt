@@ -3,16 +3,17 @@ ghost use mathlib.Core.Path.{_≡_};
 ghost use Prim.Native.Nat.{_+_, _*_, _≤_, _<_, _^_};
 ghost use lib.ListN.{length};
 ghost use Rattle.records.specs.declared.check.Checked.the-variants.{Good};
-ghost use Rattle.records.specs.Contexts.{extAt};
+ghost use Rattle.records.specs.Contexts.{checkedContext, extAt};
 ghost use Rattle.emit.specs.Answers.{Answers};
 ghost use Rattle.emit.specs.Emitted.{Emits};
-ghost use Rattle.layout.specs.Config.{Supported, base, operands};
+ghost use Rattle.layout.specs.Config.{Supported, operands};
 ghost use Rattle.printing.specs.Print.{sourceToTemp, sourceRegister, printName, callPrint, printI64, printAnswer, printRecords, Prints};
 use crate::registers;
 use crate::save;
 use emit::answer::Answer;
 use emit::cursor::Cursor;
 use emit::cursor::Row;
+use layout::config::Framed;
 use layout::config::STACK;
 use layout::config::Shape;
 use layout::config::TEMP;
@@ -121,15 +122,18 @@ fn print_checked(
 }
 
 // Prints the integer in the source operand, with a newline if asked. The context's variables are kept.
-pub fn print_i64(out: &mut [u8], newline: bool, source: u64, context: &[u8]) -> Answer
-    ensures { λ r. ⌜ Prints base (now (out .entry)) (now (out .exit)) r newline source (now (context .entry)) ⌝ }
+pub fn print_i64(out: &mut [u8], frame: u64, newline: bool, source: u64, context: &[u8]) -> Answer
+    ensures { λ r. ⌜ Prints frame (now (out .entry)) (now (out .exit)) r newline source (now (context .entry)) ⌝ }
 {
-    print_i64_in(out, layout::config::base(), newline, source, context)
+    match layout::config::shape_of(frame) {
+        Framed::Of(g) => print_i64_in(out, g, newline, source, context),
+        Framed::Unknown => emit::answer::unframed(context),
+    }
 }
 
 fn print_i64_in(out: &mut [u8], g: Shape, newline: bool, source: u64, context: &[u8]) -> Answer
     requires { ⌜ Supported g ⌝ }
-    ensures { λ r. ⌜ Prints g (now (out .entry)) (now (out .exit)) r newline source (now (context .entry)) ⌝ }
+    ensures { λ r. ⌜ Answers (now (out .entry)) (now (out .exit)) r (printAnswer g (length (now (out .entry))) newline source (now (context .entry)) (checkedContext (now (context .entry)))) (printRecords g newline source (now (context .entry)) (checkedContext (now (context .entry)))) ⌝ }
 {
     match records::binding::check_context(context) {
         Checked::Good(n) => print_checked(out, g, newline, source, context, n),

@@ -32,12 +32,12 @@ fn replay_filled(out: &mut [u8], r: Request, first: &mut [u8], second: &mut [u8]
 }
 
 fn replay_one(out: &mut [u8], first: &mut [u8], second: &mut [u8]) -> Agreed {
-    let mut head = [0u8; 52];
+    let mut head = [0u8; 56];
     let got = io::read_full(STDIN_FILENO, &mut head);
     if got == 0 {
         return Agreed::Ended;
     }
-    if got < 52 {
+    if got < 56 {
         return Agreed::No;
     }
     let r = request::request_in(&head);
@@ -76,7 +76,7 @@ fn replay_all(out: &mut [u8], first: &mut [u8], second: &mut [u8]) -> Tally {
 }
 
 fn main() {
-    let mut out = [0u8; 131072];
+    let mut out = [0u8; 262144];
     let mut first = io::large_buffer();
     let mut second = io::large_buffer();
     let tally = replay_all(&mut out, &mut first, &mut second);

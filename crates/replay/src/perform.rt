@@ -95,19 +95,25 @@ fn operation(r: Request) -> Operation {
     }
 }
 
-// A spill's word; past the last spill 0, which is none's.
+// A spill's word; past the largest frame 0, which is none's.
 fn word_of(spill: u64) -> u64 {
-    if spill < 256 { 16 + spill } else { 0 }
+    let frame = layout::config::larger();
+    if spill < frame.spills { 16 + spill } else { 0 }
 }
 
 // Queries 20 to 24; any other number is no request.
 fn ask(r: Request, context: &[u8]) -> Answered {
     let number = r.operation;
     match number {
-        20 => of_temporary(layout::utils::position(r.x)),
-        21 => of_temporary(layout::utils::fresh_temporary(half(r.kind), context)),
-        22 => of_temporary(layout::utils::variable_temporary(half(r.kind), context, r.label)),
-        23 => of_offset(layout::config::stack_offset(word_of(r.x))),
+        20 => of_temporary(layout::utils::position(r.frame, r.x)),
+        21 => of_temporary(layout::utils::fresh_temporary(r.frame, half(r.kind), context)),
+        22 => of_temporary(layout::utils::variable_temporary(
+            r.frame,
+            half(r.kind),
+            context,
+            r.label,
+        )),
+        23 => of_offset(layout::config::stack_offset(r.frame, word_of(r.x))),
         24 => of_offset(layout::config::field_offset(half(r.kind), r.x)),
         _ => Answered {
             number: 2,
@@ -120,16 +126,21 @@ fn ask(r: Request, context: &[u8]) -> Answered {
 // The second context is that which a load's variables come after.
 pub fn perform(out: &mut [u8], r: Request, first: &[u8], second: &[u8]) -> Answered {
     if r.operation < 14 {
-        return of_answer(operations::operation::operate(out, operation(r)));
+        return of_answer(operations::operation::operate(out, r.frame, operation(r)));
     }
     let number = r.operation;
     match number {
-        14 => of_answer(printing::code::print_i64(out, r.kind == 1, r.x, first)),
-        15 => of_answer(memory::block::erase_block(out, r.counter, r.x)),
-        16 => of_answer(memory::block::share_block_n(out, r.counter, r.x, r.z)),
-        17 => of_answer(storing::store::store(out, r.counter, first, r.z)),
-        18 => of_answer(loading::load::load(out, r.counter, first, second)),
-        19 => of_answer(routine::into_routine::into_x86_64_routine(out, first, r.z as usize)),
+        14 => of_answer(printing::code::print_i64(out, r.frame, r.kind == 1, r.x, first)),
+        15 => of_answer(memory::block::erase_block(out, r.frame, r.counter, r.x)),
+        16 => of_answer(memory::block::share_block_n(out, r.frame, r.counter, r.x, r.z)),
+        17 => of_answer(storing::store::store(out, r.frame, r.counter, first, r.z)),
+        18 => of_answer(loading::load::load(out, r.frame, r.counter, first, second)),
+        19 => of_answer(routine::into_routine::into_x86_64_routine(
+            out,
+            r.frame,
+            first,
+            r.z as usize,
+        )),
         _ => ask(r, first),
     }
 }

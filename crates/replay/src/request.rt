@@ -1,4 +1,4 @@
-// A request and the Rust's answer in 52 bytes, as docs/FORMATS.md has it. Contexts, or a body, follow.
+// A request and the Rust's answer in 56 bytes, as docs/FORMATS.md has it. Contexts, or a body, follow.
 use records::bytes;
 
 pub struct Request {
@@ -20,9 +20,11 @@ pub struct Request {
     pub value: u64,
     pub after: u64,
     pub sum: u64,
+    // how many spills the frame has
+    pub frame: u64,
 }
 
-pub fn request_in(head: &[u8; 52]) -> Request {
+pub fn request_in(head: &[u8; 56]) -> Request {
     let s = &head[..];
     Request {
         operation: s[0],
@@ -38,5 +40,6 @@ pub fn request_in(head: &[u8; 52]) -> Request {
         value: bytes::number4(s, 36) as u64,
         after: bytes::number4(s, 40) as u64,
         sum: bytes::number8(s, 44),
+        frame: bytes::number4(s, 52) as u64,
     }
 }

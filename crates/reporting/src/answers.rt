@@ -1,15 +1,16 @@
 // The line of an order's answer.
 ghost use mathlib.Core.List.{_++_};
-ghost use Prim.Native.Nat.{_+_, _≤_};
+ghost use Prim.Native.Nat.{ℕ, _+_, _-_, _≤_};
 ghost use lib.ListN.{length};
 ghost use Rattle.records.specs.Orders.{orderRead};
+ghost use Rattle.text.specs.Text.{ascii};
 ghost use Rattle.text.specs.Putting.{farthest, Puts};
-ghost use Rattle.layout.specs.Config.{Supported, base};
+ghost use Rattle.layout.specs.Config.{Supported, positions};
 ghost use Rattle.orders.specs.Answered.{causeOf};
 ghost use Rattle.reporting.specs.Parts.{counted};
 ghost use Rattle.reporting.specs.Answers.{orderName, readName, start, refusal, acceptance, outcome, orderLine};
 use crate::parts;
-use layout::config;
+use layout::config::Framed;
 use layout::config::Shape;
 use orders::answer::Answer;
 use records::order::Order;
@@ -71,7 +72,7 @@ fn put_refused(text: &mut [u8], at: usize, number: u64, words: &[u8]) -> usize
 
 fn put_malformed(text: &mut [u8], at: usize, place: u64) -> usize
     requires { ⌜ at + 87 ≤ farthest ⌝ }
-    ensures { λ r. ⌜ ((g : Shape) → Puts 87 (now (text .entry)) at (now (text .exit)) r (refusal g (causeOf (Answer.Malformed place)))) ⌝ }
+    ensures { λ r. ⌜ ((frame : ℕ) → Puts 87 (now (text .entry)) at (now (text .exit)) r (refusal frame (causeOf (Answer.Malformed place)))) ⌝ }
 {
     let next = parts::put_count(text, at, b"refused 2 at place ", place);
     text::put_bytes(
@@ -83,32 +84,38 @@ fn put_malformed(text: &mut [u8], at: usize, place: u64) -> usize
 
 fn put_short(text: &mut [u8], at: usize, bytes: u64) -> usize
     requires { ⌜ at + 69 ≤ farthest ⌝ }
-    ensures { λ r. ⌜ ((g : Shape) → Puts 69 (now (text .entry)) at (now (text .exit)) r (refusal g (causeOf (Answer.Room bytes)))) ⌝ }
+    ensures { λ r. ⌜ ((frame : ℕ) → Puts 69 (now (text .entry)) at (now (text .exit)) r (refusal frame (causeOf (Answer.Room bytes)))) ⌝ }
 {
     let needed = parts::put_count(text, at, b"refused 10, ", bytes);
     let next = text::put_bytes(text, needed, b" bytes needed");
     text::put_bytes(text, next, b", an output is too short")
 }
 
-// The last position is named.
-fn put_position(text: &mut [u8], at: usize, g: Shape) -> usize
-    requires { ⌜ (at + 75 ≤ farthest) × Supported g ⌝ }
-    ensures { λ r. ⌜ Puts 75 (now (text .entry)) at (now (text .exit)) r (refusal g (causeOf Answer.Position)) ⌝ }
+fn put_last(text: &mut [u8], at: usize, g: Shape) -> usize
+    requires { ⌜ (at + 46 ≤ farthest) × Supported g ⌝ }
+    ensures { λ r. ⌜ Puts 46 (now (text .entry)) at (now (text .exit)) r (counted ", a position above " (positions g - 1) ++ ascii " needed") ⌝ }
 {
     let last = g.spills + 10;
-    let next = parts::put_count(
-        text,
-        at,
-        b"refused 8, too many variables, a position above ",
-        last,
-    );
+    let next = parts::put_count(text, at, b", a position above ", last);
     text::put_bytes(text, next, b" needed")
 }
 
+// The frame's last position is named.
+fn put_position(text: &mut [u8], at: usize, frame: u64) -> usize
+    requires { ⌜ at + 75 ≤ farthest ⌝ }
+    ensures { λ r. ⌜ Puts 75 (now (text .entry)) at (now (text .exit)) r (refusal frame (causeOf Answer.Position)) ⌝ }
+{
+    let next = text::put_bytes(text, at, b"refused 8, too many variables");
+    match layout::config::shape_of(frame) {
+        Framed::Of(g) => put_last(text, next, g),
+        Framed::Unknown => next,
+    }
+}
+
 // What was answered; `before` is the label counter that went in.
-fn put_outcome(text: &mut [u8], at: usize, g: Shape, before: u64, answer: Answer) -> usize
-    requires { ⌜ (at + 90 ≤ farthest) × Supported g ⌝ }
-    ensures { λ r. ⌜ Puts 90 (now (text .entry)) at (now (text .exit)) r (outcome g before answer) ⌝ }
+fn put_outcome(text: &mut [u8], at: usize, frame: u64, before: u64, answer: Answer) -> usize
+    requires { ⌜ at + 90 ≤ farthest ⌝ }
+    ensures { λ r. ⌜ Puts 90 (now (text .entry)) at (now (text .exit)) r (outcome frame before answer) ⌝ }
 {
     match answer {
         Answer::Accepted(records, counter, _) => {
@@ -116,6 +123,7 @@ fn put_outcome(text: &mut [u8], at: usize, g: Shape, before: u64, answer: Answer
         }
         Answer::Context => put_refused(text, at, 1, b", malformed context or bindings"),
         Answer::Malformed(place) => put_malformed(text, at, place as u64),
+        Answer::Frame => put_refused(text, at, 3, b", a frame has 256 or 512 spills"),
         Answer::Missing => put_refused(
             text,
             at,
@@ -124,7 +132,7 @@ fn put_outcome(text: &mut [u8], at: usize, g: Shape, before: u64, answer: Answer
         ),
         Answer::Kind => put_refused(text, at, 5, b", a variable of the wrong kind for the order"),
         Answer::Count => put_refused(text, at, 7, b", a copy's count above 2147483647"),
-        Answer::Position => put_position(text, at, g),
+        Answer::Position => put_position(text, at, frame),
         Answer::Labels => put_refused(
             text,
             at,
@@ -135,34 +143,20 @@ fn put_outcome(text: &mut [u8], at: usize, g: Shape, before: u64, answer: Answer
     }
 }
 
-// The line of the order with a number, from 1, that was given the label counter `before`.
+// The line of the order with a number, from 1, that was answered in a frame with the label counter `before`.
 pub fn put_order(
     text: &mut [u8],
     at: usize,
+    frame: u64,
     number: u64,
     order: &[u8],
     before: u64,
     answer: Answer,
 ) -> usize
     requires { ⌜ at + 121 ≤ farthest ⌝ }
-    ensures { λ r. ⌜ Puts 121 (now (text .entry)) at (now (text .exit)) r (orderLine base number (now (order .entry)) before answer) ⌝ }
-{
-    put_order_in(text, at, config::base(), number, order, before, answer)
-}
-
-pub fn put_order_in(
-    text: &mut [u8],
-    at: usize,
-    g: Shape,
-    number: u64,
-    order: &[u8],
-    before: u64,
-    answer: Answer,
-) -> usize
-    requires { ⌜ (at + 121 ≤ farthest) × Supported g ⌝ }
-    ensures { λ r. ⌜ Puts 121 (now (text .entry)) at (now (text .exit)) r (orderLine g number (now (order .entry)) before answer) ⌝ }
+    ensures { λ r. ⌜ Puts 121 (now (text .entry)) at (now (text .exit)) r (orderLine frame number (now (order .entry)) before answer) ⌝ }
 {
     let said = put_start(text, at, number, order);
-    let end = put_outcome(text, said, g, before, answer);
+    let end = put_outcome(text, said, frame, before, answer);
     text::put_byte(text, end, b'\n')
 }

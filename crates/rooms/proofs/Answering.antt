@@ -14,13 +14,13 @@ use Rattle.records.specs.Contexts.{checkedContext}
 use Rattle.records.specs.Orders.{orderStarts}
 use Rattle.trees.specs.Tree.{Tree, labels, size}
 use Rattle.layout.specs.declared.config.Shape.{Shape}
-use Rattle.layout.specs.Config.{Supported, base, positions, mostVariables}
-use Rattle.layout.proofs.Placing.{base-supported}
+use Rattle.layout.specs.Config.{Supported, positions, mostVariables}
 use Rattle.memory.specs.Answered.{variablesIn}
 use Rattle.orders.specs.declared.answer.Answer.{Answer}
-use Rattle.orders.specs.declared.answer.Answer.the-variants.{Accepted, Context, Malformed, Missing, Kind, Count, Position, Labels, Room}
+use Rattle.orders.specs.declared.answer.Answer.the-variants.{Accepted, Context, Malformed, Frame, Missing, Kind, Count, Position, Labels, Room}
 use Rattle.orders.specs.Writes.{wanted, countOk, treeOf, contextAfter, present, kindsOk, asked}
-use Rattle.orders.specs.Answered.{Asked, accepted, orderIs, placesIn, orderContext, granted, decided, onContext, answerTo}
+use Rattle.orders.specs.Answered.{Asked, accepted, orderIs, placesIn, orderContext, granted, onContext, answerTo}
+use Rattle.orders.proofs.Accepting.{all-passed, all-judged}
 use Rattle.judging.proofs.Leaving.{context-long, after-long}
 use Rattle.rooms.specs.Sizes.{roomForRecords, roomForContext}
 use Rattle.rooms.proofs.OrderSizes.{order-most, few-left}
@@ -30,6 +30,7 @@ early : Answer → Bool
 early (Accepted records counter bindings) = false
 early Context = true
 early (Malformed place) = true
+early Frame = true
 early Missing = true
 early Kind = true
 early Count = true
@@ -53,18 +54,6 @@ unfolding early
 on-good (checked.Good k) f e = (k, refl, e)
 on-good (checked.Malformed place) f e = let z : _≡_ {A = ℕ} 0 1 = cc in absurd (omega arith)
 
--- an order that passes 1 and 2, and one that passes 4 to 8
-module _ (g : Shape) (context : List ℕ) (q : Asked) (k : ℕ) where
-  read-well : {m : ℕ} → checkedContext context ≡ checked.Good k → checkedContext (q .bindings) ≡ checked.Good m → orderStarts (q .order) ≡ true
-      → eqb m (wanted (orderIs q)) ≡ true → eqb (length (q .order)) 24 ≡ true → answerTo g context q ≡ decided g context k q
-  unfolding answerTo
-  read-well c b s n w = rw (c, b, s, n, w)
-
-  judged-well : present context k (q .bindings) (orderIs q) ≡ true → kindsOk context k (q .bindings) (orderIs q) ≡ true → countOk (orderIs q) ≡ true
-      → leb (asked context k (q .bindings) (orderIs q)) (positions g) ≡ true
-      → decided g context k q ≡ granted q (treeOf g context k (q .bindings) (orderIs q)) (contextAfter context k (q .bindings) (orderIs q))
-  judged-well a b c d = rw (a, b, c, d)
-
 passed : (g : Shape) (context : List ℕ) (q : Asked) → early (answerTo g context q) ≡ false → (k : ℕ) × (checkedContext context ≡ checked.Good k) × Passed g context q k
 unfolding answerTo early
 passed g context q e =
@@ -84,7 +73,7 @@ passed g context q e =
         bindings-good = b .1 ∙ ap checked.Good (eqb-true (b .0) (wanted (orderIs q)) (d .0));
         there = p .0;
         placed = leb-true (asked context k (q .bindings) (orderIs q)) (positions g) (h .0);
-        answer = read-well g context q k (a .1) (b .1) (c .0) (d .0) (f .0) ∙ judged-well g context q k (p .0) (s .0) (n .0) (h .0);
+        answer = all-passed g context q (a .1) (b .1) (c .0) (d .0) (f .0) ∙ all-judged g context q k (p .0) (s .0) (n .0) (h .0);
       },
     )
 
@@ -111,6 +100,7 @@ unfolding early
 accepted-late (Accepted records counter bindings) e = refl
 accepted-late Context e = sym e
 accepted-late (Malformed place) e = sym e
+accepted-late Frame e = sym e
 accepted-late Missing e = sym e
 accepted-late Kind e = sym e
 accepted-late Count e = sym e
@@ -138,15 +128,13 @@ module _ (g : Shape) (s : Supported g) (context : List ℕ) (q : Asked) (few : p
       let p = passed g context q (accepted-late (answerTo g context q) e) in
       few-places g (orderContext context q) (rw (p .1) (context-few (p .0) (p .1) (p .2)))
 
--- of the shape that the sizes of buffers are for
-module _ (context : List ℕ) (q : Asked) (few : placesIn context ≤ mostVariables base) where
-  pub room-enough : roomForRecords ≤ q .recordsRoom → roomForContext ≤ q .contextRoom → (bytes : ℕ) → answerTo base context q ≢ Room bytes
+  pub room-enough : roomForRecords g ≤ q .recordsRoom → roomForContext g ≤ q .contextRoom → (bytes : ℕ) → answerTo g context q ≢ Room bytes
   unfolding early
   room-enough r l bytes e =
-      let p = passed base context q (ap early e) in
+      let p = passed g context q (ap early e) in
       let k = p .0 in
-      let t = treeOf base context k (q .bindings) (orderIs q) in
+      let t = treeOf g context k (q .bindings) (orderIs q) in
       let after = contextAfter context k (q .bindings) (orderIs q) in
-      let o = order-most context k (q .bindings) (orderIs q) (p .2 .there) (p .2 .placed) in
-      let c = context-few base base-supported context q few k (p .1) (p .2) in
+      let o = order-most context k (q .bindings) g s (orderIs q) (p .2 .there) (p .2 .placed) in
+      let c = context-few k (p .1) (p .2) in
       no-room-wanted q t after (omega arith) (omega arith) bytes (sym (p .2 .answer) ∙ e)

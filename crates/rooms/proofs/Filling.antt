@@ -1,87 +1,114 @@
--- Orders that reach the bounds on records, and that need the whole room for records or for the context: by computation.
-use Prim.Native.Nat.{ℕ, _*_}
+-- Orders that reach the bounds on records, by computation, and that need the whole room for records or for the context.
+use Prim.Native.Nat.{ℕ, zero, suc, _+_, _*_, _-_, _≤_, _<_}
 use mathlib.Core.Path.{_≡_, refl, _∙_}
-use mathlib.Core.List.{List, []}
+use mathlib.Core.Bool.{true}
+use mathlib.Core.List.{List, [], append-nil}
 use native.Mathlib.Omega.{arith}
-use lib.ListN.{length}
+use lib.ListN.{replicate, length-replicate}
+use borrow.Author.Tests.{le-leb, ne-eqb}
+use Rattle.records.specs.declared.check.Checked.the-variants.{Good}
+use Rattle.records.specs.declared.binding.Kind.{Kind}
 use Rattle.records.specs.declared.binding.Kind.the-variants.{Linked, Ext}
+use Rattle.records.specs.declared.binding.Binding.{Binding}
+use Rattle.records.specs.declared.order.Order.{Order}
 use Rattle.records.specs.declared.order.Order.the-variants.{Put, Store}
-use Rattle.records.specs.Bytes.{le, number}
-use Rattle.records.specs.Checked.{checked, firstBad}
-use Rattle.records.specs.Contexts.{bindingBytes, bindingStarts}
-use Rattle.records.specs.Orders.{orderBytes, orderIn, orderOf, orderReaders, orderOk, orderOperandsOk, usedByOrder, orderStarts}
-use Rattle.trees.specs.Tree.{Tree, labels, size}
-use Rattle.layout.specs.Config.{base}
+use Rattle.records.specs.Bytes.{le}
+use Rattle.records.specs.Contexts.{bindingBytes, checkedContext}
+use Rattle.records.specs.Orders.{orderOf, orderReaders, orderOk, orderOperandsOk, usedByOrder}
+use Rattle.records.specs.ReadBack.{Each, WellFormedBinding, WellFormedOrder}
+use Rattle.records.proofs.OrdersBack.{order-laws}
+use Rattle.records.proofs.ReadBack.{records-read-back}
+use Rattle.trees.specs.Tree.{labels}
+use Rattle.layout.specs.declared.config.Shape.{Shape}
+use Rattle.layout.specs.Config.{Supported, shapeOf, positions, mostVariables}
 use Rattle.layout.specs.Positions.{location}
-use Rattle.orders.specs.Writes.{treeOf, contextAfter, present, kindsOk, asked}
-use Rattle.orders.specs.Answered.{Asked, granted, answerTo}
-use Rattle.rooms.specs.Sizes.{roomForRecords, roomForContext}
-use Rattle.rooms.specs.Claims.{variables, ordering, OrdersFill}
+use Rattle.memory.specs.Objects.{snd, extIn}
+use Rattle.memory.specs.Sizes.{store-object-size, immediate-size}
+use Rattle.orders.specs.declared.answer.Answer.the-variants.{Room}
+use Rattle.orders.specs.Writes.{wanted, countOk, treeOf, contextAfter, present, kindsOk, asked}
+use Rattle.orders.specs.Answered.{Asked, orderIs, granted, answerTo}
+use Rattle.orders.proofs.Accepting.{all-passed, all-judged}
+use Rattle.judging.proofs.Leaving.{context-long, after-long}
+use Rattle.rooms.specs.Sizes.{variables, storeOfAll, roomForRecords, roomForContext}
+use Rattle.rooms.specs.Claims.{ordering, RoomsByFrame, OrdersFill}
 use Rattle.rooms.proofs.Answering.{records-short, context-short}
+use Rattle.rooms.proofs.OrderSizes.{order-most}
 
--- a store of 133 linked variables: its context, its records, the context after it
-abbrev all : List ℕ
-all = variables Linked 133
+-- a context of so many variables is accepted
+module _ (kind : Kind) where
+  each : (n : ℕ) → Each WellFormedBinding (replicate n (record { kind = kind; id = 0 }))
+  each zero = tt
+  each (suc n) = (omega arith, each n)
 
-abbrev stored : Tree
-stored = treeOf base all 133 [] (Store 133 0)
+  variables-good : (n : ℕ) → n ≤ 4096 → checkedContext (variables kind n) ≡ Good n
+  variables-good n h =
+      let b : Binding = record { kind = kind; id = 0 } in
+      rw (length-replicate {A = Binding} n b) at (records-read-back .context-accepted (replicate n b) (each n) (rw (length-replicate {A = Binding} n b) h))
 
-abbrev afterStore : List ℕ
-afterStore = contextAfter all 133 [] (Store 133 0)
+-- an order alone on such a context, which nothing before 9 refuses
+module _ (g : Shape) (context : List ℕ) (k : ℕ) (good : checkedContext context ≡ Good k) (o : Order) (w : WellFormedOrder o) (alone : wanted o ≡ 0) (records after : ℕ) where
+  abbrev q : Asked
+  q = ordering o records after
 
--- a put on 132 integers
-abbrev allButOne : List ℕ
-allButOne = variables Ext 132
+  is : orderIs q ≡ o
+  is = rw append-nil at (order-laws .same o [] w)
 
-abbrev put : Tree
-put = treeOf base allButOne 132 [] (Put 0)
+  none-good : checkedContext [] ≡ Good 0
+  none-good = records-read-back .context-accepted [] tt (omega arith)
 
-abbrev afterPut : List ℕ
-afterPut = contextAfter allButOne 132 [] (Put 0)
+  ordered : present context k [] o ≡ true → kindsOk context k [] o ≡ true → countOk o ≡ true → asked context k [] o ≤ positions g
+      → answerTo g context q ≡ granted q (treeOf g context k [] o) (contextAfter context k [] o)
+  ordered p n c h =
+      let starts = rw append-nil at (order-laws .good o [] w) in
+      rw is at
+      (all-passed g context q good none-good starts (rw (is, alone)) (rw (order-laws .long o))
+      ∙ all-judged g context q k (rw is p) (rw is n) (rw is c) (rw is (le-leb (asked context k [] o) (positions g) h)))
 
--- neither is refused before 9
-module _ (room : ℕ) where
-  abbrev storing : Asked
-  storing = ordering (Store 133 0) room roomForContext
+module _ (g : Shape) (s : Supported g) (room : ℕ) where
+  abbrev most : ℕ
+  most = mostVariables g
 
-  abbrev putting : Asked
-  putting = ordering (Put 0) roomForRecords room
+  stored : WellFormedOrder (Store most 0)
+  unfolding orderOk orderOperandsOk usedByOrder orderOf orderReaders
+  stored = record { a-fits = omega arith; b-fits = omega arith; n-fits = omega (arith, s .frame); value-fits = omega arith; ok = refl }
 
-  store-passed : answerTo base all storing ≡ granted storing stored afterStore
-  unfolding le checked firstBad bindingBytes bindingStarts answerTo number orderBytes orderIn orderOf orderReaders orderOk orderOperandsOk usedByOrder orderStarts present kindsOk asked
-  store-passed = refl
+  store-labels : labels (storeOfAll g) ≤ 10 * most + 100
+  unfolding treeOf
+  store-labels = omega (arith, store-object-size g (extIn (variables Linked most) 0) s (most - most) most .0, immediate-size g (snd (most - most)) 0 .0)
 
-  put-passed : answerTo base allButOne putting ≡ granted putting put afterPut
-  unfolding le checked firstBad bindingBytes bindingStarts answerTo number orderBytes orderIn orderOf orderReaders orderOk orderOperandsOk usedByOrder orderStarts present kindsOk asked
-  put-passed = refl
+  records-needed : room < roomForRecords g → answerTo g (variables Linked most) (ordering (Store most 0) room (roomForContext g)) ≡ Room (roomForRecords g)
+  unfolding present kindsOk asked
+  records-needed h =
+      let context : List ℕ = variables Linked most in
+      ordered g context most (variables-good Linked most (omega (arith, s .frame))) (Store most 0) stored refl room (roomForContext g)
+      (le-leb most most (omega arith)) refl refl (rw (ne-eqb most 0 (λ e. omega (arith, s .aside))) (omega arith))
+      ∙ records-short (ordering (Store most 0) room (roomForContext g)) (storeOfAll g) (contextAfter context most [] (Store most 0)) (omega (arith, store-labels, s .frame)) refl h
 
-store-size : 24 * size stored ≡ roomForRecords
-unfolding treeOf location bindingBytes le
-store-size = refl
+  -- a put on all but one
+  abbrev before : List ℕ
+  before = variables Ext (most - 1)
 
-store-labels : labels stored ≡ 858
-unfolding treeOf location bindingBytes le
-store-labels = refl
+  put : WellFormedOrder (Put 0)
+  unfolding orderOk orderOperandsOk usedByOrder orderOf orderReaders
+  put = record { a-fits = omega arith; b-fits = omega arith; n-fits = omega arith; value-fits = omega arith; ok = refl }
 
-put-size : size put ≡ 1
-unfolding treeOf location
-put-size = refl
+  put-labels : labels (treeOf g before (most - 1) [] (Put 0)) ≤ 0
+  unfolding treeOf
+  put-labels = immediate-size g (snd (most - 1)) 0 .0
 
-put-labels : labels put ≡ 0
-unfolding treeOf location
-put-labels = refl
-
-put-long : length afterPut ≡ roomForContext
-unfolding contextAfter bindingBytes le
-put-long = refl
+  context-needed : room < roomForContext g → answerTo g before (ordering (Put 0) (roomForRecords g) room) ≡ Room (roomForContext g)
+  unfolding present kindsOk asked
+  context-needed h =
+      let good : checkedContext before ≡ Good (most - 1) = variables-good Ext (most - 1) (omega (arith, s .frame)) in
+      let fits : asked before (most - 1) [] (Put 0) ≤ positions g = omega (arith, s .aside) in
+      let long = after-long before (most - 1) [] (Put 0) (context-long before (most - 1) good) refl in
+      ordered g before (most - 1) good (Put 0) put refl (roomForRecords g) room refl refl refl fits
+      ∙ context-short (ordering (Put 0) (roomForRecords g) room) (treeOf g before (most - 1) [] (Put 0)) (contextAfter before (most - 1) [] (Put 0)) (omega (arith, put-labels)) (order-most before (most - 1) [] g s (Put 0) refl fits) (omega (arith, s .aside)) h
 
 pub orders-fill : OrdersFill
 unfolding treeOf location bindingBytes le
-orders-fill =
-    record {
-      store-reaches = refl;
-      load-reaches = refl;
-      records-needed = λ room h. store-passed room ∙ records-short (storing room) stored afterStore (omega (arith, store-labels)) store-size h;
-      context-needed = λ room h. put-passed room
-          ∙ context-short (putting room) put afterPut (omega (arith, put-labels)) (omega (arith, put-size)) put-long h;
-    }
+orders-fill = record { store-reaches = λ n. refl; load-reaches = λ n. refl; records-needed = records-needed; context-needed = context-needed }
+
+pub rooms-by-frame : RoomsByFrame
+unfolding shapeOf treeOf location bindingBytes le
+rooms-by-frame = record { variables-256 = refl; records-256 = refl; context-256 = refl; variables-512 = refl; records-512 = refl; context-512 = refl }

@@ -45,6 +45,6 @@ module _ (g : Shape) (room n : ℕ) (h : roomForRoutine ≤ room) (bytes : ℕ) 
   unfolding routineAnswer
   no-room-wanted body = by (checkedCodes 65506 body) refl
     where
-      by : (c : Checked) → checkedCodes 65506 body ≡ c → onBody g c (accepting g room n body) ≢ Room bytes
+      by : (c : Checked) → checkedCodes 65506 body ≡ c → onBody c (accepting g room n body) ≢ Room bytes
       by (Good k) e r = arguments body (body-long body k e) (ltb 5 n) refl r
       by (Malformed place) e r = let z : _≡_ {A = ℕ} 0 1 = cc in omega arith

@@ -1,16 +1,13 @@
 -- How many records a store has at most: by the number of its variables, and beside the store of linked ones.
-use Prim.Native.Nat.{ℕ, zero, suc, _+_, _-_, _≤_, _<_}
-use mathlib.Core.Path.{_≡_, refl}
+use Prim.Native.Nat.{ℕ, zero, suc, _+_, _-_, _≤_}
+use mathlib.Core.Path.{refl}
 use mathlib.Core.Bool.{Bool, true, false, cond}
 use native.Mathlib.Omega.{arith}
-use native.Mathlib.Decide.{ℕ-discrete, decLt}
 use lib.Dec.{ltb, eqb}
 use Rattle.records.specs.declared.code.Code.the-variants.{MOVS, MOVL}
 use Rattle.trees.specs.Tree.{Tree, leaf, seq, size}
 use Rattle.layout.specs.declared.config.Shape.{Shape}
-use Rattle.layout.specs.Config.{Supported, base, STACK, TEMP, HEAP, stackOffset, fstOffset}
-use Rattle.layout.specs.Positions.{location}
-use Rattle.layout.proofs.Placing.{base-supported}
+use Rattle.layout.specs.Config.{Supported, STACK, TEMP, HEAP, stackOffset, fstOffset}
 use Rattle.code.specs.Code.{loadImmediate}
 use Rattle.memory.specs.Blocks.{storeField}
 use Rattle.memory.specs.Objects.{fst, storeFst, storeValue, storeValues, storeOther, storeOthers, storeSome, storeObject, chunks}
@@ -18,11 +15,11 @@ use Rattle.memory.specs.Sizes.{acquire-size, immediate-size, store-values-size,
 use Rattle.rooms.specs.Sizes.{storedWithin}
 
 -- every variable is linked
-abbrev linked : ℕ → Bool
+abbrev pub linked : ℕ → Bool
 linked v = false
 
 -- of a choice between two trees
-at-least : (b : Bool) (t u : Tree) (n : ℕ) → n ≤ size t → n ≤ size u → n ≤ size (cond b t u)
+pub at-least : (b : Bool) (t u : Tree) (n : ℕ) → n ≤ size t → n ≤ size u → n ≤ size (cond b t u)
 at-least true t u n p q = p
 at-least false t u n p q = q
 
@@ -35,7 +32,7 @@ both-choices true t u u′ h = omega arith
 both-choices false t u u′ h = h
 
 module _ (g : Shape) where
-  some-record : (w r offset : ℕ) → 1 ≤ size (storeField g w r offset)
+  pub some-record : (w r offset : ℕ) → 1 ≤ size (storeField g w r offset)
   some-record w r offset =
       at-least (ltb w 16) (leaf (MOVS w r offset) refl) (seq (leaf (MOVL TEMP STACK (stackOffset g w)) refl) (leaf (MOVS TEMP r offset) refl)) 1 (omega arith) (omega arith)
 
@@ -81,26 +78,3 @@ module _ (g : Shape) (sup : Supported g) (ext : ℕ → Bool) (v n : ℕ) where
   pub store-within : size (storeObject g ext v n) ≤ storedWithin g n
   store-within =
       at-most (eqb n 0) (loadImmediate g (fst v) 0) (storeSome g ext v n) (storedWithin g n) (omega (arith, immediate-size g (fst v) 0)) store-some
-
--- the three largest stores, of linked variables
-largest : (v n : ℕ) → v ≡ 0 → n ≡ 133 → size (storeObject base linked v n) ≡ 4275
-unfolding location
-largest v n e f = rw (e, f)
-
-second-largest : (v n : ℕ) → v ≡ 1 → n ≡ 132 → size (storeObject base linked v n) ≡ 4274
-unfolding location
-second-largest v n e f = rw (e, f)
-
-all-but-one : (v n : ℕ) → v ≡ 0 → n ≡ 132 → size (storeObject base linked v n) ≡ 4270
-unfolding location
-all-but-one v n e f = rw (e, f)
-
--- the bound by their number is reached in spills alone; so many variables stand in registers too
-pub store-most : (ext : ℕ → Bool) (v n : ℕ) → v + n ≤ 133 → size (storeObject base ext v n) ≤ 4275
-store-most ext v n h = by (decLt n 132) (ℕ-discrete n 132) (ℕ-discrete v 0)
-  where
-    by : Dec (n < 132) → Dec (n ≡ 132) → Dec (v ≡ 0) → size (storeObject base ext v n) ≤ 4275
-    by (yes l) e z = omega (arith, store-within base base-supported ext v n)
-    by (no l) (yes e) (yes z) = omega (arith, store-linked base ext v n, all-but-one v n z e)
-    by (no l) (yes e) (no z) = omega (arith, store-linked base ext v n, second-largest v n (omega arith) e)
-    by (no l) (no e) z = omega (arith, store-linked base ext v n, largest v n (omega arith) (omega arith))

@@ -1,10 +1,19 @@
 -- How many records an order has at most, by the number of variables that it stores, loads or makes, and the sizes of buffers that include/axcut.h
--- recommends. From document 01, 'Binding record' and 'Instruction record', and memory.rs.
+-- recommends for each frame. From document 01, 'Binding record' and 'Instruction record', and memory.rs.
 use Prim.Native.Nat.{ℕ, _+_, _*_, _-_}
+use mathlib.Core.List.{List, []}
+use lib.ListN.{replicate}
+use Rattle.records.specs.declared.binding.Kind.{Kind}
+use Rattle.records.specs.declared.binding.Kind.the-variants.{Linked}
 use Rattle.records.specs.declared.order.Order.{Order}
 use Rattle.records.specs.declared.order.Order.the-variants.{Put, Compute, Copy, Drop, Store, Load, Print}
+use Rattle.records.specs.Contexts.{bindingBytes}
+use Rattle.records.specs.ReadBack.{joined}
+use Rattle.trees.specs.Tree.{Tree, size}
 use Rattle.layout.specs.declared.config.Shape.{Shape}
+use Rattle.layout.specs.Config.{mostVariables}
 use Rattle.memory.specs.Objects.{chunks}
+use Rattle.orders.specs.Writes.{treeOf}
 
 module _ (g : Shape) where
   -- blocks before the last one of an object of n variables
@@ -48,13 +57,22 @@ module _ (g : Shape) where
   recordsWithin (Load n) = loadedWithin n
   recordsWithin (Print newline a) = 21
 
--- AXCUT_ROOM_FOR_RECORDS, AXCUT_ROOM_FOR_CONTEXT and AXCUT_ROOM_FOR_TEXT, in bytes
-abbrev pub roomForRecords : ℕ
-roomForRecords = 102624
+-- the bytes of a context of n variables
+abbrev pub variables : Kind → ℕ → List ℕ
+variables kind n = joined bindingBytes (replicate n (record { kind = kind; id = 0 }))
 
-abbrev pub roomForContext : ℕ
-roomForContext = 1064
+-- all variables that have positions, all of them linked, stored
+abbrev pub storeOfAll : Shape → Tree
+storeOfAll g = treeOf g (variables Linked (mostVariables g)) (mostVariables g) [] (Store (mostVariables g) 0)
 
+-- in bytes, for the records of an order and for the context after it
+abbrev pub roomForRecords : Shape → ℕ
+roomForRecords g = 24 * size (storeOfAll g)
+
+abbrev pub roomForContext : Shape → ℕ
+roomForContext g = 8 * mostVariables g
+
+-- AXCUT_ROOM_FOR_TEXT, in bytes
 abbrev pub roomForText : ℕ
 roomForText = 162706
 

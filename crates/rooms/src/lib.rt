@@ -1,8 +1,8 @@
-// The sizes of buffers that include/axcut.h recommends are enough, and nothing less is.
+// The sizes of buffers that include/axcut.h recommends for each frame are enough, and nothing less is.
 // Each promise is the claim of a function that does nothing: its statement is in specs/Claims.antt, and its proof cites the theorem.
-ghost use Rattle.rooms.specs.Claims.{ListingsFill, ListingsFit, OrdersFill, OrdersFit, RoutinesFit};
+ghost use Rattle.rooms.specs.Claims.{ListingsFill, ListingsFit, OrdersFill, OrdersFit, RoomsByFrame, RoutinesFit};
 
-// no order on at most 133 variables is refused for want of room
+// no order on as many variables as have positions is refused for want of room
 pub fn orders_fit()
     ensures { λ r. ⌜ OrdersFit ⌝ }
 {}
@@ -10,6 +10,11 @@ pub fn orders_fit()
 // and with a byte less one is
 pub fn orders_fill()
     ensures { λ r. ⌜ OrdersFill ⌝ }
+{}
+
+// how many those are and how much room that is, for each frame
+pub fn rooms_by_frame()
+    ensures { λ r. ⌜ RoomsByFrame ⌝ }
 {}
 
 // no listing of at most 2,730 records is refused for want of room

@@ -1,5 +1,5 @@
 -- A whole routine around a body of records. From into_routine.rs, function by function, and document 01, 'Causes and numbers': 2 for a record of the body
--- or one past 65,506, 6 for more than 5 arguments, 10 for the room. The body stands in the output as it was given.
+-- or one past 65,506, 3 for the frame, 6 for more than 5 arguments, 10 for the room. The body stands in the output as it was given.
 use Prim.Native.Nat.{ℕ, zero, suc, _+_, _*_}
 use mathlib.Core.Path.{_≡_}
 use mathlib.Core.Bool.{cond}
@@ -14,10 +14,10 @@ use Rattle.records.specs.declared.code.Code.the-variants.{ADDI, SUBI, MOV, PUSH
 use Rattle.records.specs.Instructions.{checkedCodes}
 use Rattle.records.specs.ReadBack.{joined, codeBytes}
 use Rattle.emit.specs.declared.answer.Answer.{Answer}
-use Rattle.emit.specs.declared.answer.Answer.the-variants.{Body, Arguments}
+use Rattle.emit.specs.declared.answer.Answer.the-variants.{Body, Operand, Arguments}
 use Rattle.emit.specs.Answers.{causeOf, granted, accepted}
 use Rattle.layout.specs.declared.config.Shape.{Shape}
-use Rattle.layout.specs.Config.{STACK, HEAP, FREE, blockBytes}
+use Rattle.layout.specs.Config.{STACK, HEAP, FREE, blockBytes, inFrame}
 
 -- the names asm_main, cleanup, PRINT_I64 and PRINTLN_I64
 abbrev ASMMAIN : ℕ
@@ -43,6 +43,11 @@ preamble = NOEXECSTACK ∷ TEXT ∷ EXTERN PRINTI64 ∷ EXTERN PRINTLNI64 ∷ GL
 abbrev pub moveArguments : ℕ → List Code
 moveArguments zero = []
 moveArguments (suc n) = MOV (2 * suc n + 3) (argument (suc n)) ∷ moveArguments n
+
+-- the body's check comes first
+abbrev pub onBody : Checked → Answer → Answer
+onBody (Good k) r = r
+onBody (Malformed place) r = Body place
 
 module _ (g : Shape) where
   -- how many bytes the spills take
@@ -89,17 +94,19 @@ module _ (g : Shape) where
   abbrev pub accepting : ℕ → ℕ → List ℕ → Answer
   accepting room n body = cond (ltb 5 n) Arguments (granted 0 room (length (routineBytes n body)) 0)
 
-  -- the body's check comes first
-  abbrev pub onBody : Checked → Answer → Answer
-  onBody (Good k) r = r
-  onBody (Malformed place) r = Body place
-
   unfoldable pub routineAnswer : ℕ → ℕ → List ℕ → Answer
   routineAnswer room n body = onBody (checkedCodes 65506 body) (accepting room n body)
 
--- what into_x86_64_routine ensures of the output before and after: its answer is the one expected, and the output holds the routine from its start
+-- the answer and the routine's bytes in a frame of so many spills
+abbrev pub routineIn : ℕ → ℕ → ℕ → List ℕ → Answer
+routineIn frame room n body = inFrame frame (λ g. routineAnswer g room n body) (onBody (checkedCodes 65506 body) Operand)
+
+abbrev pub routineBytesIn : ℕ → ℕ → List ℕ → List ℕ
+routineBytesIn frame n body = inFrame frame (λ g. routineBytes g n body) []
+
+-- what into_x86_64_routine ensures of the output before and after: its answer is the one expected, and the output holds the routine's bytes from its start
 -- if it is written, else it is as it was
-pub record Assembles (g : Shape) (o o′ : List ℕ) (r expected : Answer) (n : ℕ) (body : List ℕ) : Type 0 where
+pub record Assembles (o o′ : List ℕ) (r expected : Answer) (routine : List ℕ) : Type 0 where
   pub answer : r ≡ expected
   pub cause : causeOf r ≡ causeOf expected
-  pub bytes : o′ ≡ cond (accepted expected) (sets o 0 (routineBytes g n body)) o
+  pub bytes : o′ ≡ cond (accepted expected) (sets o 0 routine) o

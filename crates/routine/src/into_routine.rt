@@ -4,12 +4,14 @@ ghost use Prim.Native.Nat.{_+_, _*_, _≤_, _<_, _^_};
 ghost use lib.ListN.{length};
 ghost use lib.Seq.{sets};
 ghost use Rattle.emit.specs.Emitted.{fieldsList, Emitted};
-ghost use Rattle.layout.specs.Config.{base, Supported};
-ghost use Rattle.routine.specs.Routine.{argument, preamble, setup, moveArguments, head, cleanup, routineBytes, accepting, routineAnswer, Assembles};
+ghost use Rattle.emit.specs.declared.answer.Answer.the-variants.{Operand};
+ghost use Rattle.layout.specs.Config.{Supported, inFrame};
+ghost use Rattle.routine.specs.Routine.{argument, preamble, setup, moveArguments, head, cleanup, routineBytes, accepting, routineIn, routineBytesIn, Assembles};
 use emit::answer::Answer;
 use emit::cursor::Cursor;
 use emit::cursor::Row;
 use layout::config::FREE;
+use layout::config::Framed;
 use layout::config::HEAP;
 use layout::config::STACK;
 use layout::config::Shape;
@@ -163,7 +165,7 @@ fn assemble(out: &mut [u8], g: Shape, body: &[u8], n: usize)
 
 fn assemble_checked(out: &mut [u8], g: Shape, body: &[u8], n: usize) -> Answer
     requires { ⌜ (length (now body) < 2 ^ 32) × Supported g ⌝ }
-    ensures { λ r. ⌜ Assembles g (now (out .entry)) (now (out .exit)) r (accepting g (length (now (out .entry))) n (now (body .entry))) n (now (body .entry)) ⌝ }
+    ensures { λ r. ⌜ Assembles (now (out .entry)) (now (out .exit)) r (accepting g (length (now (out .entry))) n (now (body .entry))) (routineBytes g n (now (body .entry))) ⌝ }
 {
     if 5 < n {
         return Answer::Arguments;
@@ -184,19 +186,23 @@ fn assemble_checked(out: &mut [u8], g: Shape, body: &[u8], n: usize) -> Answer
     answer
 }
 
-// A whole routine around a body of at most 65,506 records, for 0 to 5 arguments.
-pub fn into_x86_64_routine(out: &mut [u8], body: &[u8], arguments: usize) -> Answer
-    ensures { λ r. ⌜ Assembles base (now (out .entry)) (now (out .exit)) r (routineAnswer base (length (now (out .entry))) arguments (now (body .entry))) arguments (now (body .entry)) ⌝ }
+// In a frame of so many spills, around a body that is accepted.
+fn assemble_in(out: &mut [u8], frame: u64, body: &[u8], n: usize) -> Answer
+    requires { ⌜ length (now body) < 2 ^ 32 ⌝ }
+    ensures { λ r. ⌜ Assembles (now (out .entry)) (now (out .exit)) r (inFrame frame (λ g. accepting g (length (now (out .entry))) n (now (body .entry))) Operand) (routineBytesIn frame n (now (body .entry))) ⌝ }
 {
-    into_x86_64_routine_in(out, layout::config::base(), body, arguments)
+    match layout::config::shape_of(frame) {
+        Framed::Of(g) => assemble_checked(out, g, body, n),
+        Framed::Unknown => Answer::Operand,
+    }
 }
 
-fn into_x86_64_routine_in(out: &mut [u8], g: Shape, body: &[u8], arguments: usize) -> Answer
-    requires { ⌜ Supported g ⌝ }
-    ensures { λ r. ⌜ Assembles g (now (out .entry)) (now (out .exit)) r (routineAnswer g (length (now (out .entry))) arguments (now (body .entry))) arguments (now (body .entry)) ⌝ }
+// A whole routine around a body of at most 65,506 records, for 0 to 5 arguments.
+pub fn into_x86_64_routine(out: &mut [u8], frame: u64, body: &[u8], arguments: usize) -> Answer
+    ensures { λ r. ⌜ Assembles (now (out .entry)) (now (out .exit)) r (routineIn frame (length (now (out .entry))) arguments (now (body .entry))) (routineBytesIn frame arguments (now (body .entry))) ⌝ }
 {
     match records::code::check_codes(body, 65506) {
-        Checked::Good(_) => assemble_checked(out, g, body, arguments),
+        Checked::Good(_) => assemble_in(out, frame, body, arguments),
         Checked::Malformed(place) => Answer::Body(place),
     }
 }

@@ -4,10 +4,11 @@ use Prim.Native.Nat.{ℕ, suc, _*_, _-_, _/_}
 use mathlib.Core.Bool.{Bool, cond}
 use mathlib.Core.List.{List, [], _∷_, _++_}
 use lib.Dec.{eqb, ltb}
+use lib.ListN.{length}
 use Rattle.records.specs.Contexts.{extAt}
 use Rattle.text.specs.Text.{ascii, decimal, signed}
 use Rattle.layout.specs.declared.config.Shape.{Shape}
-use Rattle.layout.specs.Config.{positions, blockBytes}
+use Rattle.layout.specs.Config.{inShape, positions, shapeOn, blockBytes}
 use Rattle.instructions.specs.View.{wordsOf, fromEnd}
 use Rattle.instructions.specs.Memory.{heapStart}
 use Rattle.heap.specs.Blocks.{Cell}
@@ -42,3 +43,7 @@ firstLines g context registers stack k = cellLines g (extAt context) 0 (variable
 -- all of them; none where the context is malformed, which has no places, or has more variables than there are positions for
 unfoldable pub variableLines : Shape → List ℕ → List ℕ → List ℕ → List ℕ
 variableLines g context registers stack = cond (ltb (2 * placesIn context) (positions g)) (firstLines g context registers stack (placesIn context)) []
+
+-- in a frame; none where the stack is not the frame's
+abbrev pub variablesOn : ℕ → List ℕ → List ℕ → List ℕ → List ℕ
+variablesOn frame context registers stack = inShape (shapeOn frame (length stack)) (λ g. variableLines g context registers stack) []

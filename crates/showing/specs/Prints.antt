@@ -3,14 +3,17 @@ use Prim.Native.Nat.{ℕ, _+_, _*_}
 use mathlib.Core.Bool.{Bool, cond}
 use mathlib.Core.List.{List, [], _++_}
 use lib.Dec.{ltb}
+use lib.ListN.{length}
 use Rattle.records.specs.declared.order.Order.{Order}
 use Rattle.records.specs.declared.order.Order.the-variants.{Put, Compute, Copy, Drop, Store, Load, Print}
 use Rattle.records.specs.declared.order.OrderRead.{OrderRead}
 use Rattle.records.specs.declared.order.OrderRead.the-variants as read
+use Rattle.records.specs.Orders.{orderRead}
 use Rattle.text.specs.Text.{ascii, signed}
 use Rattle.layout.specs.declared.config.Shape.{Shape}
-use Rattle.layout.specs.Config.{positions}
+use Rattle.layout.specs.Config.{inShape, positions, shapeOn}
 use Rattle.layout.specs.Positions.{location}
+use Rattle.instructions.specs.View.{wordsOf, fromEnd}
 use Rattle.positions.specs.Held.{heldIn}
 
 -- the integer, and a newline if asked
@@ -37,3 +40,7 @@ module _ (g : Shape) (reg stk : ℕ → ℕ) where
   unfoldable pub prints : OrderRead → List ℕ
   prints (read.Whole order) = printsOf order
   prints (read.Malformed place) = []
+
+-- on lent registers and stack, by the order's bytes; nothing where the stack is not the frame's
+abbrev pub printsOn : ℕ → List ℕ → List ℕ → List ℕ → List ℕ
+printsOn frame order registers stack = inShape (shapeOn frame (length stack)) (λ g. prints g (wordsOf registers) (fromEnd stack) (orderRead order)) []

@@ -4,16 +4,15 @@ ghost use Prim.Native.Nat.{_+_, _≤_, _<_};
 ghost use lib.ListN.{length};
 ghost use Rattle.records.specs.Orders.{orderRead};
 ghost use Rattle.text.specs.Putting.{farthest, Puts};
-ghost use Rattle.layout.specs.Config.{Supported, base, stackDepth};
+ghost use Rattle.layout.specs.Config.{Supported, stackDepth};
 ghost use Rattle.layout.specs.Positions.{location, entries};
 ghost use Rattle.instructions.specs.View.{wordsOf, fromEnd};
 ghost use Rattle.instructions.specs.Forms.{Sized};
 ghost use Rattle.positions.specs.Held.{heldIn};
-ghost use Rattle.showing.specs.Prints.{printedText, printsOf, prints};
+ghost use Rattle.showing.specs.Prints.{printedText, printsOf, prints, printsOn};
 use crate::variables;
-use layout::config;
+use layout::config::Framed;
 use layout::config::Shape;
-use machine::state::State;
 use records::order::Order;
 use records::order::OrderRead;
 
@@ -34,7 +33,7 @@ fn put_word(
     text: &mut [u8],
     at: usize,
     newline: bool,
-    registers: &[u64; 16],
+    registers: &[u64],
     stack: &[u64],
     p: u64,
 ) -> usize
@@ -51,7 +50,7 @@ fn put_whole(
     at: usize,
     g: Shape,
     order: Order,
-    registers: &[u64; 16],
+    registers: &[u64],
     stack: &[u64],
 ) -> usize
     requires { ⌜ Sized (stackDepth g) (now registers) (now stack) × (at + 22 ≤ farthest) × Supported g ⌝ }
@@ -75,22 +74,30 @@ fn put_whole(
     }
 }
 
-// What an order writes in a state, if it is a print order.
-pub fn put_print(text: &mut [u8], at: usize, order: &[u8], state: State) -> usize
+// What an order writes, if it is a print order, on registers and a frame's stack; nothing on another number of words.
+pub fn put_print(
+    text: &mut [u8],
+    at: usize,
+    frame: u64,
+    order: &[u8],
+    registers: &[u64; 16],
+    stack: &[u64],
+) -> usize
     requires { ⌜ at + 22 ≤ farthest ⌝ }
-    ensures { λ r. ⌜ Puts 22 (now (text .entry)) at (now (text .exit)) r (prints base (wordsOf (state .registers)) (fromEnd (state .stack)) (orderRead (now (order .entry)))) ⌝ }
+    ensures { λ r. ⌜ Puts 22 (now (text .entry)) at (now (text .exit)) r (printsOn frame (now (order .entry)) (now (registers .entry)) (now (stack .entry))) ⌝ }
 {
-    let registers = state.registers;
-    let stack = state.stack;
-    put_print_in(text, at, config::base(), order, &registers, &stack)
+    match layout::config::shape_on(frame, stack.len()) {
+        Framed::Of(g) => put_print_in(text, at, g, order, registers, stack),
+        Framed::Unknown => at,
+    }
 }
 
-pub fn put_print_in(
+fn put_print_in(
     text: &mut [u8],
     at: usize,
     g: Shape,
     order: &[u8],
-    registers: &[u64; 16],
+    registers: &[u64],
     stack: &[u64],
 ) -> usize
     requires { ⌜ Sized (stackDepth g) (now registers) (now stack) × (at + 22 ≤ farthest) × Supported g ⌝ }

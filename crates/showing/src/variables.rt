@@ -6,17 +6,16 @@ ghost use lib.ListN.{length};
 ghost use Rattle.records.specs.Contexts.{extAt};
 ghost use Rattle.text.specs.Text.{ascii, signed};
 ghost use Rattle.text.specs.Putting.{farthest, Puts};
-ghost use Rattle.layout.specs.Config.{Supported, base, positions, mostVariables, stackDepth};
+ghost use Rattle.layout.specs.Config.{Supported, larger, positions, mostVariables, stackDepth};
 ghost use Rattle.layout.specs.Positions.{location, Table, entries};
 ghost use Rattle.instructions.specs.View.{wordsOf, fromEnd};
 ghost use Rattle.instructions.specs.Forms.{Sized};
 ghost use Rattle.heap.specs.Blocks.{cell};
 ghost use Rattle.positions.specs.Held.{heldIn};
-ghost use Rattle.showing.specs.Cells.{blockName, cellWords, cellLine, lineOf, firstLines, variableLines};
-use layout::config;
+ghost use Rattle.showing.specs.Cells.{blockName, cellWords, cellLine, lineOf, firstLines, variableLines, variablesOn};
+use layout::config::Framed;
 use layout::config::Shape;
 use layout::utils::ENTRIES;
-use machine::state::State;
 use records::check::Checked;
 use reporting::parts;
 
@@ -85,7 +84,7 @@ fn is_ext(context: &[u8], k: usize) -> bool
 }
 
 // The word at position p.
-pub fn word_at(registers: &[u64; 16], stack: &[u64], table: &[u16; ENTRIES], p: u64) -> u64
+pub fn word_at(registers: &[u64], stack: &[u64], table: &[u16; ENTRIES], p: u64) -> u64
     requires { ⌜ (length (now registers) ≡ 16) × (p < length (now stack)) × Table (now table) × (p < entries) ⌝ }
     ensures { λ r. ⌜ r ≡ heldIn (wordsOf (now (registers .entry))) (fromEnd (now (stack .entry))) (location p) ⌝ }
 {
@@ -102,7 +101,7 @@ fn put_variable(
     at: usize,
     g: Shape,
     context: &[u8],
-    registers: &[u64; 16],
+    registers: &[u64],
     stack: &[u64],
     table: &[u16; ENTRIES],
     k: usize,
@@ -123,7 +122,7 @@ fn put_first(
     at: usize,
     g: Shape,
     context: &[u8],
-    registers: &[u64; 16],
+    registers: &[u64],
     stack: &[u64],
     table: &[u16; ENTRIES],
     count: usize,
@@ -140,22 +139,31 @@ fn put_first(
     next
 }
 
-// The line of each variable of a context; nothing where the context is malformed or has more than there are positions for.
-pub fn put_variables(text: &mut [u8], at: usize, context: &[u8], state: State) -> usize
-    requires { ⌜ at + 83 * mostVariables base ≤ farthest ⌝ }
-    ensures { λ r. ⌜ Puts (83 * mostVariables base) (now (text .entry)) at (now (text .exit)) r (variableLines base (now (context .entry)) (state .registers) (state .stack)) ⌝ }
+// The line of each variable of a context on registers and a frame's stack; nothing where the context is malformed or has more than there are positions for, or
+// the stack another number of words.
+pub fn put_variables(
+    text: &mut [u8],
+    at: usize,
+    frame: u64,
+    context: &[u8],
+    registers: &[u64; 16],
+    stack: &[u64],
+) -> usize
+    requires { ⌜ at + 83 * mostVariables larger ≤ farthest ⌝ }
+    ensures { λ r. ⌜ Puts (83 * mostVariables larger) (now (text .entry)) at (now (text .exit)) r (variablesOn frame (now (context .entry)) (now (registers .entry)) (now (stack .entry))) ⌝ }
 {
-    let registers = state.registers;
-    let stack = state.stack;
-    put_variables_in(text, at, config::base(), context, &registers, &stack)
+    match layout::config::shape_on(frame, stack.len()) {
+        Framed::Of(g) => put_variables_in(text, at, g, context, registers, stack),
+        Framed::Unknown => at,
+    }
 }
 
-pub fn put_variables_in(
+fn put_variables_in(
     text: &mut [u8],
     at: usize,
     g: Shape,
     context: &[u8],
-    registers: &[u64; 16],
+    registers: &[u64],
     stack: &[u64],
 ) -> usize
     requires { ⌜ Sized (stackDepth g) (now registers) (now stack) × (at + 83 * mostVariables g ≤ farthest) × Supported g ⌝ }

@@ -1,7 +1,9 @@
 // Plays lists of order records of any length, from standard input or from the files named, each on a fresh channel beside 65,536 blocks, and prints the most
-// blocks that were reachable at once and the heap to fit for it. A run that does not end is told instead.
+// blocks that were reachable at once and the heap to fit for it. A run that does not end is told instead. An argument `frame N` asks for a frame of so many
+// spills, of the files after it; a frame has 256 where none is asked.
 ghost use Prim.Native.Nat.{_-_, _≤_};
 ghost use lib.ListN.{length};
+use libc::STDERR_FILENO;
 use libc::STDIN_FILENO;
 use libc::STDOUT_FILENO;
 use orders::answer::Answer;
@@ -19,8 +21,8 @@ struct Going {
     channel: Channel,
 }
 
-fn start() -> Going {
-    let channel = playing::channel::fresh();
+fn start(frame: u64) -> Going {
+    let channel = playing::channel::fresh(frame);
     Going {
         accepted: 0,
         refused: 0,
@@ -128,8 +130,8 @@ fn turn(file: i32, heap: &mut [u64], records: &mut [u8], bindings: &mut [u8], g:
 }
 
 // All orders of a file, up to a run that does not end.
-fn play(file: i32, heap: &mut [u64], records: &mut [u8], bindings: &mut [u8]) -> Going {
-    let mut g = start();
+fn play(file: i32, heap: &mut [u64], records: &mut [u8], bindings: &mut [u8], frame: u64) -> Going {
+    let mut g = start(frame);
     let mut left = 0xFFFFFFFFFFFFFFFFu64;
     while 0 < left {
         if g.on {} else {
@@ -143,8 +145,7 @@ fn play(file: i32, heap: &mut [u64], records: &mut [u8], bindings: &mut [u8]) ->
 
 fn show_fit(g: Going, heap: &[u64]) {
     let channel = g.channel;
-    let state = channel.state;
-    let registers = state.registers;
+    let registers = channel.registers;
     let fit = chains::to_fit(&registers, heap);
     let mut lines = [0u8; 256];
     let size = reporting::put_fit(
@@ -159,19 +160,19 @@ fn show_fit(g: Going, heap: &[u64]) {
     show(&lines, size);
 }
 
-// A file's list on a channel of its own: the records of the largest order, and one binding more than any order takes.
-fn size_from(file: i32) {
+// A file's list on a channel of its own: the records of the largest order, a store of 261 linked variables, and one binding more than any order takes.
+fn size_from(file: i32, frame: u64) {
     let mut heap = [0u64; 524288];
-    let mut records = [0u8; 102624];
+    let mut records = [0u8; 202464];
     let mut bindings = [0u8; 32776];
-    let g = play(file, &mut heap, &mut records, &mut bindings);
+    let g = play(file, &mut heap, &mut records, &mut bindings, frame);
     if g.stopped {
         return;
     }
     show_fit(g, &heap);
 }
 
-fn size_of(name: &[u8]) {
+fn size_of(name: &[u8], frame: u64) {
     let file = os::open_read(name);
     if file < 0 {
         os::fail(name);
@@ -179,25 +180,85 @@ fn size_of(name: &[u8]) {
     }
     io::write_all(STDOUT_FILENO, name);
     io::write_all(STDOUT_FILENO, b"\n");
-    size_from(file);
+    size_from(file, frame);
     libc::close(file);
 }
 
-fn size_argument(i: usize) {
-    let mut name = io::buffer();
-    let n = os::arg(i, &mut name);
-    size_of(&name[..n]);
+// What the arguments asked so far: a frame, 0 where there is none of that number, whether its number comes next, and whether a file was named.
+struct Asked {
+    frame: u64,
+    number: bool,
+    named: bool,
+}
+
+// The frame that a word names by its number of spills.
+fn frame_of(word: &[u8]) -> u64 {
+    if check::same(word, b"256") {
+        return 256;
+    }
+    if check::same(word, b"512") {
+        return 512;
+    }
+    io::write_all(STDERR_FILENO, b"a frame has 256 or 512 spills\n");
+    0
+}
+
+fn read_word(word: &[u8], a: Asked) -> Asked {
+    if a.number {
+        return Asked {
+            frame: frame_of(word),
+            number: false,
+            named: a.named,
+        };
+    }
+    if check::same(word, b"frame") {
+        return Asked {
+            frame: 0,
+            number: true,
+            named: a.named,
+        };
+    }
+    if a.frame != 0 {
+        size_of(word, a.frame);
+    }
+    Asked {
+        frame: a.frame,
+        number: false,
+        named: true,
+    }
+}
+
+fn read_argument(i: usize, a: Asked) -> Asked {
+    let mut word = io::buffer();
+    let n = os::arg(i, &mut word);
+    read_word(&word[..n], a)
+}
+
+// The files are played as they are named.
+fn read_arguments(count: usize) -> Asked {
+    let mut a = Asked {
+        frame: 256,
+        number: false,
+        named: false,
+    };
+    let mut i = 1;
+    while i < count {
+        a = read_argument(i, a);
+        i += 1;
+    }
+    a
 }
 
 fn main() {
-    let count = os::arg_count();
-    if count <= 1 {
-        size_from(STDIN_FILENO);
+    let a = read_arguments(os::arg_count());
+    if a.number {
+        frame_of(b"");
         return;
     }
-    let mut i = 1;
-    while i < count {
-        size_argument(i);
-        i += 1;
+    if a.named {
+        return;
+    }
+    if a.frame != 0 {
+        size_from(STDIN_FILENO, a.frame);
     }
 }

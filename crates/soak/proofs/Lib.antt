@@ -1,1 +1,1 @@
-pub mod Zeros  -- parts of arrays of zeros
+pub mod Parts  -- parts of arrays

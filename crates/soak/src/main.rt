@@ -1,13 +1,16 @@
-// Plays the list of orders on standard input, a load followed by its bindings, and checks after each accepted one what demand 3 says of the words: on a
-// large heap, which gives the list's peak; on two blocks more than the peak, where all is sound; on one more, where the frontier is no block of the heap; and
-// on no more, where a run meets a fault.
+// Plays the lists of orders on standard input, a load followed by its bindings, each list in its frame, and checks after each accepted order what demand 3 says
+// of the words: on a large heap, which gives the list's peak; on two blocks more than the peak, where all is sound; on one more, where the frontier is no block
+// of the heap; and on no more, where a run meets a fault.
 ghost use Prim.Native.Nat.{_≤_};
 use libc::STDIN_FILENO;
 use libc::STDOUT_FILENO;
-use machine::state::State;
 use orders::answer::Answer;
 use playing::channel::Channel;
 use playing::channel::Played;
+use records::bytes;
+
+// The records of the largest order, a store of 261 linked variables.
+const RECORDS: usize = 202464;
 
 // How many orders there were, and what came of them.
 struct Counts {
@@ -24,8 +27,8 @@ struct Going {
     channel: Channel,
 }
 
-fn start() -> Going {
-    let channel = playing::channel::fresh();
+fn start(frame: u64) -> Going {
+    let channel = playing::channel::fresh(frame);
     Going {
         at: 0,
         counts: Counts {
@@ -68,9 +71,9 @@ fn counter_of(orders: u64) -> u64 {
 
 // So are output lengths: each 64th is too short for a record.
 fn room_of(orders: u64) -> usize
-    ensures { λ r. ⌜ r ≤ 102624 ⌝ }
+    ensures { λ r. ⌜ r ≤ 202464 ⌝ }
 {
-    if orders % 64 == 31 { 23 } else { 102624 }
+    if orders % 64 == 31 { 23 } else { RECORDS }
 }
 
 // And print words: those look like addresses of blocks.
@@ -100,7 +103,7 @@ fn played(
     channel: Channel,
     orders: u64,
 ) -> Played {
-    let mut records = [0u8; 102624];
+    let mut records = [0u8; RECORDS];
     let room = room_of(orders);
     playing::channel::play(
         channel,
@@ -122,13 +125,44 @@ fn is_ended(ran: machine::run::Answer, limit: u64) -> bool {
     }
 }
 
-fn is_sound(context: &[u8], used: usize, state: State, heap: &[u64], memory: &mut [u64]) -> bool {
-    let registers = state.registers;
-    let stack = state.stack;
+// The context's bytes in use, and as many words of the stack as the frame has.
+fn is_sound(
+    context: &[u8],
+    used: usize,
+    registers: &[u64; 16],
+    stack: &[u64],
+    depth: usize,
+    heap: &[u64],
+    memory: &mut [u64],
+) -> bool {
     if used <= context.len() {
-        return inspect::sound::sound(&context[..used], &registers, &stack, heap, memory);
+        if depth <= stack.len() {
+            return inspect::sound::sound(
+                &context[..used],
+                registers,
+                &stack[..depth],
+                heap,
+                memory,
+            );
+        }
     }
     false
+}
+
+fn is_channel_sound(channel: Channel, heap: &[u64], memory: &mut [u64]) -> bool {
+    let context = channel.context;
+    let registers = channel.registers;
+    let stack = channel.stack;
+    let depth = word::sum(channel.frame, 64) as usize;
+    is_sound(
+        &context,
+        channel.used,
+        &registers,
+        &stack,
+        depth,
+        heap,
+        memory,
+    )
 }
 
 // What came of an order: whether its run, of so many records, ended, and whether the words after it are as demand 3 says, beside the plain machine.
@@ -142,10 +176,7 @@ fn outcome(order: &[u8], heap: &[u64], memory: &mut [u64], done: Played) -> Coun
         return one(1, 0, 1);
     }
     inspect::plain::perform(memory, order);
-    let channel = done.channel;
-    let context = channel.context;
-    let state = channel.state;
-    if is_sound(&context, channel.used, state, heap, memory) {
+    if is_channel_sound(done.channel, heap, memory) {
         one(1, 0, 0)
     } else {
         one(1, 1, 0)
@@ -202,8 +233,8 @@ fn turn(input: &[u8], heap: &mut [u64], memory: &mut [u64], g: Going) -> Going {
 }
 
 // All orders of a list. Each has 24 bytes at least.
-fn play(input: &[u8], heap: &mut [u64], memory: &mut [u64]) -> Counts {
-    let mut g = start();
+fn play(frame: u64, input: &[u8], heap: &mut [u64], memory: &mut [u64]) -> Counts {
+    let mut g = start(frame);
     let mut left = input.len() / 24;
     while 0 < left {
         g = turn(input, heap, memory, g);
@@ -241,21 +272,48 @@ fn words_of(blocks: u64) -> usize
 }
 
 // A list on a zeroed heap of so many blocks. The result is its peak.
-fn play_on(input: &[u8], blocks: u64) -> u64 {
+fn play_on(frame: u64, input: &[u8], blocks: u64) -> u64 {
     let mut heap = [0u64; 12000];
     let mut memory = [0u64; inspect::table::MEMORY];
     let words = words_of(blocks);
-    report(play(input, &mut heap[..words], &mut memory), blocks);
+    report(play(frame, input, &mut heap[..words], &mut memory), blocks);
     inspect::heap::peak(&memory)
 }
 
-fn main() {
-    let mut buffer = io::large_buffer();
-    let n = io::read_full(STDIN_FILENO, &mut buffer);
-    let peak = play_on(&buffer[..n], 1500);
+fn play_list(frame: u64, input: &[u8]) {
+    print(b"frame ", frame);
+    io::write_all(STDOUT_FILENO, b"\n");
+    let peak = play_on(frame, input, 1500);
     print(b"peak ", peak);
     io::write_all(STDOUT_FILENO, b"\n");
-    play_on(&buffer[..n], word::sum(peak, 2));
-    play_on(&buffer[..n], word::sum(peak, 1));
-    play_on(&buffer[..n], peak);
+    play_on(frame, input, word::sum(peak, 2));
+    play_on(frame, input, word::sum(peak, 1));
+    play_on(frame, input, peak);
+}
+
+// The next list, after its frame and its length in bytes, 65,536 at most; whether there is one.
+fn next_list() -> bool {
+    let mut head = [0u8; 16];
+    let mut buffer = io::large_buffer();
+    if io::read_full(STDIN_FILENO, &mut head) < 16 {
+        return false;
+    }
+    let frame = bytes::number8(&head, 0);
+    let size = bytes::number8(&head, 8) as usize;
+    if 65536 < size {
+        return false;
+    }
+    let n = io::read_full(STDIN_FILENO, &mut buffer[..size]);
+    play_list(frame, &buffer[..n]);
+    true
+}
+
+fn main() {
+    let mut left = 0xFFFFFFFFFFFFFFFFu64;
+    while 0 < left {
+        if next_list() {} else {
+            return;
+        }
+        left -= 1;
+    }
 }

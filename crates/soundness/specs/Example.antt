@@ -30,7 +30,7 @@ use Rattle.soundness.specs.Claims.{Item, values, acquired, AllOwed, stat
 use Rattle.soundness.specs.Induction.{heap-stays-sound-on-acquired}
 
 -- a list of bytes, by a test of each
-pub below : List ℕ → Bool
+unfoldable pub below : List ℕ → Bool
 below [] = true
 below (b ∷ s) = ltb b 256 && below s
 
@@ -43,7 +43,7 @@ abbrev pub bytesOf : Order → List ℕ
 bytesOf o = orderBytes (orderFieldsOf o)
 
 abbrev pub ask : List ℕ → List ℕ → Asked
-ask order bindings = record { order = order; bindings = bindings; counter = 0; recordsRoom = 100000; contextRoom = 1064 }
+ask order bindings = record { order = order; bindings = bindings; counter = 0; recordsRoom = 24 * 65536; contextRoom = 8 * 4096 }
 
 abbrev pub item : (order bindings : List ℕ) → below order ≡ true → below bindings ≡ true → Item
 item order bindings p q = record { asked = ask order bindings; order-bytes = bytes order p; bindings-bytes = bytes bindings q; words = λ i. 7 * i }

@@ -23,7 +23,8 @@ use Rattle.heap.specs.RunLemmas.{met-within, abstract-frontier-is-peak}
 use Rattle.heap.specs.Values.{nil, countOf}
 use Rattle.heap.specs.Words.{byAddress, wordAt, headers, addressOf, numberOf}
 use Rattle.layout.specs.declared.config.Shape.{Shape}
-use Rattle.layout.specs.Config.{Supported, stackDepth, blockWords}
+use Rattle.layout.specs.Config.{Supported, shapeOf, stackDepth, blockWords}
+use Rattle.layout.proofs.Placing.{no-frame, framed-supported}
 use Rattle.instructions.specs.Step.{Config}
 use Rattle.machine.specs.declared.run.Answer.the-variants.{Fault}
 use Rattle.structured.specs.Evaluation.{done, evaluate}
@@ -39,7 +40,7 @@ use Rattle.orders.specs.declared.answer.Answer.the-variants as answers
 use Rattle.orders.specs.Answered.{accepted, orderIs, placesIn, answerTo, counterAfter}
 use Rattle.orders.specs.Plain.{OwedKinds}
 use Rattle.playing.specs.Playing.{Channel, fresh}
-use Rattle.soundness.specs.Claims.{Item, isAccepted, runOf, reached, values, acquired, changes, PeakWithin, AllOwed, stateAfter, statesBefore, SoundChannel, SoundBefore, AllRan, Refused, AllRefused, After, HeapStaysSound, HeapStaysSoundOnAcquired, acquires, Owed}
+use Rattle.soundness.specs.Claims.{Item, isAccepted, runOf, reached, values, acquired, changes, PeakWithin, AllOwed, stateAfter, statesBefore, SoundChannel, SoundBefore, AllRan, Refused, AllRefused, After, HeapStaysSound, HeapStaysSoundOnAcquired, BothFramesStaySound, acquires, Owed}
 use Rattle.soundness.specs.Peak.{NoFault, LoadsOwed, ReachesWithin, HeapAfterList, PeakOf, Unfaulted, FrontierWithinPeakOfLists, FrontierIsPeak}
 use Rattle.orders.proofs.Accepting.{Taken, taken}
 use Rattle.soundness.specs.Ending.{start}
@@ -70,6 +71,7 @@ module _ (G : Shape) (sup : Supported G) where
       by (answers.Accepted records after bindings) e = let z : _≡_ {A = ℕ} 0 1 = cc in absurd (omega arith)
       by answers.Context e = refl
       by (answers.Malformed place) e = refl
+      by answers.Frame e = refl
       by answers.Missing e = refl
       by answers.Kind e = refl
       by answers.Count e = refl
@@ -321,6 +323,16 @@ heap-stays-sound g sup blocks peak its h enough most w = after g sup blocks most
 pub heap-stays-sound-on-acquired : HeapStaysSoundOnAcquired
 unfolding HeapStaysSoundOnAcquired by-acquired
 heap-stays-sound-on-acquired g sup blocks its h most w = after g sup blocks most (by-acquired g sup blocks most) its (h, w) h
+
+pub both-frames-stay-sound : BothFramesStaySound
+unfolding HeapStaysSound HeapStaysSoundOnAcquired shapeOf
+both-frames-stay-sound =
+    record {
+      stay-sound = λ frame g e. let sup = framed-supported frame e in (heap-stays-sound g sup, heap-stays-sound-on-acquired g sup);
+      frame-256 = refl;
+      frame-512 = refl;
+      no-other = λ frame n m. sym (no-frame frame n m);
+    }
 
 pub frontier-is-peak : FrontierIsPeak
 unfolding FrontierIsPeak

@@ -1,10 +1,11 @@
 // Demand 3: the heap stays sound for every list of orders; and how much heap to fit. The claims are in specs/Claims.antt and specs/Peak.antt; their proofs cite the theorems.
-ghost use Rattle.soundness.specs.Claims.{HeapStaysSound, HeapStaysSoundOnAcquired};
+ghost use Rattle.soundness.specs.Claims.{HeapStaysSound, HeapStaysSoundOnAcquired, BothFramesStaySound};
 ghost use Rattle.soundness.specs.Operations.{OperationsDoWhatTheyName, OperationsDoWhatTheyNameOnAcquired};
 ghost use Rattle.soundness.specs.Prints.{PrintedIsCalled};
 ghost use Rattle.soundness.specs.Peak.{FrontierWithinPeakOfLists, FrontierIsPeak, PeakIsEnough, OneFewerIsTooFew};
 ghost use Rattle.soundness.specs.Counts.{CountsAreTrue, FitIsForPeak};
 ghost use Rattle.soundness.specs.Example.{WorkedListIsSound};
+ghost use Rattle.soundness.specs.Larger.{LargerListIsSound};
 ghost use Rattle.soundness.specs.Operated.{WorkedOperations};
 ghost use Rattle.soundness.specs.Fewest.{SeasonIsSound};
 
@@ -15,6 +16,11 @@ pub fn heap_stays_sound()
 // by the blocks that are acquired, whatever is reachable
 pub fn heap_stays_sound_on_acquired()
     ensures { λ r. ⌜ HeapStaysSoundOnAcquired ⌝ }
+{}
+
+// both, for a frame by its number of spills
+pub fn both_frames_stay_sound()
+    ensures { λ r. ⌜ BothFramesStaySound ⌝ }
 {}
 
 // store, load, share_block_n and erase_block on the context of a channel that a list has reached
@@ -47,6 +53,10 @@ pub fn one_fewer_is_too_few()
 // that they speak of something
 pub fn worked_list_is_sound()
     ensures { λ r. ⌜ WorkedListIsSound ⌝ }
+{}
+
+pub fn larger_list_is_sound()
+    ensures { λ r. ⌜ LargerListIsSound ⌝ }
 {}
 
 pub fn worked_operations()

@@ -10,13 +10,14 @@ ghost use Rattle.records.specs.Contexts.{checkedContext};
 ghost use Rattle.trees.specs.Tree.{flat};
 ghost use Rattle.emit.specs.Emitted.{Emits};
 ghost use Rattle.emit.specs.Answers.{Answers};
-ghost use Rattle.layout.specs.Config.{base, Supported, positions};
+ghost use Rattle.layout.specs.Config.{Supported, positions};
 ghost use Rattle.layout.specs.Positions.{Table};
 ghost use Rattle.memory.specs.Objects.{extIn, objectRecords, storeZeros, storeFst, storeValue, storeValues, storeOther, storeOthers, storeSome, storeObject};
-ghost use Rattle.memory.specs.Answered.{treeAnswer, storeTree, storeHighest, storeAnswer};
+ghost use Rattle.memory.specs.Answered.{treeAnswer, storeTree, storeHighest, storeAnswer, storeIn, storeRecordsIn};
 use emit::answer::Answer;
 use emit::cursor::Cursor;
 use emit::cursor::Row;
+use layout::config::Framed;
 use layout::config::HEAP;
 use layout::config::Shape;
 use layout::utils::ENTRIES;
@@ -312,10 +313,13 @@ fn store_last(out: &mut [u8], g: Shape, counter: u64, context: &[u8], k: u64, n:
 }
 
 // The last n variables of a context into an object, whose pointer goes into the first one's Fst.
-pub fn store(out: &mut [u8], counter: u64, context: &[u8], n: u64) -> Answer
-    ensures { λ r. ⌜ Answers (now (out .entry)) (now (out .exit)) r (storeAnswer base counter (length (now (out .entry))) (now (context .entry)) n) (flat (storeTree base (now (context .entry)) n) counter) ⌝ }
+pub fn store(out: &mut [u8], frame: u64, counter: u64, context: &[u8], n: u64) -> Answer
+    ensures { λ r. ⌜ Answers (now (out .entry)) (now (out .exit)) r (storeIn frame counter (length (now (out .entry))) (now (context .entry)) n) (storeRecordsIn frame counter (now (context .entry)) n) ⌝ }
 {
-    store_in(out, layout::config::base(), counter, context, n)
+    match layout::config::shape_of(frame) {
+        Framed::Of(g) => store_in(out, g, counter, context, n),
+        Framed::Unknown => emit::answer::unframed(context),
+    }
 }
 
 fn store_in(out: &mut [u8], g: Shape, counter: u64, context: &[u8], n: u64) -> Answer

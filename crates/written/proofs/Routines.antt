@@ -72,9 +72,9 @@ pub items-length : (k : ℕ) (s : List ℕ) → length (items 24 codeIn k s) ≡
 items-length zero s = refl
 items-length (suc k) s = ap suc (items-length k _)
 
-on-body : (G : Shape) (c : Checked) (r : Answer) → accepted (onBody G c r) ≡ true → (k : ℕ) × (c ≡ Good k) × (accepted r ≡ true)
-on-body G (Good k) r e = (k, refl, e)
-on-body G (Malformed place) r e = let z : _≡_ {A = ℕ} 0 1 = cc in absurd (omega arith)
+on-body : (c : Checked) (r : Answer) → accepted (onBody c r) ≡ true → (k : ℕ) × (c ≡ Good k) × (accepted r ≡ true)
+on-body (Good k) r e = (k, refl, e)
+on-body (Malformed place) r e = let z : _≡_ {A = ℕ} 0 1 = cc in absurd (omega arith)
 
 module _ (G : Shape) (sup : Supported G) where
   -- the frame's bytes and a block's
@@ -97,7 +97,7 @@ module _ (G : Shape) (sup : Supported G) where
   -- an accepted routine has at most five arguments
   pub few-arguments : (room n : ℕ) (body : List ℕ) → accepted (routineAnswer G room n body) ≡ true → n ≤ 5
   unfolding routineAnswer
-  few-arguments room n body e = ltb-false 5 n (passed accepted (ltb 5 n) Arguments _ refl (on-body G (checkedCodes 65506 body) _ e .2) .0)
+  few-arguments room n body e = ltb-false 5 n (passed accepted (ltb 5 n) Arguments _ refl (on-body (checkedCodes 65506 body) _ e .2) .0)
 
   pub routine-readable : (n k : ℕ) (body : List ℕ) → n ≤ 5 → Bytes body → checkedCodes 65506 body ≡ Good k
       → Readable (head G n ++ (items 24 codeIn k body ++ cleanup G))
@@ -111,5 +111,5 @@ module _ (G : Shape) (sup : Supported G) where
   pub routine-reads : (room n : ℕ) (body : List ℕ) → Bytes body → accepted (routineAnswer G room n body) ≡ true → RoutineReads G n body
   unfolding routineAnswer
   routine-reads room n body b e =
-      let c = on-body G (checkedCodes 65506 body) _ e in
+      let c = on-body (checkedCodes 65506 body) _ e in
       record { count = c .0; of-body = c .1; bytes = routine-records G n (c .0) body b (c .1); read = routine-readable n (c .0) body (few-arguments room n body e) b (c .1) }

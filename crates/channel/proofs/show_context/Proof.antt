@@ -9,6 +9,9 @@ pub show-context-spec : {M : Type 1} → statement M
 show-context-spec =
     tie.close
     (tie.spec
+    (λ c κs. search needs)
+    (λ c. search needs)
+    (λ c. sym (length-take-le _ _ (omega arith)))
     (λ c. sym (length-take-le _ _ (omega arith)))
     (λ c κs. search needs)
     (λ c κs. search needs)

@@ -1,5 +1,5 @@
 use borrow.Author.Needs.{needs}
-use Rattle.soak.proofs.Zeros.{part}
+use Rattle.soak.proofs.Parts.{part}
 use Rattle.soak.proofs.play_on.Statement.{statement}
 use Rattle.soak.proofs.play_on.Tie as tie
 

@@ -1,5 +1,5 @@
 use borrow.Author.Needs.{needs}
-use Rattle.soak.proofs.Zeros.{part}
+use Rattle.soak.proofs.Parts.{part}
 use Rattle.soak.proofs.played.Statement.{statement}
 use Rattle.soak.proofs.played.Tie as tie
 
@@ -9,7 +9,7 @@ played-spec =
     (tie.spec
     (λ c κs. search needs)
     (λ c. search needs)
-    (λ c. part 102624 (c .before .before .room-of .ensures))
+    (λ c. part 202464 (c .before .before .room-of .ensures))
     (λ c κs. search needs)
     (λ c κs. search needs)
     (λ c κs. search needs)

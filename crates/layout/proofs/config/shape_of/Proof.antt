@@ -1,5 +1,5 @@
 use borrow.Author.Needs.{needs}
-use Rattle.layout.proofs.Placing.{first-edition, second-edition, no-edition}
+use Rattle.layout.proofs.Placing.{small-frame, large-frame, no-frame}
 use Rattle.layout.proofs.config.shape_of.Statement.{statement}
 use Rattle.layout.proofs.config.shape_of.Tie as tie
 
@@ -8,7 +8,7 @@ shape-of-spec =
     tie.close
     (tie.spec
     (λ c κs. search needs)
-    (λ c. first-edition _ _ (c .before .if1 .taken) (c .framed .ensures))
+    (λ c. small-frame _ (c .before .if1 .taken) (c .base .ensures .0))
     (λ c κs. search needs)
-    (λ c. second-edition _ _ (c .before .before .if1 .left) (c .before .if2 .taken) (c .framed2 .ensures))
-    (λ c. no-edition _ _ (c .before .if1 .left) (c .if2 .left)))
+    (λ c. large-frame _ (c .before .before .if1 .left) (c .before .if2 .taken) (c .larger .ensures .0))
+    (λ c. no-frame _ (c .before .if1 .left) (c .if2 .left)))

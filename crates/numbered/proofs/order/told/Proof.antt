@@ -15,6 +15,7 @@ told-spec =
     (λ c. search needs)
     (λ c. search needs)
     (λ c. search needs)
+    (λ c. search needs)
     (λ c. rw (c .before .answer .given .1))
     (λ c. rw (c .enum-told .given .1))
     (λ c. rw (c .before .answer2 .given .1))
@@ -23,4 +24,5 @@ told-spec =
     (λ c. rw (c .enum-told4 .given .1))
     (λ c. rw (c .enum-told5 .given .1))
     (λ c. rw (c .enum-told6 .given .1))
+    (λ c. rw (c .enum-told7 .given .1))
     (λ c. rw (c .before .answer3 .given .1)))

@@ -1,6 +1,7 @@
 use borrow.Author.Needs.{needs}
-use Rattle.layout.specs.Config.{base}
-use Rattle.playing.proofs.Played.{starts}
+use Rattle.layout.proofs.Placing.{framed-supported}
+use mathlib.Core.Path.{refl}
+use Rattle.playing.proofs.Played.{starts-so}
 use Rattle.playing.proofs.channel.fresh.Statement.{statement}
 use Rattle.playing.proofs.channel.fresh.Tie as tie
 
@@ -9,4 +10,4 @@ fresh-spec =
     tie.close
     (tie.spec
     (λ c κs. search needs)
-    (λ c. starts base _ (c .fresh .ensures)))
+    (λ c. record { frame-is = refl; starts = λ g e blocks. starts-so g (framed-supported _ e) (c .fresh-registers .ensures g e) blocks }))

@@ -1,10 +1,7 @@
 use borrow.Author.Needs.{needs}
-use mathlib.Core.Path.{refl}
-use native.Mathlib.Omega.{arith}
-use Rattle.layout.specs.Config.{base}
-use Rattle.instructions.specs.View.{wordsOf}
-use Rattle.playing.specs.Playing.{channelOf, asking}
-use Rattle.playing.proofs.Played.{not-accepted, refused-plays, records-there, bindings-there, accepted-plays}
+use mathlib.Core.Path.{sym, _∙_}
+use Rattle.layout.proofs.Placing.{framed-supported}
+use Rattle.playing.proofs.Played.{plays-known, plays-unknown}
 use Rattle.playing.proofs.channel.play.Statement.{statement}
 use Rattle.playing.proofs.channel.play.Tie as tie
 
@@ -12,14 +9,13 @@ pub play-spec : {M : Type 1} → statement M
 play-spec =
     tie.close
     (tie.spec
-    (λ c. search needs)
-    (λ c. search needs)
     (λ c κs. search needs)
     (λ c. search needs)
+    (λ c κs. let e = sym (c .before .before .before .before .before .shape-of .ensures) ∙ c .before .before .before .g .given .1 in (e, framed-supported _ e))
     (λ c. search needs)
-    (λ c. refused-plays _ _ _ (c .before .before .before .before .ask .ensures) (not-accepted (c .before .before .before .before .ask .result) (c .match .keys2)))
-    (λ c κs. let a = c .before .before .before .before .before .before .before .before .before .before .before .before .before .before .before .before .before .before .args in let q = asking base (a .order .now) (a .bindings .now) (a .counter) (a .records-out .now) in records-there (channelOf (a .channel) (a .heap .now)) q (wordsOf (a .words)) (c .before .before .before .before .before .before .before .before .ask .ensures) (c .before .before .before .answer .given .1) refl)
-    (λ c. let a = c .before .before .before .before .before .before .before .before .before .before .before .before .before .before .before .before .before .before .before .before .before .before .args in let q = asking base (a .order .now) (a .bindings .now) (a .counter) (a .records-out .now) in omega (arith, bindings-there (channelOf (a .channel) (a .heap .now)) q (wordsOf (a .words)) (c .before .before .before .before .before .before .before .before .before .before .before .before .ask .ensures) (c .before .before .before .before .before .before .before .answer .given .1) refl))
+    (λ c κs. sym (c .before .before .before .shape-of .ensures) ∙ c .before .enum-told .given .1)
     (λ c. search needs)
     (λ c. search needs)
-    (λ c. let a = c .before .before .before .before .before .before .before .before .before .before .before .before .before .before .before .before .before .before .before .before .before .before .args in let q = asking base (a .order .now) (a .bindings .now) (a .counter) (a .records-out .now) in accepted-plays (channelOf (a .channel) (a .heap .now)) q (wordsOf (a .words)) (c .before .before .before .before .before .before .before .before .before .before .before .before .ask .ensures) (c .before .before .before .before .before .before .before .answer .given .1) refl refl (c .before .before .before .run-records .ensures)))
+    (λ c. plays-known (sym (c .before .before .before .before .before .before .before .before .before .before .shape-of .ensures) ∙ c .before .before .before .before .before .before .before .before .g .given .1) (c .before .before .before .before .play-in .ensures .0) (c .before .before .before .before .play-in .ensures .1))
+    (λ c. search needs)
+    (λ c. plays-unknown (sym (c .before .before .before .before .before .before .shape-of .ensures) ∙ c .before .before .before .before .enum-told .given .1) (c .before .before .refuse .ensures _)))

@@ -9,9 +9,9 @@ run-records-spec =
     tie.close
     (tie.spec
     (λ c. search needs)
-    (λ c κs. search needs)
-    (λ c κs. search needs)
-    (λ c. sym (length-take-le _ _ (c .before .before .before .before .before .pre)))
+    (λ c κs. c .before .before .before .pre .1)
+    (λ c. sym (length-take-le _ _ (c .before .before .before .before .before .pre .0)))
     (λ c κs. search needs)
     (λ c. search needs)
-    (λ c. rw (c .before .before .before .before .before .block-words .ensures .0, c .before .before .before .before .before .before .base .ensures .0) at (c .before .before .run .ensures)))
+    (λ c. search needs)
+    (λ c. rw (c .before .before .before .before .before .before .before .before .before .block-words .ensures .0) at (c .before .before .before .before .run-lent .ensures)))

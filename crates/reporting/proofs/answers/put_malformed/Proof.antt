@@ -15,4 +15,4 @@ put-malformed-spec =
     (λ c. search needs)
     (λ c κs. search needs)
     (λ c. search needs)
-    (λ c g. c .before .before .before .before .before .before .before .put-count .ensures ⨟ c .before .before .put-bytes .ensures))
+    (λ c frame. c .before .before .before .before .before .before .before .put-count .ensures ⨟ c .before .before .put-bytes .ensures))

@@ -17,4 +17,4 @@ put-short-spec =
     (λ c. search needs)
     (λ c κs. search needs)
     (λ c. search needs)
-    (λ c g. c .before .before .before .before .before .before .before .before .before .before .before .before .put-count .ensures ⨟ c .before .before .before .before .before .before .before .put-bytes .ensures ⨟ c .before .before .put-bytes2 .ensures))
+    (λ c frame. c .before .before .before .before .before .before .before .before .before .before .before .before .put-count .ensures ⨟ c .before .before .before .before .before .before .before .put-bytes .ensures ⨟ c .before .before .put-bytes2 .ensures))

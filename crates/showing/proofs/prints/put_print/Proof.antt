@@ -1,8 +1,8 @@
 use borrow.Author.Needs.{needs}
-use mathlib.Core.Path.{sym, ap, _∙_}
-use lib.ListN.{length-map}
-use Rattle.layout.specs.declared.config.Shape.{Shape}
-use Rattle.layout.specs.Config.{stackDepth}
+use mathlib.Core.Path.{sym, _∙_}
+use native.Mathlib.Omega.{arith}
+use Rattle.layout.proofs.Placing.{framed-supported, on-stack}
+use Rattle.text.proofs.Putting.{nothing, at-most}
 use Rattle.showing.proofs.prints.put_print.Statement.{statement}
 use Rattle.showing.proofs.prints.put_print.Tie as tie
 
@@ -12,6 +12,8 @@ put-print-spec =
     (tie.spec
     (λ c κs. search needs)
     (λ c. search needs)
-    (λ c κs. let s = c .before .before .before .before .before .before .before .before in let e = c .before .before .base .ensures .0 in (record { registers = sym (length-map (s .args .state .registers) (λ v. v)) ∙ s .good .1 .1 .1 .0 .1 .1 .0 .1 .0 .1; stack = sym (length-map (s .args .state .stack) (λ v. v)) ∙ s .good .1 .1 .1 .0 .1 .1 .1 .0 .1 .0 .1 ∙ ap (λ (g : Shape). stackDepth g) (sym e) }, s .pre, c .before .before .base .ensures .1))
+    (λ c κs. let w = on-stack _ _ (sym (c .before .before .before .before .before .shape-on .ensures) ∙ c .before .before .before .g .given .1) in (record { registers = search needs; stack = w .1 }, (c .before .before .before .before .before .before .before .before .before .pre), framed-supported _ (w .0)))
     (λ c. search needs)
-    (λ c. rw (c .before .before .before .before .before .base .ensures .0) at (c .before .before .put-print-in .ensures)))
+    (λ c. search needs)
+    (λ c. rw (sym (c .before .before .before .before .before .before .before .before .shape-on .ensures) ∙ c .before .before .before .before .before .before .g .given .1) (c .before .before .put-print-in .ensures))
+    (λ c. rw (sym (c .before .before .shape-on .ensures) ∙ c .enum-told .given .1) (at-most (nothing _ _) (omega arith))))

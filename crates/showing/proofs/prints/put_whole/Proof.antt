@@ -22,7 +22,7 @@ put-whole-spec =
     (λ c. search needs)
     (λ c. search needs)
     (λ c. search needs)
-    (λ c κs. let w = c .before .before .before .before .before .before .before .before .pre in let l = c .before .if1 .taken in (w .0 .registers, omega (arith, w .0 .stack), omega (arith, w .2 .frame), w .1))
+    (λ c κs. let w = c .before .before .before .before .before .before .before .before .before .pre in let l = c .before .if1 .taken in (w .0 .registers, omega (arith, w .0 .stack), omega (arith, w .2 .frame), w .1))
     (λ c. search needs)
     (λ c. rw (c .before .before .before .before .before .before .order .given .1, lt-ltb _ _ (c .before .before .before .before .if1 .taken)) (c .before .before .put-word .ensures))
     (λ c. rw (c .enum-told .given .1) (at-most (nothing _ _) (omega arith)))

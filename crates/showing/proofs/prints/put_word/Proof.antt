@@ -7,7 +7,7 @@ put-word-spec =
     tie.close
     (tie.spec
     (λ c κs. search needs)
-    (λ c κs. let w = c .before .before .before .before .pre in (w .0, w .1, c .before .positions .ensures, w .2))
+    (λ c κs. let w = c .before .before .before .before .before .pre in (w .0, w .1, c .before .positions .ensures, w .2))
     (λ c κs. search needs)
     (λ c. search needs)
     (λ c. rw (← (c .before .before .before .before .word-at .ensures)) (c .before .before .put-printed .ensures)))

@@ -20,7 +20,7 @@ put-first-spec =
     Inv-loop
     μ-loop
     (λ c. (omega arith, no-lines _ _ _ _ _ _))
-    (λ c κs. let w = c .before .before .before .before .before .before .pre in (omega arith, omega arith, w .2, w .3, omega arith, w .5))
+    (λ c κs. let w = c .before .before .before .before .before .before .before .pre in (omega arith, omega arith, w .2, w .3, omega arith, w .5))
     (λ c. omega arith)
     (λ c. omega arith)
     (λ c. let l = c .before .before .before .before .before .loop in (omega arith, line-more _ _ _ _ _ (l .inv .1) (c .before .before .put-variable .ensures)))

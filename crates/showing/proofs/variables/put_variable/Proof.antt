@@ -1,5 +1,5 @@
-use native.Mathlib.Omega.{arith}
 use borrow.Author.Needs.{needs}
+use native.Mathlib.Omega.{arith}
 use Rattle.showing.proofs.Rows.{line-of}
 use Rattle.showing.proofs.variables.put_variable.Statement.{statement}
 use Rattle.showing.proofs.variables.put_variable.Tie as tie
@@ -8,11 +8,11 @@ pub put-variable-spec : {M : Type 1} → statement M
 put-variable-spec =
     tie.close
     (tie.spec
-    (λ c. let w = c .before .before .before .pre in omega (arith, w .1, w .5 .frame))
-    (λ c κs. let w = c .before .before .before .pre in (w .2 .registers, omega (arith, w .1, w .2 .stack), w .3, omega (arith, w .1, w .5 .frame)))
-    (λ c. let w = c .before .before .before .before .pre in omega (arith, w .1, w .5 .frame))
     (λ c. let w = c .before .before .before .before .pre in omega (arith, w .1, w .5 .frame))
     (λ c κs. let w = c .before .before .before .before .pre in (w .2 .registers, omega (arith, w .1, w .2 .stack), w .3, omega (arith, w .1, w .5 .frame)))
+    (λ c. let w = c .before .before .before .before .before .pre in omega (arith, w .1, w .5 .frame))
+    (λ c. let w = c .before .before .before .before .before .pre in omega (arith, w .1, w .5 .frame))
+    (λ c κs. let w = c .before .before .before .before .before .pre in (w .2 .registers, omega (arith, w .1, w .2 .stack), w .3, omega (arith, w .1, w .5 .frame)))
     (λ c κs. search needs)
     (λ c κs. search needs)
     (λ c. search needs)

@@ -1,4 +1,7 @@
 use borrow.Author.Needs.{needs}
+use mathlib.Core.Path.{refl, sym, _∙_}
+use Rattle.emit.specs.Wrote.{refused}
+use Rattle.layout.proofs.Placing.{framed-supported}
 use Rattle.storing.proofs.store.store.Statement.{statement}
 use Rattle.storing.proofs.store.store.Tie as tie
 
@@ -7,6 +10,10 @@ store-spec =
     tie.close
     (tie.spec
     (λ c κs. search needs)
+    (λ c. search needs)
+    (λ c κs. framed-supported _ (sym (c .before .before .before .before .shape-of .ensures) ∙ c .before .before .g .given .1))
+    (λ c. search needs)
     (λ c κs. search needs)
     (λ c. search needs)
-    (λ c. rw (c .before .before .before .base .ensures .0) at (c .before .before .store-in .ensures)))
+    (λ c. rw (sym (c .before .before .before .before .before .before .before .shape-of .ensures) ∙ c .before .before .before .before .before .g .given .1) (c .before .before .store-in .ensures))
+    (λ c. rw (sym (c .before .before .before .shape-of .ensures) ∙ c .before .enum-told .given .1) (refused (c .unframed .ensures .0) refl (c .unframed .ensures .1))))

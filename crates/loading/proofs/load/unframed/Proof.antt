@@ -1,0 +1,15 @@
+use borrow.Author.Needs.{needs}
+use mathlib.Core.Path.{refl, sym, _∙_}
+use Rattle.loading.proofs.load.unframed.Statement.{statement}
+use Rattle.loading.proofs.load.unframed.Tie as tie
+
+pub unframed-spec : {M : Type 1} → statement M
+unframed-spec =
+    tie.close
+    (tie.spec
+    (λ c κs. search needs)
+    (λ c. search needs)
+    (λ c κs. search needs)
+    (λ c. search needs)
+    (λ c. (rw (sym (c .before .before .before .check-context .ensures .answer) ∙ c .before .enum-told .given .1) (c .unframed .ensures .0), c .unframed .ensures .1))
+    (λ c. (rw (sym (c .before .before .check-context .ensures .answer) ∙ c .enum-told2 .given .1), refl)))

@@ -1,0 +1,2 @@
+-- Lemmas of the proofs.
+pub mod Erased  -- how many records and labels erase_block has
