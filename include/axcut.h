@@ -1,10 +1,13 @@
 /*
  * AxCut's x86-64 back end, proved: the functions of libport.a (`rt staticlib port`), for C99 and C++.
  *
- * Numbers. Every function but axcut_start and axcut_blocks answers 0 (AXCUT_OK) where its input is accepted, else the number of the cause
+ * Numbers. Every function but axcut_blocks answers 0 (AXCUT_OK) where its input is accepted, else the number of the cause
  * (AXCUT_CONTEXT to AXCUT_LIMIT). Causes are checked in rising order, so the lowest number that holds is answered. A refusal
  * leaves every buffer and the label counter as they were; only the words that tell about it are set (`place`, `value`, `count`,
  * `steps`). The exceptions are AXCUT_FAULT and AXCUT_LIMIT of axcut_run, which leave the state that the steps done reached.
+ *
+ * Frames. A routine or a channel has a frame of 256 or 512 spills, throughout. What depends on it takes the frame's number first;
+ * another number is AXCUT_OPERAND.
  *
  * Memory. The caller owns every buffer and lends it for the call: nothing is allocated, kept or freed, and there is no global
  * state, so calls on different buffers may go on at the same time. Buffers of one call must not overlap. No pointer may be null,
@@ -29,13 +32,13 @@ enum {
     AXCUT_CONTEXT = 1,    /* context not whole records, bad mark, kind or zero byte, over 4,096 */
     AXCUT_MALFORMED = 2,  /* malformed instruction or order, field not zero, too many; a heap not of 2 to 1,048,576 whole blocks
                              [record place from 1; 0 for the heap] */
-    AXCUT_OPERAND = 3,    /* register not 4..15, spill not 1..255, field not 0..2, label that no record may hold; no such
-                             operation, query or kind */
+    AXCUT_OPERAND = 3,    /* register not 4..15, spill not 1 to the frame's last (255, 511), field not 0..2, label that no record
+                             may hold; no such frame, operation, query or kind; a stack that is not the frame's */
     AXCUT_MISSING = 4,    /* id or place not in the context; more to store than there are variables */
     AXCUT_KIND = 5,       /* a variable of the wrong kind for the order */
     AXCUT_ARGUMENTS = 6,  /* more than 5 arguments */
     AXCUT_COUNT = 7,      /* share count or a copy's n above 2^31-1 */
-    AXCUT_POSITION = 8,   /* position above 266 needed */
+    AXCUT_POSITION = 8,   /* position above the frame's last (266, 522) needed */
     AXCUT_LABELS = 9,     /* counter plus labels needed above 2^31-1 */
     AXCUT_ROOM = 10,      /* output too short; of two, the first that is [bytes needed] */
     AXCUT_FAULT = 11,     /* machine fault within the limit [steps done before it, record place] */
@@ -52,16 +55,27 @@ enum {
     AXCUT_MOST_BODY_RECORDS = 65506,   /* in a routine's body */
     AXCUT_MOST_LISTED = 2730,          /* records that axcut_list takes */
     AXCUT_MOST_ARGUMENTS = 5,
-    AXCUT_MOST_VARIABLES = 133,        /* that orders can reach from the empty context (proved: orders_fit) */
-    AXCUT_ROOM_FOR_RECORDS = 102624,   /* enough for the records of every order on such a context (proved: orders_fit) */
-    AXCUT_ROOM_FOR_CONTEXT = 1064,     /* enough for the context after it (proved: orders_fit) */
     AXCUT_ROOM_FOR_TEXT = 162706       /* enough for every listing (proved: listings_fit) */
 };
+
+/* Frames, by the number of their spills. */
+enum {
+    AXCUT_FRAME = 256,
+    AXCUT_LARGER_FRAME = 512
+};
+
+/*
+ * What a frame wants; in brackets for each of the two. Proved (orders_fit): orders from the empty context reach no more variables,
+ * and the two rooms are enough for every order of a channel.
+ */
+#define AXCUT_STACK_WORDS(frame) ((frame) + 64)          /* of the machine's stack [320, 576] */
+#define AXCUT_MOST_VARIABLES(frame) (((frame) + 11) / 2) /* [133, 261] */
+#define AXCUT_ROOM_FOR_RECORDS(frame) ((frame) == AXCUT_FRAME ? 102624 : 202464)                 /* bytes for an order's records */
+#define AXCUT_ROOM_FOR_CONTEXT(frame) (AXCUT_BINDING_SIZE * AXCUT_MOST_VARIABLES(frame)) /* for the context after it [1064, 2088] */
 
 /* The machine: registers, stack, heap and the words that print calls leave. */
 enum {
     AXCUT_REGISTERS = 16,
-    AXCUT_STACK_WORDS = 320,
     AXCUT_BLOCK_WORDS = 8,
     AXCUT_FEWEST_BLOCKS = 2,
     AXCUT_MOST_BLOCKS = 1048576,
@@ -77,8 +91,8 @@ enum {
 };
 
 /*
- * Operands. A word names a register (the register's number) or a spill p (16 + p); a caller may give registers 4..15 and
- * spills 1..255. Variable i has positions 2i (Fst) and 2i + 1 (Snd); axcut_query gives a position's operand.
+ * Operands. A word names a register (the register's number) or a spill p (16 + p); a caller may give registers 4..15 and spills
+ * 1 to the frame's last. Variable i has positions 2i (Fst) and 2i + 1 (Snd); axcut_query gives a position's operand.
  */
 #define AXCUT_SPILL(p) (UINT64_C(16) + (p))
 enum {
@@ -169,20 +183,23 @@ uint64_t axcut_list(const uint8_t *records, size_t length, uint8_t *text, size_t
 
 /*
  * Sets the machine's state: with `fresh` the one that a list of orders starts from, else the one with which a routine is entered.
- * The heap beside it is the caller's and starts as zeroes.
+ * AXCUT_OPERAND where there is no such frame or `stack_words` is not AXCUT_STACK_WORDS(frame). The heap beside it is the
+ * caller's and starts as zeroes.
  */
-void axcut_start(bool fresh, uint64_t *registers /* 16 */, uint64_t *stack /* 320 */);
+uint64_t axcut_start(uint64_t frame, bool fresh, uint64_t *registers /* 16 */, uint64_t *stack, size_t stack_words);
 
 /*
  * Runs records on a lent state and heap of `heap_words` words, for at most `limit` steps. `words` are what a print call leaves in
  * registers 1 and 4..11. `steps` are those done, `place` the place of the bad or faulting record:
  *   AXCUT_OK          the run ended after `steps`; place 0
  *   AXCUT_MALFORMED   nothing was run; steps 0, `place` (0: the heap is not 2 to 1,048,576 whole blocks)
+ *   AXCUT_OPERAND     nothing was run: frame or `stack_words` as for axcut_start; steps 0, place 0
  *   AXCUT_FAULT       state and heap are as they were before record `place`, after `steps`
  *   AXCUT_LIMIT       state and heap are as they are after `limit` steps; steps is the limit, place 0
  */
-uint64_t axcut_run(const uint8_t *records, size_t length, uint64_t *registers /* 16 */, uint64_t *stack /* 320 */, uint64_t *heap,
-                   size_t heap_words, const uint64_t *words /* 9 */, uint64_t limit, uint64_t *steps, uint64_t *place);
+uint64_t axcut_run(uint64_t frame, const uint8_t *records, size_t length, uint64_t *registers /* 16 */, uint64_t *stack,
+                   size_t stack_words, uint64_t *heap, size_t heap_words, const uint64_t *words /* 9 */, uint64_t limit,
+                   uint64_t *steps, uint64_t *place);
 
 /* Counts of axcut_blocks, by their place. */
 enum {
@@ -236,8 +253,8 @@ enum {
  * Writes the records of an operation that draws no label. Arguments that it does not take are not read; `immediate` is a
  * two's complement. `value` is the number of records written, or the bytes needed (AXCUT_ROOM), else 0.
  */
-uint64_t axcut_operation(uint64_t operation, uint64_t first, uint64_t second, uint64_t third, uint32_t label, uint64_t immediate,
-                         uint8_t *out, size_t room, uint64_t *value);
+uint64_t axcut_operation(uint64_t frame, uint64_t operation, uint64_t first, uint64_t second, uint64_t third, uint32_t label,
+                         uint64_t immediate, uint8_t *out, size_t room, uint64_t *value);
 
 /* Operations of axcut_memory, and what each takes. */
 enum {
@@ -251,18 +268,19 @@ enum {
  * Writes the records of an operation on blocks. `counter` is the last label drawn before; where the answer is 0 it becomes the
  * last one drawn by this operation. `value` is as for axcut_operation.
  */
-uint64_t axcut_memory(uint64_t operation, uint64_t operand, uint64_t n, const uint8_t *context, size_t length,
+uint64_t axcut_memory(uint64_t frame, uint64_t operation, uint64_t operand, uint64_t n, const uint8_t *context, size_t length,
                       const uint8_t *loaded, size_t loaded_length, uint64_t *counter, uint8_t *out, size_t room, uint64_t *value);
 
 /* Writes the records of print_i64 of an operand, which keep the variables of the context. `value` is as for axcut_operation. */
-uint64_t axcut_print(bool newline, uint64_t source, const uint8_t *context, size_t length, uint8_t *out, size_t room,
-                     uint64_t *value);
+uint64_t axcut_print(uint64_t frame, bool newline, uint64_t source, const uint8_t *context, size_t length, uint8_t *out,
+                     size_t room, uint64_t *value);
 
 /*
  * Writes a routine: setup, the body's records, cleanup. `value` is the number of records written, the place of the body's first
  * bad or surplus record (AXCUT_MALFORMED) or the bytes needed (AXCUT_ROOM), else 0.
  */
-uint64_t axcut_routine(const uint8_t *body, size_t length, size_t arguments, uint8_t *out, size_t room, uint64_t *value);
+uint64_t axcut_routine(uint64_t frame, const uint8_t *body, size_t length, size_t arguments, uint8_t *out, size_t room,
+                       uint64_t *value);
 
 /* Queries, what each takes, and what its value is. `second` asks for Snd, else Fst. */
 enum {
@@ -270,12 +288,12 @@ enum {
     AXCUT_QUERY_FRESH_TEMPORARY = 2,    /* second, context: the operand of the next variable's half */
     AXCUT_QUERY_VARIABLE_TEMPORARY = 3, /* second, id, context: the operand of that variable's half */
     AXCUT_QUERY_STACK_OFFSET = 4,       /* at, a spill's word: its offset from STACK */
-    AXCUT_QUERY_FIELD_OFFSET = 5        /* second, at, a field 0..2: its offset in a block */
+    AXCUT_QUERY_FIELD_OFFSET = 5        /* second, at, a field 0..2: its offset in a block; in any frame */
 };
 
 /* Where a variable or field stands. What a query does not take is not read. `value` is 0 on a refusal. */
-uint64_t axcut_query(uint64_t query, bool second, uint64_t at, uint32_t id, const uint8_t *context, size_t length,
-                     uint64_t *value);
+uint64_t axcut_query(uint64_t frame, uint64_t query, bool second, uint64_t at, uint32_t id, const uint8_t *context,
+                     size_t length, uint64_t *value);
 
 /* Codes of orders, and the fields each uses; the others are zero. */
 enum {
@@ -307,9 +325,9 @@ enum {
  * The records are then run by axcut_run with `value` as the limit, on the state and the heap that the last run left; the next
  * order goes in with the context answered here.
  */
-uint64_t axcut_order(const uint8_t *context, size_t length, const uint8_t *order, size_t order_length, const uint8_t *bindings,
-                     size_t bindings_length, uint64_t *counter, uint8_t *records_out, size_t records_room, uint8_t *context_out,
-                     size_t context_room, uint64_t *value, uint64_t *count);
+uint64_t axcut_order(uint64_t frame, const uint8_t *context, size_t length, const uint8_t *order, size_t order_length,
+                     const uint8_t *bindings, size_t bindings_length, uint64_t *counter, uint8_t *records_out,
+                     size_t records_room, uint8_t *context_out, size_t context_room, uint64_t *value, uint64_t *count);
 
 /* Writes `size` bytes of a number, the lowest first. */
 static inline void axcut_write_number(uint8_t *at, uint64_t number, size_t size)
@@ -344,26 +362,28 @@ static inline void axcut_write_order(uint8_t *at, uint8_t code, uint8_t flag, ui
 }
 
 /*
- * The word that a variable holds between two runs: its Snd (an Ext's integer, a linked variable's tag) or its Fst. 0 where the
- * place has no position, or STACK is not in the stack. A print order's integer is read so before its run. Between the orders of
- * a sound channel STACK is where the setup left it (proved: heap_stays_sound).
+ * The word that a variable holds between two runs: its Snd (an Ext's integer, a linked variable's tag) or its Fst. The stack has
+ * AXCUT_STACK_WORDS(frame) words. 0 where the place has no position in the frame, or STACK is not in the stack. A print order's
+ * integer is read so before its run. Between the orders of a sound channel STACK is where the setup left it (proved:
+ * heap_stays_sound).
  */
-static inline uint64_t axcut_word(const uint64_t *registers, const uint64_t *stack, uint32_t place, bool second)
+static inline uint64_t axcut_word(uint64_t frame, const uint64_t *registers, const uint64_t *stack, uint32_t place, bool second)
 {
     const uint8_t none = 0;
-    const uint64_t bottom = AXCUT_STACK_END - 8 * AXCUT_STACK_WORDS;
+    const uint64_t words = AXCUT_STACK_WORDS(frame);
+    const uint64_t position = 2 * (uint64_t)place + (second ? 1 : 0);
     uint64_t operand, offset, index;
-    if (axcut_query(AXCUT_QUERY_POSITION, false, 2 * (uint64_t)place + (second ? 1 : 0), 0, &none, 0, &operand) != AXCUT_OK) {
+    if (axcut_query(frame, AXCUT_QUERY_POSITION, false, position, 0, &none, 0, &operand) != AXCUT_OK) {
         return 0;
     }
     if (operand < AXCUT_REGISTERS) {
         return registers[operand];
     }
-    if (axcut_query(AXCUT_QUERY_STACK_OFFSET, false, operand, 0, &none, 0, &offset) != AXCUT_OK) {
+    if (axcut_query(frame, AXCUT_QUERY_STACK_OFFSET, false, operand, 0, &none, 0, &offset) != AXCUT_OK) {
         return 0;
     }
-    index = (registers[AXCUT_STACK] + offset - bottom) / 8;
-    return index < AXCUT_STACK_WORDS ? stack[index] : 0;
+    index = (registers[AXCUT_STACK] + offset - (AXCUT_STACK_END - 8 * words)) / 8;
+    return index < words ? stack[index] : 0;
 }
 
 #ifdef __cplusplus

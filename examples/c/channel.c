@@ -1,6 +1,7 @@
 /*
  * A piezometer's channel: its limit is kept as an object, loaded for each reading and compared by subtraction. Each order's records
- * are emitted and run; the text is examples/expected.txt, as examples/rust/channel.rs prints it too. Compiles as C99 and as C++.
+ * are emitted and run. Then the list of orders in the file named, in both frames. With examples/long.orders the text is
+ * examples/expected.txt, as examples/rust/channel.rs prints it too. Compiles as C99 and as C++.
  */
 #include "axcut.h"
 
@@ -9,17 +10,20 @@
 #include <stdlib.h>
 #include <string.h>
 
-enum { BLOCKS = 3 }; /* 2, and the one that is reachable at once */
+/* Two more than are reachable at once: one, and 132 in the list. */
+enum { BLOCKS = 3, LIST_BLOCKS = 134 };
 
-/* All that a channel has: the caller owns it, the library is lent it. */
+/* All that a channel has: the caller owns it, the library is lent it. The arrays are large enough for either frame. */
 struct channel {
+    uint64_t frame;
     uint64_t registers[AXCUT_REGISTERS];
-    uint64_t stack[AXCUT_STACK_WORDS];
-    uint64_t heap[BLOCKS * AXCUT_BLOCK_WORDS];
+    uint64_t stack[AXCUT_STACK_WORDS(AXCUT_LARGER_FRAME)];
+    uint64_t heap[LIST_BLOCKS * AXCUT_BLOCK_WORDS];
+    size_t blocks;
     uint64_t counter;
-    uint8_t context[AXCUT_ROOM_FOR_CONTEXT];
+    uint8_t context[AXCUT_ROOM_FOR_CONTEXT(AXCUT_LARGER_FRAME)];
     size_t variables;
-    uint8_t records[AXCUT_ROOM_FOR_RECORDS];
+    uint8_t records[AXCUT_ROOM_FOR_RECORDS(AXCUT_LARGER_FRAME)];
 };
 
 /* An order's fields, and what it is for. A load's n fields are all integers here. */
@@ -67,6 +71,8 @@ static const char *words_of(uint64_t number)
         return "no such variable in the context";
     case AXCUT_KIND:
         return "variable of the wrong kind";
+    case AXCUT_POSITION:
+        return "position above the frame's last needed";
     default:
         return "see axcut.h";
     }
@@ -100,22 +106,25 @@ static void name_order(char name[32], const struct order *order)
     }
 }
 
-/* The order's records, and the context after it in place of the one before. */
-static uint64_t emit(struct channel *channel, const struct order *order, uint64_t *records)
+/* A channel before its first order. The heap and the context start as zeroes. */
+static void start(struct channel *channel, uint64_t frame, size_t blocks)
 {
-    uint8_t bytes[AXCUT_ORDER_SIZE];
-    uint8_t bindings[2 * AXCUT_BINDING_SIZE];
-    uint8_t after[AXCUT_ROOM_FOR_CONTEXT];
-    size_t follow = order->code == AXCUT_ORDER_LOAD ? order->n : 0;
-    uint64_t number, count;
-    uint32_t i;
-    for (i = 0; i < follow; i++) {
-        axcut_write_binding(bindings + i * AXCUT_BINDING_SIZE, AXCUT_EXT, (uint32_t)channel->variables - 1 + i);
+    memset(channel, 0, sizeof *channel);
+    channel->frame = frame;
+    channel->blocks = blocks;
+    if (axcut_start(frame, true, channel->registers, channel->stack, AXCUT_STACK_WORDS(frame)) != AXCUT_OK) {
+        exit(EXIT_FAILURE);
     }
-    axcut_write_order(bytes, order->code, order->flag, order->a, order->b, order->n, order->value);
-    number = axcut_order(channel->context, channel->variables * AXCUT_BINDING_SIZE, bytes, sizeof bytes, bindings,
-                         follow * AXCUT_BINDING_SIZE, &channel->counter, channel->records, sizeof channel->records, after,
-                         sizeof after, records, &count);
+}
+
+/* An order's records, and the context after it in place of the one before. `follow` bindings come with it. */
+static uint64_t emit(struct channel *channel, const uint8_t *order, const uint8_t *bindings, size_t follow, uint64_t *records)
+{
+    uint8_t after[sizeof channel->context];
+    uint64_t count;
+    uint64_t number = axcut_order(channel->frame, channel->context, channel->variables * AXCUT_BINDING_SIZE, order,
+                                  AXCUT_ORDER_SIZE, bindings, follow * AXCUT_BINDING_SIZE, &channel->counter, channel->records,
+                                  sizeof channel->records, after, sizeof after, records, &count);
     if (number == AXCUT_OK) {
         memcpy(channel->context, after, count * AXCUT_BINDING_SIZE);
         channel->variables = count;
@@ -128,20 +137,35 @@ static void run(struct channel *channel, uint64_t records)
 {
     static const uint64_t words[AXCUT_PRINT_WORDS] = {0};
     uint64_t steps, place;
-    uint64_t number = axcut_run(channel->records, records * AXCUT_RECORD_SIZE, channel->registers, channel->stack, channel->heap,
-                                BLOCKS * AXCUT_BLOCK_WORDS, words, records, &steps, &place);
+    uint64_t number = axcut_run(channel->frame, channel->records, records * AXCUT_RECORD_SIZE, channel->registers, channel->stack,
+                                AXCUT_STACK_WORDS(channel->frame), channel->heap, channel->blocks * AXCUT_BLOCK_WORDS, words,
+                                records, &steps, &place);
     if (number != AXCUT_OK) {
         printf("run refused with %" PRIu64 " at record %" PRIu64 "\n", number, place);
         exit(EXIT_FAILURE);
     }
 }
 
+/* What a print order prints, read before its run. */
+static void print(const struct channel *channel, uint32_t place)
+{
+    printf("%" PRId64 "\n", (int64_t)axcut_word(channel->frame, channel->registers, channel->stack, place, true));
+}
+
 static void play(struct channel *channel, const struct order *order)
 {
     char name[32];
+    uint8_t bytes[AXCUT_ORDER_SIZE];
+    uint8_t bindings[2 * AXCUT_BINDING_SIZE];
+    uint32_t follow = order->code == AXCUT_ORDER_LOAD ? order->n : 0;
     uint64_t before = channel->counter;
-    uint64_t records;
-    uint64_t number = emit(channel, order, &records);
+    uint64_t number, records;
+    uint32_t i;
+    for (i = 0; i < follow; i++) {
+        axcut_write_binding(bindings + i * AXCUT_BINDING_SIZE, AXCUT_EXT, (uint32_t)channel->variables - 1 + i);
+    }
+    axcut_write_order(bytes, order->code, order->flag, order->a, order->b, order->n, order->value);
+    number = emit(channel, bytes, bindings, follow, &records);
     name_order(name, order);
     if (number != AXCUT_OK) {
         printf("%-14s refused with %" PRIu64 ": %s\n", name, number, words_of(number));
@@ -150,7 +174,7 @@ static void play(struct channel *channel, const struct order *order)
     printf("%-14s %2" PRIu64 " records, %2" PRIu64 " labels", name, records, channel->counter - before);
     printf(order->why[0] ? "  %s\n" : "%s\n", order->why);
     if (order->code == AXCUT_ORDER_PRINT) {
-        printf("%" PRId64 "\n", (int64_t)axcut_word(channel->registers, channel->stack, order->a, true));
+        print(channel, order->a);
     }
     run(channel, records);
 }
@@ -159,7 +183,7 @@ static void show_variables(const struct channel *channel)
 {
     uint32_t place;
     for (place = 0; place < channel->variables; place++) {
-        uint64_t word = axcut_word(channel->registers, channel->stack, place, true);
+        uint64_t word = axcut_word(channel->frame, channel->registers, channel->stack, place, true);
         if (channel->context[place * AXCUT_BINDING_SIZE + 2] == AXCUT_LINKED) {
             printf("variable %" PRIu32 ": object, tag %" PRIu64 "\n", place, word);
         } else {
@@ -172,20 +196,81 @@ static void show_variables(const struct channel *channel)
 static void show_heap(const struct channel *channel)
 {
     uint64_t counts[AXCUT_BLOCKS_COUNTS];
-    axcut_blocks(channel->registers, channel->heap, BLOCKS * AXCUT_BLOCK_WORDS, counts);
-    printf("heap: %d blocks, %" PRIu64 " reachable at once, %" PRIu64 " to fit\n", BLOCKS, counts[AXCUT_BLOCKS_PEAK],
+    axcut_blocks(channel->registers, channel->heap, channel->blocks * AXCUT_BLOCK_WORDS, counts);
+    printf("heap: %zu blocks, %" PRIu64 " reachable at once, %" PRIu64 " to fit\n", channel->blocks, counts[AXCUT_BLOCKS_PEAK],
            counts[AXCUT_BLOCKS_PEAK] + AXCUT_SPARE_BLOCKS);
 }
 
-int main(void)
+/* A number of 32 bits in a record. */
+static uint32_t read_field(const uint8_t *at)
 {
-    static struct channel channel; /* zeroes: so the heap and the context start */
-    size_t i;
-    axcut_start(true, channel.registers, channel.stack);
+    return at[0] | (uint32_t)at[1] << 8 | (uint32_t)at[2] << 16 | (uint32_t)at[3] << 24;
+}
+
+/* Plays a list of order records, a load's bindings after it, up to its end or the first refusal. */
+static void play_list(struct channel *channel, const uint8_t *bytes, size_t length)
+{
+    size_t accepted = 0, most = 0;
+    printf("a list in a frame of %" PRIu64 " spills\n", channel->frame);
+    while (length >= AXCUT_ORDER_SIZE) {
+        size_t follow = bytes[1] == AXCUT_ORDER_LOAD ? read_field(bytes + 12) : 0;
+        size_t size = AXCUT_ORDER_SIZE + follow * AXCUT_BINDING_SIZE;
+        uint64_t number, records;
+        if (size > length) {
+            break;
+        }
+        number = emit(channel, bytes, bytes + AXCUT_ORDER_SIZE, follow, &records);
+        if (number != AXCUT_OK) {
+            printf("order %zu refused with %" PRIu64 ": %s\n", accepted + 1, number, words_of(number));
+            break;
+        }
+        if (bytes[1] == AXCUT_ORDER_PRINT) {
+            print(channel, read_field(bytes + 4));
+        }
+        run(channel, records);
+        accepted++;
+        most = channel->variables > most ? channel->variables : most;
+        bytes += size;
+        length -= size;
+    }
+    printf("%zu orders accepted, %zu variables at most\n", accepted, most);
+}
+
+/* The bytes of a file, as many as there is room for. */
+static size_t read_file(const char *name, uint8_t *bytes, size_t room)
+{
+    FILE *file = fopen(name, "rb");
+    size_t length;
+    if (file == NULL) {
+        perror(name);
+        exit(EXIT_FAILURE);
+    }
+    length = fread(bytes, 1, room, file);
+    fclose(file);
+    return length;
+}
+
+int main(int argc, char **argv)
+{
+    static struct channel channel;
+    static uint8_t list[65536];
+    static const uint64_t frames[] = {AXCUT_FRAME, AXCUT_LARGER_FRAME};
+    size_t i, length;
+    if (argc != 2) {
+        fputs("which list of orders?\n", stderr);
+        return EXIT_FAILURE;
+    }
+    start(&channel, AXCUT_FRAME, BLOCKS);
     for (i = 0; i < sizeof orders / sizeof orders[0]; i++) {
         play(&channel, &orders[i]);
     }
     show_variables(&channel);
     show_heap(&channel);
+    length = read_file(argv[1], list, sizeof list);
+    for (i = 0; i < sizeof frames / sizeof frames[0]; i++) {
+        start(&channel, frames[i], LIST_BLOCKS);
+        play_list(&channel, list, length);
+        show_heap(&channel);
+    }
     return EXIT_SUCCESS;
 }

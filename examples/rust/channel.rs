@@ -1,11 +1,17 @@
 //! A piezometer's channel: its limit is kept as an object, loaded for each reading and compared by
-//! subtraction. Each order's records are emitted and run; the text is `examples/expected.txt`, as
+//! subtraction. Each order's records are emitted and run. Then the list of orders in the file named,
+//! in both frames. With `examples/long.orders` the text is `examples/expected.txt`, as
 //! `examples/c/channel.c` prints it too.
 
-use axcut::{Arithmetic, Channel, Kind, Order, Refusal, Variable, RECORD_SIZE};
+use axcut::{
+    Arithmetic, Channel, Frame, Kind, Order, Refusal, Variable, BINDING_SIZE, BLOCK_WORDS,
+    ORDER_SIZE, RECORD_SIZE,
+};
+use std::error::Error;
 
-/// 2, and the one that the store acquires.
+/// Two more than are reachable at once: one, and 132 in the list.
 const BLOCKS: usize = 3;
+const LIST_BLOCKS: usize = 134;
 
 /// The orders, and what each is for.
 fn orders() -> Vec<(Order, &'static str)> {
@@ -75,7 +81,53 @@ fn play(channel: &mut Channel, order: &Order, why: &str) -> Result<(), Refusal> 
     Ok(())
 }
 
-fn main() -> Result<(), Refusal> {
+/// The bytes of the first order of a list, and of the bindings that follow it if it is a load.
+fn first(list: &[u8]) -> Option<(&[u8], &[u8])> {
+    let order = list.get(..ORDER_SIZE)?;
+    let count = match order {
+        [_, 6, ..] => u32::from_le_bytes(order[12..16].try_into().ok()?),
+        _ => 0,
+    };
+    let bindings = list[ORDER_SIZE..].get(..count as usize * BINDING_SIZE)?;
+    Some((order, bindings))
+}
+
+/// Plays a list of order records up to its end or the first refusal.
+fn play_list(frame: Frame, mut list: &[u8]) -> Result<(), Refusal> {
+    println!("a list in a frame of {} spills", frame.spills());
+    let mut channel = Channel::in_frame(frame, LIST_BLOCKS)?;
+    let (mut accepted, mut most) = (0, 0);
+    while let Some((order, bindings)) = first(list) {
+        match channel.order_bytes(order, bindings) {
+            Ok(done) => {
+                for print in done.prints {
+                    println!("{}", print.integer);
+                }
+            }
+            Err(refusal) => {
+                println!("order {} {refusal}", accepted + 1);
+                break;
+            }
+        }
+        accepted += 1;
+        most = most.max(channel.context().len());
+        list = &list[order.len() + bindings.len()..];
+    }
+    println!("{accepted} orders accepted, {most} variables at most");
+    show_heap(&channel);
+    Ok(())
+}
+
+fn show_heap(channel: &Channel) {
+    if let Some(counted) = channel.blocks() {
+        let blocks = channel.heap().len() / BLOCK_WORDS;
+        let (peak, fit) = (counted.peak, counted.to_fit());
+        println!("heap: {blocks} blocks, {peak} reachable at once, {fit} to fit");
+    }
+}
+
+fn main() -> Result<(), Box<dyn Error>> {
+    let name = std::env::args().nth(1).ok_or("which list of orders?")?;
     let mut channel = Channel::new(BLOCKS)?;
     for (order, why) in orders() {
         play(&mut channel, &order, why)?;
@@ -86,9 +138,10 @@ fn main() -> Result<(), Refusal> {
             Variable::Integer(integer) => println!("variable {place}: {integer}"),
         }
     }
-    if let Some(blocks) = channel.blocks() {
-        let (peak, fit) = (blocks.peak, blocks.to_fit());
-        println!("heap: {BLOCKS} blocks, {peak} reachable at once, {fit} to fit");
+    show_heap(&channel);
+    let list = std::fs::read(name)?;
+    for frame in [Frame::Of256, Frame::Of512] {
+        play_list(frame, &list)?;
     }
     Ok(())
 }

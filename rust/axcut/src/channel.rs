@@ -1,18 +1,12 @@
 //! A channel: orders go in, their records run on a state and heap of its own.
 
 use crate::ffi;
+use crate::frame::Frame;
 use crate::machine::{State, BLOCK_WORDS, MOST_BLOCKS};
 use crate::order::{Binding, Kind, Order, BINDING_SIZE};
 use crate::refusal::{Cause, Refusal};
 use crate::RECORD_SIZE;
 use std::ops::RangeInclusive;
-
-/// Bytes that are enough for the records of every order on a context that orders reach: proved,
-/// `orders_fit`.
-const RECORDS_ROOM: usize = 102_624;
-
-/// Bytes that are enough for the context after it: `orders_fit` too.
-const CONTEXT_ROOM: usize = 1_064;
 
 /// Blocks beyond those reachable at once: the next free one, and the frontier.
 const SPARE_BLOCKS: u64 = 2;
@@ -83,19 +77,24 @@ pub struct Channel {
 }
 
 impl Channel {
-    /// A fresh channel beside a heap of 2 to 1,048,576 blocks; 2 more than are reachable at once are
-    /// enough ([`Channel::blocks`] tells after a trial on a large heap), so 2 more than its stores
-    /// acquire are too.
+    /// A fresh channel in the frame of 256 spills, beside a heap of 2 to 1,048,576 blocks; 2 more than
+    /// are reachable at once are enough ([`Channel::blocks`] tells after a trial on a large heap), so
+    /// 2 more than its stores acquire are too.
     pub fn new(blocks: usize) -> Result<Channel, Refusal> {
+        Channel::in_frame(Frame::default(), blocks)
+    }
+
+    /// The same in either frame: the larger one has room for 261 variables.
+    pub fn in_frame(frame: Frame, blocks: usize) -> Result<Channel, Refusal> {
         if !(2..=MOST_BLOCKS).contains(&blocks) {
             return Err(Refusal::new(Cause::Malformed, 0, 0));
         }
         Ok(Channel {
             context: Vec::new(),
             counter: 0,
-            state: State::fresh(),
+            state: State::fresh(frame),
             heap: vec![0; blocks * BLOCK_WORDS],
-            rooms: (vec![0; RECORDS_ROOM], vec![0; CONTEXT_ROOM]),
+            rooms: (vec![0; frame.records_room()], vec![0; frame.context_room()]),
             failed: None,
         })
     }
@@ -135,6 +134,7 @@ impl Channel {
         let (records, context) = &mut self.rooms;
         let mut counter = self.counter;
         let told = ffi::order(
+            self.state.frame,
             &self.context,
             order,
             bindings,
@@ -200,6 +200,11 @@ impl Channel {
         self.counter = 0;
     }
 
+    /// The frame that the channel was made with.
+    pub fn frame(&self) -> Frame {
+        self.state.frame
+    }
+
     /// The machine's registers and stack.
     pub fn state(&self) -> &State {
         &self.state
@@ -229,11 +234,17 @@ impl Channel {
 
 #[cfg(test)]
 mod tests {
-    use super::{Channel, Print, Variable, CONTEXT_ROOM, RECORDS_ROOM};
-    use crate::{list, Arithmetic, Kind, Order, RECORD_SIZE};
+    use super::{Channel, Print, Variable};
+    use crate::{list, Arithmetic, Frame, Kind, Order, RECORD_SIZE};
+
+    const FRAMES: [Frame; 2] = [Frame::Of256, Frame::Of512];
 
     fn played(blocks: usize, orders: &[Order]) -> Channel {
-        let mut channel = Channel::new(blocks).unwrap();
+        played_in(Frame::default(), blocks, orders)
+    }
+
+    fn played_in(frame: Frame, blocks: usize, orders: &[Order]) -> Channel {
+        let mut channel = Channel::in_frame(frame, blocks).unwrap();
         for order in orders {
             channel.order(order).unwrap();
         }
@@ -283,18 +294,40 @@ mod tests {
 
     #[test]
     fn a_print_gives_the_integer_from_register_and_spill() {
-        let puts: Vec<Order> = (0..133).map(|i| Order::Put(i - 50)).collect();
-        let mut channel = played(2, &puts);
-        for place in [0, 5, 6, 132] {
-            let accepted = channel.order(&Order::Print(place, place == 6)).unwrap();
-            let print = Print {
-                integer: i64::from(place) - 50,
-                newline: place == 6,
-            };
-            assert_eq!(accepted.prints, [print]);
+        for (frame, most) in FRAMES.into_iter().zip([133, 261]) {
+            let puts: Vec<Order> = (0..i64::from(most)).map(|i| Order::Put(i - 50)).collect();
+            let mut channel = played_in(frame, 2, &puts);
+            for place in [0, 5, 6, 132, most - 1] {
+                let accepted = channel.order(&Order::Print(place, place == 6)).unwrap();
+                let print = Print {
+                    integer: i64::from(place) - 50,
+                    newline: place == 6,
+                };
+                assert_eq!(accepted.prints, [print]);
+            }
+            assert_eq!(channel.order(&Order::Put(0)).unwrap_err().number, 8);
+            assert_eq!(channel.variables().len(), most as usize);
+            assert_eq!(
+                (channel.frame(), frame.most_variables()),
+                (frame, most as usize)
+            );
         }
-        assert_eq!(channel.order(&Order::Put(0)).unwrap_err().number, 8);
-        assert_eq!(channel.variables().len(), 133);
+    }
+
+    /// As many variables as the frame has room for become one object and come back.
+    #[test]
+    fn a_full_frame_is_stored_and_loaded() {
+        for (frame, most, blocks) in [(Frame::Of256, 133, 66), (Frame::Of512, 261, 130)] {
+            let mut orders: Vec<Order> = (0..i64::from(most)).map(Order::Put).collect();
+            orders.push(Order::Store(most, 9));
+            let mut channel = played_in(frame, blocks + 2, &orders);
+            assert_eq!(channel.variables(), [Variable::Object(9)]);
+            assert_eq!(channel.blocks().unwrap().peak, blocks as u64);
+            let kinds = vec![Kind::Ext; most as usize];
+            channel.order(&Order::Load(kinds)).unwrap();
+            let integers = (0..i64::from(most)).map(Variable::Integer);
+            assert!(channel.variables().into_iter().eq(integers));
+        }
     }
 
     #[test]
@@ -391,25 +424,28 @@ mod tests {
         }
     }
 
-    /// Every order on every context of one kind up to 133 variables fits the rooms that channels
-    /// lend, and one needs all of it.
+    /// Every order on every context of one kind up to the frame's most variables fits the rooms that
+    /// channels lend, and one needs all of it.
     #[test]
-    fn the_largest_order_fits() {
-        let mut most = 0;
-        for linked in [false, true] {
-            for last in 1..=133 {
-                let mut channel = Channel::new(2).unwrap();
-                channel.context = context(linked, last);
-                for order in orders(last, linked) {
-                    let bindings = order.bindings(channel.bindings());
-                    if let Ok((records, after, _)) = channel.emit(&order.bytes(), &bindings) {
-                        most = most.max(records.len());
-                        assert!(after.len() <= CONTEXT_ROOM);
+    fn the_largest_order_fits_and_fills() {
+        for frame in FRAMES {
+            let most_variables = frame.most_variables() as u32;
+            let mut most = 0;
+            for linked in [false, true] {
+                for last in 1..=most_variables {
+                    let mut channel = Channel::in_frame(frame, 2).unwrap();
+                    channel.context = context(linked, last);
+                    for order in orders(last, linked, most_variables) {
+                        let bindings = order.bindings(channel.bindings());
+                        if let Ok((records, after, _)) = channel.emit(&order.bytes(), &bindings) {
+                            most = most.max(records.len());
+                            assert!(after.len() <= frame.context_room());
+                        }
                     }
                 }
             }
+            assert_eq!(most, frame.records_room());
         }
-        assert_eq!(most, RECORDS_ROOM);
     }
 
     fn context(linked: bool, variables: u32) -> Vec<u8> {
@@ -419,16 +455,16 @@ mod tests {
             .collect()
     }
 
-    fn orders(variables: u32, linked: bool) -> Vec<Order> {
+    fn orders(variables: u32, linked: bool, most: u32) -> Vec<Order> {
         let mut orders = vec![
             Order::Put(1),
             Order::Drop,
             Order::Print(variables - 1, true),
         ];
         orders.extend((1..=variables).map(|n| Order::Store(n, 1)));
-        orders.push(Order::Copy(variables - 1, 133 - variables));
+        orders.push(Order::Copy(variables - 1, most - variables));
         let kinds = if linked { Kind::Linked } else { Kind::Ext };
-        orders.extend((0..=134 - variables).map(|n| Order::Load(vec![kinds; n as usize])));
+        orders.extend((0..=most + 1 - variables).map(|n| Order::Load(vec![kinds; n as usize])));
         let divide = |a: u32| Order::Compute(Arithmetic::Div, a, variables - 1);
         orders.extend((0..variables.min(8)).map(divide));
         orders

@@ -1,6 +1,7 @@
 //! Records of operations and routines.
 
 use crate::ffi::{self, Told};
+use crate::frame::Frame;
 use crate::order::{context_bytes, Arithmetic, Binding};
 use crate::refusal::Refusal;
 use crate::RECORD_SIZE;
@@ -10,8 +11,8 @@ use crate::RECORD_SIZE;
 pub enum Operand {
     /// 4 to 15.
     Register(u8),
-    /// 1 to 255.
-    Spill(u8),
+    /// 1 to 255, in the larger frame to 511.
+    Spill(u16),
 }
 
 impl Operand {
@@ -25,7 +26,7 @@ impl Operand {
     fn of_word(word: u64) -> Operand {
         match word {
             0..=15 => Operand::Register(word as u8),
-            _ => Operand::Spill((word - 16) as u8),
+            _ => Operand::Spill((word - 16) as u16),
         }
     }
 }
@@ -130,13 +131,13 @@ fn written(mut ask: impl FnMut(&mut [u8]) -> Told) -> Result<Vec<u8>, Refusal> {
 }
 
 /// The records of an operation.
-pub fn operation(operation: Operation) -> Result<Vec<u8>, Refusal> {
+pub fn operation(frame: Frame, operation: Operation) -> Result<Vec<u8>, Refusal> {
     let operation = operation.numbered();
-    written(|out| ffi::operation(&operation, out))
+    written(|out| ffi::operation(frame, &operation, out))
 }
 
 /// The records of an operation on blocks. The counter is the last label drawn; a refusal keeps it.
-pub fn memory(memory: Memory, counter: &mut u64) -> Result<Vec<u8>, Refusal> {
+pub fn memory(frame: Frame, memory: Memory, counter: &mut u64) -> Result<Vec<u8>, Refusal> {
     let (context, loaded) = match memory {
         Memory::Store(context, _) => (context_bytes(context), Vec::new()),
         Memory::Load(context, loaded) => (context_bytes(context), context_bytes(loaded)),
@@ -155,23 +156,33 @@ pub fn memory(memory: Memory, counter: &mut u64) -> Result<Vec<u8>, Refusal> {
         context: &context,
         loaded: &loaded,
     };
-    written(|out| ffi::memory(&asked, counter, out))
+    written(|out| ffi::memory(frame, &asked, counter, out))
 }
 
 /// The records of a print of an operand, which keep the variables of a context.
-pub fn print(newline: bool, source: Operand, context: &[Binding]) -> Result<Vec<u8>, Refusal> {
+pub fn print(
+    frame: Frame,
+    newline: bool,
+    source: Operand,
+    context: &[Binding],
+) -> Result<Vec<u8>, Refusal> {
     let context = context_bytes(context);
-    written(|out| ffi::print(newline, source.word(), &context, out))
+    written(|out| ffi::print(frame, newline, source.word(), &context, out))
 }
 
 /// The records of a routine around a body.
-pub fn routine(body: &[u8], arguments: usize) -> Result<Vec<u8>, Refusal> {
-    written(|out| ffi::routine(body, arguments, out))
+pub fn routine(frame: Frame, body: &[u8], arguments: usize) -> Result<Vec<u8>, Refusal> {
+    written(|out| ffi::routine(frame, body, arguments, out))
 }
 
 /// The operand of a variable of a context by its id: its Snd or its Fst.
-pub fn variable(context: &[Binding], id: u32, second: bool) -> Result<Operand, Refusal> {
-    match ffi::query(3, second, 0, id, &context_bytes(context)) {
+pub fn variable(
+    frame: Frame,
+    context: &[Binding],
+    id: u32,
+    second: bool,
+) -> Result<Operand, Refusal> {
+    match ffi::query(frame, 3, second, 0, id, &context_bytes(context)) {
         Told { number: 0, value } => Ok(Operand::of_word(value)),
         Told { number, value } => Err(Refusal::told(number, value)),
     }
@@ -179,10 +190,8 @@ pub fn variable(context: &[Binding], id: u32, second: bool) -> Result<Operand, R
 
 #[cfg(test)]
 mod tests {
-    use super::{
-        memory, operation, print, routine, variable, Condition, Memory, Operand, Operation,
-    };
-    use crate::{list, Arithmetic, Binding, Kind, RECORD_SIZE};
+    use super::{Condition, Frame, Memory, Operand, Operation};
+    use crate::{list, Arithmetic, Binding, Kind, Refusal, RECORD_SIZE};
 
     const R5: Operand = Operand::Register(5);
     const R7: Operand = Operand::Register(7);
@@ -195,6 +204,23 @@ mod tests {
         Condition::Greater,
         Condition::GreaterOrEqual,
     ];
+
+    const SMALLER: Frame = Frame::Of256;
+    const LARGER: Frame = Frame::Of512;
+
+    type Written = Result<Vec<u8>, Refusal>;
+
+    fn operation(operation: Operation) -> Written {
+        super::operation(SMALLER, operation)
+    }
+
+    fn memory(memory: Memory, counter: &mut u64) -> Written {
+        super::memory(SMALLER, memory, counter)
+    }
+
+    fn routine(body: &[u8], arguments: usize) -> Written {
+        super::routine(SMALLER, body, arguments)
+    }
 
     fn codes(records: &[u8]) -> Vec<u8> {
         records
@@ -278,7 +304,7 @@ mod tests {
         let records = memory(Memory::EraseBlock(Operand::Spill(1)), &mut counter).unwrap();
         assert_eq!((records.len() / RECORD_SIZE, counter), (12, 3));
         assert_eq!(memory(Memory::Load(&[], &[]), &mut counter), Ok(Vec::new()));
-        let records = print(true, R5, &ext[..1]).unwrap();
+        let records = super::print(SMALLER, true, R5, &ext[..1]).unwrap();
         assert_eq!(records.len() / RECORD_SIZE, 6);
         assert_eq!(routine(&[], 5).unwrap().len() / RECORD_SIZE, 30);
     }
@@ -292,9 +318,61 @@ mod tests {
 
     #[test]
     fn a_variable_is_found_by_its_id() {
+        let variable = super::variable;
         let seven = context(&[Kind::Linked; 7]);
-        assert_eq!(variable(&seven, 0, true), Ok(R5));
-        assert_eq!(variable(&seven, 6, false), Ok(Operand::Spill(1)));
-        assert_eq!(variable(&seven, 7, false).unwrap_err().number, 4);
+        for frame in [SMALLER, LARGER] {
+            assert_eq!(variable(frame, &seven, 0, true), Ok(R5));
+            assert_eq!(variable(frame, &seven, 6, false), Ok(Operand::Spill(1)));
+            assert_eq!(variable(frame, &seven, 7, false).unwrap_err().number, 4);
+        }
+        let many = context(&[Kind::Ext; 262]);
+        let last = [(SMALLER, 133, 255), (LARGER, 261, 511)];
+        for (frame, id, spill) in last {
+            assert_eq!(variable(frame, &many, id, false), Ok(Operand::Spill(spill)));
+            assert_eq!(variable(frame, &many, id, true).unwrap_err().number, 8);
+        }
+    }
+
+    #[test]
+    fn the_last_spill_is_the_frames() {
+        for (frame, last) in [(SMALLER, 255), (LARGER, 511)] {
+            let jump = |spill| super::operation(frame, Operation::Jump(Operand::Spill(spill)));
+            let listing = list(&jump(last).unwrap()).unwrap();
+            assert!(listing.contains("MOVL 1 0 0 0 0"), "{listing}");
+            assert_eq!(jump(last + 1).unwrap_err().number, 3);
+        }
+    }
+
+    #[test]
+    fn stores_and_loads_by_frame() {
+        for (frame, most, stored, loaded) in [
+            (SMALLER, 133, (4_275, 858), (2_096, 135)),
+            (LARGER, 261, (8_435, 1_690), (4_144, 263)),
+        ] {
+            let linked = context(&vec![Kind::Linked; most + 1]);
+            let size = |memory| {
+                let mut counter = 0;
+                let written = super::memory(frame, memory, &mut counter);
+                written.map(|records| (records.len() / RECORD_SIZE, counter))
+            };
+            let store = size(Memory::Store(&linked[..most], most as u64));
+            let load = size(Memory::Load(&[], &linked[..most]));
+            assert_eq!((store, load), (Ok(stored), Ok(loaded)));
+            let more = size(Memory::Store(&linked, 1)).unwrap_err();
+            assert_eq!(more.number, 8);
+            let more = size(Memory::Load(&linked[..most], &linked[..1])).unwrap_err();
+            assert_eq!(more.number, 8);
+            assert!(size(Memory::Store(&linked[..most], 0)).is_ok());
+        }
+    }
+
+    #[test]
+    fn a_routine_has_its_frame() {
+        for (frame, bytes) in [(SMALLER, 2_048), (LARGER, 4_096)] {
+            let records = super::routine(frame, &[], 0).unwrap();
+            let listing = list(&records).unwrap();
+            assert!(listing.contains(&format!("SUBI 0 0 0 0 {bytes}\n")));
+            assert!(listing.contains(&format!("ADDI 0 0 0 0 {bytes}\n")));
+        }
     }
 }

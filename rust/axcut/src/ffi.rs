@@ -1,7 +1,8 @@
 //! The exported functions, and safe ones over them: slices give pointer and length, and every
 //! output word is set by the call.
 
-use crate::machine::{REGISTERS, STACK_WORDS};
+use crate::frame::Frame;
+use crate::machine::REGISTERS;
 
 /// The archive's functions, as `include/axcut.h` has them. Arrays go as pointers to their first
 /// word.
@@ -15,12 +16,20 @@ mod exported {
             room: usize,
             value: *mut u64,
         ) -> u64;
-        pub fn axcut_start(fresh: bool, registers: *mut u64, stack: *mut u64);
+        pub fn axcut_start(
+            frame: u64,
+            fresh: bool,
+            registers: *mut u64,
+            stack: *mut u64,
+            stack_words: usize,
+        ) -> u64;
         pub fn axcut_run(
+            frame: u64,
             records: *const u8,
             length: usize,
             registers: *mut u64,
             stack: *mut u64,
+            stack_words: usize,
             heap: *mut u64,
             heap_words: usize,
             words: *const u64,
@@ -35,6 +44,7 @@ mod exported {
             counts: *mut u64,
         );
         pub fn axcut_operation(
+            frame: u64,
             operation: u64,
             first: u64,
             second: u64,
@@ -46,6 +56,7 @@ mod exported {
             value: *mut u64,
         ) -> u64;
         pub fn axcut_memory(
+            frame: u64,
             operation: u64,
             operand: u64,
             n: u64,
@@ -59,6 +70,7 @@ mod exported {
             value: *mut u64,
         ) -> u64;
         pub fn axcut_print(
+            frame: u64,
             newline: bool,
             source: u64,
             context: *const u8,
@@ -68,6 +80,7 @@ mod exported {
             value: *mut u64,
         ) -> u64;
         pub fn axcut_routine(
+            frame: u64,
             body: *const u8,
             length: usize,
             arguments: usize,
@@ -76,6 +89,7 @@ mod exported {
             value: *mut u64,
         ) -> u64;
         pub fn axcut_query(
+            frame: u64,
             query: u64,
             second: bool,
             at: u64,
@@ -85,6 +99,7 @@ mod exported {
             value: *mut u64,
         ) -> u64;
         pub fn axcut_order(
+            frame: u64,
             context: *const u8,
             length: usize,
             order: *const u8,
@@ -129,8 +144,22 @@ pub fn list(records: &[u8], text: &mut [u8]) -> Told {
     Told { number, value }
 }
 
-pub fn start(fresh: bool, registers: &mut [u64; REGISTERS], stack: &mut [u64; STACK_WORDS]) {
-    unsafe { exported::axcut_start(fresh, registers.as_mut_ptr(), stack.as_mut_ptr()) }
+/// 0, or 3 where the stack has not the frame's words.
+pub fn start(
+    frame: Frame,
+    fresh: bool,
+    registers: &mut [u64; REGISTERS],
+    stack: &mut [u64],
+) -> u64 {
+    unsafe {
+        exported::axcut_start(
+            frame.number(),
+            fresh,
+            registers.as_mut_ptr(),
+            stack.as_mut_ptr(),
+            stack.len(),
+        )
+    }
 }
 
 /// What a run answered.
@@ -142,9 +171,10 @@ pub struct Ran {
 }
 
 pub fn run(
+    frame: Frame,
     records: &[u8],
     registers: &mut [u64; REGISTERS],
-    stack: &mut [u64; STACK_WORDS],
+    stack: &mut [u64],
     heap: &mut [u64],
     words: &[u64; 9],
     limit: u64,
@@ -152,10 +182,12 @@ pub fn run(
     let (mut steps, mut place) = (0, 0);
     let number = unsafe {
         exported::axcut_run(
+            frame.number(),
             records.as_ptr(),
             records.len(),
             registers.as_mut_ptr(),
             stack.as_mut_ptr(),
+            stack.len(),
             heap.as_mut_ptr(),
             heap.len(),
             words.as_ptr(),
@@ -197,11 +229,12 @@ pub struct Operation {
     pub immediate: u64,
 }
 
-pub fn operation(operation: &Operation, out: &mut [u8]) -> Told {
+pub fn operation(frame: Frame, operation: &Operation, out: &mut [u8]) -> Told {
     let [first, second, third] = operation.operands;
     let mut value = 0;
     let number = unsafe {
         exported::axcut_operation(
+            frame.number(),
             operation.number,
             first,
             second,
@@ -226,10 +259,11 @@ pub struct Memory<'a> {
     pub loaded: &'a [u8],
 }
 
-pub fn memory(memory: &Memory, counter: &mut u64, out: &mut [u8]) -> Told {
+pub fn memory(frame: Frame, memory: &Memory, counter: &mut u64, out: &mut [u8]) -> Told {
     let mut value = 0;
     let number = unsafe {
         exported::axcut_memory(
+            frame.number(),
             memory.number,
             memory.operand,
             memory.n,
@@ -246,10 +280,11 @@ pub fn memory(memory: &Memory, counter: &mut u64, out: &mut [u8]) -> Told {
     Told { number, value }
 }
 
-pub fn print(newline: bool, source: u64, context: &[u8], out: &mut [u8]) -> Told {
+pub fn print(frame: Frame, newline: bool, source: u64, context: &[u8], out: &mut [u8]) -> Told {
     let mut value = 0;
     let number = unsafe {
         exported::axcut_print(
+            frame.number(),
             newline,
             source,
             context.as_ptr(),
@@ -262,10 +297,11 @@ pub fn print(newline: bool, source: u64, context: &[u8], out: &mut [u8]) -> Told
     Told { number, value }
 }
 
-pub fn routine(body: &[u8], arguments: usize, out: &mut [u8]) -> Told {
+pub fn routine(frame: Frame, body: &[u8], arguments: usize, out: &mut [u8]) -> Told {
     let mut value = 0;
     let number = unsafe {
         exported::axcut_routine(
+            frame.number(),
             body.as_ptr(),
             body.len(),
             arguments,
@@ -277,10 +313,11 @@ pub fn routine(body: &[u8], arguments: usize, out: &mut [u8]) -> Told {
     Told { number, value }
 }
 
-pub fn query(query: u64, second: bool, at: u64, id: u32, context: &[u8]) -> Told {
+pub fn query(frame: Frame, query: u64, second: bool, at: u64, id: u32, context: &[u8]) -> Told {
     let mut value = 0;
     let number = unsafe {
         exported::axcut_query(
+            frame.number(),
             query,
             second,
             at,
@@ -302,6 +339,7 @@ pub struct Ordered {
 }
 
 pub fn order(
+    frame: Frame,
     context: &[u8],
     order: &[u8],
     bindings: &[u8],
@@ -312,6 +350,7 @@ pub fn order(
     let (mut value, mut count) = (0, 0);
     let number = unsafe {
         exported::axcut_order(
+            frame.number(),
             context.as_ptr(),
             context.len(),
             order.as_ptr(),

@@ -10,7 +10,7 @@ pub enum Cause {
     Context = 1,
     /// Malformed instruction or order, too many, or a heap of the wrong size.
     Malformed = 2,
-    /// An operand or label that may not be given.
+    /// An operand or label that may not be given, or a stack that has not the frame's words.
     Operand = 3,
     /// Id or place not in the context, or more to store than there are variables.
     Missing = 4,
@@ -20,7 +20,7 @@ pub enum Cause {
     Arguments = 6,
     /// Share count or a copy's number above 2^31 - 1.
     Count = 7,
-    /// Position above 266 needed.
+    /// Position above the frame's last needed: 266, or 522.
     Position = 8,
     /// Counter plus labels needed above 2^31 - 1.
     Labels = 9,
@@ -38,12 +38,15 @@ const CAUSES: [(Cause, &str); 12] = [
         Cause::Malformed,
         "malformed record, or a heap of the wrong size",
     ),
-    (Cause::Operand, "operand or label that may not be given"),
+    (
+        Cause::Operand,
+        "operand, label or stack that may not be given",
+    ),
     (Cause::Missing, "no such variable in the context"),
     (Cause::Kind, "variable of the wrong kind"),
     (Cause::Arguments, "more than 5 arguments"),
     (Cause::Count, "count above 2^31 - 1"),
-    (Cause::Position, "position above 266 needed"),
+    (Cause::Position, "position above the frame's last needed"),
     (Cause::Labels, "labels above 2^31 - 1 needed"),
     (Cause::Room, "output too short"),
     (Cause::Fault, "machine fault"),
