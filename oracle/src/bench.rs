@@ -6,6 +6,7 @@ mod emission;
 pub use emission::emission;
 
 use crate::answer::Answer;
+use crate::frame::Frame;
 use crate::interpreter::{self, BLOCK_WORDS, HEAP_START, Outcome, State};
 use crate::parse;
 use crate::port;
@@ -15,6 +16,8 @@ use crate::rust_side;
 use std::hint::black_box;
 use std::time::{Duration, Instant};
 
+/// The machine is timed in the smaller frame.
+const FRAME: Frame = Frame::Base;
 const BLOCKS: usize = 80;
 const WORDS: [u64; 9] = [0; 9];
 
@@ -42,8 +45,8 @@ pub fn machine() -> bool {
 
 /// The bytes of the records that the published Rust emits for a request.
 fn emitted(request: &str) -> Vec<u8> {
-    let request = parse::request(request).expect("a request");
-    match rust_side::answer(&request) {
+    let line = parse::line(request).expect("a request");
+    match rust_side::answer(line.frame, &line.request) {
         Answer::Records(records, _) => records.iter().flat_map(|r| r.to_bytes()).collect(),
         answer => unreachable!("the Rust emits records, not {answer}"),
     }
@@ -52,9 +55,9 @@ fn emitted(request: &str) -> Vec<u8> {
 /// A store of 133 variables, of both kinds, into 66 new blocks.
 fn store() -> Program {
     let setup = emitted("routine 0");
-    let mut state = interpreter::entry();
+    let mut state = interpreter::entry(FRAME);
     let mut heap = vec![0; BLOCKS * BLOCK_WORDS];
-    interpreter::run(&setup[..16 * SIZE], &mut state, &mut heap, &WORDS, 16);
+    by_rust(&setup[..16 * SIZE], &mut state, &mut heap, 16);
     assert_eq!(state.registers[2], HEAP_START);
     Program {
         name: "store of 133",
@@ -68,8 +71,7 @@ fn store() -> Program {
 fn shared_load(stored: &Program) -> Program {
     let (mut state, mut heap) = (stored.state.clone(), stored.heap.clone());
     for records in [&stored.records, &emitted("share_block_n p0 1")] {
-        let outcome = interpreter::run(records, &mut state, &mut heap, &WORDS, u64::MAX);
-        assert!(matches!(outcome, Outcome::Ended { .. }));
+        by_rust(records, &mut state, &mut heap, u64::MAX);
     }
     Program {
         name: "shared load of 133",
@@ -110,7 +112,7 @@ fn routine(name: &'static str, body: &str) -> Program {
     Program {
         name,
         records: emitted(&format!("{body}routine 5")),
-        state: interpreter::entry(),
+        state: interpreter::entry(FRAME),
         heap: vec![0; BLOCKS * BLOCK_WORDS],
     }
 }
@@ -172,13 +174,13 @@ type Side = fn(&[u8], &mut State, &mut [u64], u64) -> u64;
 const SIDES: [Side; 2] = [by_port, by_rust];
 
 fn by_port(records: &[u8], state: &mut State, heap: &mut [u64], limit: u64) -> u64 {
-    let ran = port::run(records, state, heap, &WORDS, limit);
+    let ran = port::run(FRAME.number(), records, state, heap, &WORDS, limit);
     assert!(matches!(ran.number, 0 | 12), "{ran}");
     ran.steps
 }
 
 fn by_rust(records: &[u8], state: &mut State, heap: &mut [u64], limit: u64) -> u64 {
-    match interpreter::run(records, state, heap, &WORDS, limit) {
+    match interpreter::run(FRAME.number(), records, state, heap, &WORDS, limit) {
         Outcome::Ended { steps, .. } => steps,
         Outcome::Limit { limit } => limit,
         outcome => unreachable!("{outcome:?}"),

@@ -1,6 +1,7 @@
 //! A channel on the port: the context answered last, and the state and heap that the last run
 //! left. An order goes in, and its records run.
 
+use crate::frame::Frame;
 use crate::interpreter::{self, State};
 use crate::lent::Lent;
 use crate::orders::BINDING;
@@ -41,13 +42,14 @@ impl Rooms {
     }
 }
 
-/// Puts an order to the port. Bytes past what is written must stay, on a refusal all and the
-/// counter too.
-pub fn ask(context: &[u8], asked: &Asked, rooms: Rooms) -> Result<Answered, Damaged> {
+/// Puts an order to the port, in the frame of so many spills. Bytes past what is written must
+/// stay, on a refusal all and the counter too.
+pub fn ask(frame: u64, context: &[u8], asked: &Asked, rooms: Rooms) -> Result<Answered, Damaged> {
     let mut records_out = Lent::new(rooms.records);
     let mut context_out = Lent::new(rooms.context);
     let mut counter = asked.counter;
     let answer = port::order(
+        frame,
         context,
         &asked.order,
         &asked.bindings,
@@ -90,6 +92,7 @@ pub enum Side {
 #[derive(Clone)]
 pub struct Channel {
     pub side: Side,
+    pub frame: Frame,
     pub context: Vec<u8>,
     pub state: Box<State>,
     pub heap: Vec<u64>,
@@ -97,13 +100,14 @@ pub struct Channel {
 
 impl Channel {
     /// The fresh routine's state beside a zeroed heap, and the empty context.
-    pub fn fresh(side: Side, words: usize) -> Channel {
+    pub fn fresh(side: Side, frame: Frame, words: usize) -> Channel {
         Channel {
             side,
+            frame,
             context: Vec::new(),
             state: Box::new(match side {
-                Side::Port => port::fresh(),
-                Side::Reading => interpreter::fresh(),
+                Side::Port => port::fresh(frame),
+                Side::Reading => interpreter::fresh(frame),
             }),
             heap: vec![0; words],
         }
@@ -111,10 +115,11 @@ impl Channel {
 
     /// Runs records on the state and the heap.
     pub fn run(&mut self, records: &[u8], words: &[u64; 9], limit: u64) -> Ran {
+        let frame = self.frame.number();
         let Channel { state, heap, .. } = self;
         match self.side {
-            Side::Port => port::run(records, state, heap, words, limit),
-            Side::Reading => interpreter::run(records, state, heap, words, limit).numbers(),
+            Side::Port => port::run(frame, records, state, heap, words, limit),
+            Side::Reading => interpreter::run(frame, records, state, heap, words, limit).numbers(),
         }
     }
 }

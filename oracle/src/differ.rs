@@ -1,8 +1,9 @@
 //! Puts one list of requests to both sides and counts the answers that differ.
 
 use crate::answer::Answer;
+use crate::frame::Frame;
 use crate::record;
-use crate::request::{Emission, Request};
+use crate::request::{Emission, Line, Operation, Query, Request};
 use crate::{parse, port_side, rust_side};
 use std::io::Result;
 
@@ -51,40 +52,56 @@ pub fn run(lines: impl Iterator<Item = Result<String>>) -> Result<bool> {
 }
 
 impl Tally {
-    fn compare(&mut self, line: &str) {
+    fn compare(&mut self, text: &str) {
         self.requests += 1;
-        let Ok(request) = parse::request(line) else {
+        let Ok(line) = parse::line(text) else {
             // both sides answer `malformed` with the same reason
             self.same += 1;
             return;
         };
-        let rust = rust_side::answer(&request);
-        let port = port_side::answer(&request, &mut None);
-        match outcome(&request, &rust, &port) {
+        let rust = by_rust(line.frame, &line.request);
+        let port = port_side::answer(&line, &mut None);
+        match outcome(&line, &rust, &port) {
             Outcome::Same => self.same += 1,
             Outcome::Matched => self.matched += 1,
             Outcome::PortAlone => self.port_alone += 1,
             Outcome::Different => {
                 self.different += 1;
                 if self.different <= SHOWN {
-                    show(self.requests, line, &rust, &port);
+                    show(self.requests, text, &rust, &port);
                 }
             }
         }
     }
 }
 
-fn outcome(request: &Request, rust: &Answer, port: &Answer) -> Outcome {
-    match (request, rust, port) {
-        (_, _, Answer::Damaged) => Outcome::Different,
+/// What the Rust answers, in a frame that there is not as in that of 256 spills.
+fn by_rust(frame: u64, request: &Request) -> Answer {
+    let frame = Frame::of(frame).unwrap_or(Frame::Base);
+    rust_side::answer(frame.number(), request)
+}
+
+fn outcome(line: &Line, rust: &Answer, port: &Answer) -> Outcome {
+    if *port == Answer::Damaged {
+        return Outcome::Different;
+    }
+    if matches!(rust, Answer::Malformed(_)) && rust != port {
+        return Outcome::PortAlone;
+    }
+    if unframed(line) {
+        return match port {
+            Answer::Refused(3, None) => Outcome::Matched,
+            _ => Outcome::Different,
+        };
+    }
+    match (&line.request, rust, port) {
         _ if rust == port => Outcome::Same,
-        (_, Answer::Malformed(_), _) => Outcome::PortAlone,
         (_, Answer::Panic(cause), Answer::Refused(number, None)) if cause == number => {
             Outcome::Matched
         }
         (_, Answer::Exceeded(_), Answer::Refused(9, None)) => Outcome::Matched,
         (Request::Emission(emission), Answer::Records(..), Answer::Refused(10, bytes))
-            if bytes.is_some() && *bytes == lacking(emission) =>
+            if bytes.is_some() && *bytes == lacking(line.frame, emission) =>
         {
             Outcome::Matched
         }
@@ -92,16 +109,30 @@ fn outcome(request: &Request, rust: &Answer, port: &Answer) -> Outcome {
     }
 }
 
+/// Whether the port must refuse with 3: the frame is none that there is, and the request has an
+/// operation or a query that goes by it.
+fn unframed(line: &Line) -> bool {
+    let goes_by_frame = match &line.request {
+        Request::Query(query) => !matches!(query, Query::FieldOffset(..)),
+        Request::Emission(emission) => {
+            let given = |operation: &Operation| matches!(operation, Operation::Raw(..));
+            !emission.operations.iter().all(given)
+        }
+        _ => false,
+    };
+    goes_by_frame && Frame::of(line.frame).is_none()
+}
+
 /// The bytes that the Rust's records need up to the first operation for which the request gives too
 /// little room, if there is one.
-fn lacking(emission: &Emission) -> Option<u64> {
+fn lacking(frame: u64, emission: &Emission) -> Option<u64> {
     let room = emission.room?;
     (1..=emission.operations.len()).find_map(|count| {
         let begun = Emission {
             operations: emission.operations[..count].to_vec(),
             ..*emission
         };
-        match rust_side::answer(&Request::Emission(begun)) {
+        match by_rust(frame, &Request::Emission(begun)) {
             Answer::Records(records, _) => Some((records.len() * record::SIZE) as u64),
             _ => None,
         }
@@ -129,19 +160,22 @@ mod tests {
     use super::*;
 
     fn outcome_of(line: &str, rust: Answer, port: Answer) -> Outcome {
-        outcome(&parse::request(line).unwrap(), &rust, &port)
+        outcome(&parse::line(line).unwrap(), &rust, &port)
+    }
+
+    fn rust(line: &str) -> Answer {
+        let line = parse::line(line).unwrap();
+        by_rust(line.frame, &line.request)
     }
 
     #[test]
     fn failures_of_the_rust_match_their_refusals_alone() {
-        let panic = |line, number| {
-            let rust = rust_side::answer(&parse::request(line).unwrap());
-            outcome_of(line, rust, Answer::Refused(number, None))
-        };
+        let panic = |line, number| outcome_of(line, rust(line), Answer::Refused(number, None));
         for (line, cause) in [
             ("variable_temporary fst 7 -", 4),
             ("routine 6", 6),
             ("position 267", 8),
+            ("frame 512 position 523", 8),
         ] {
             for number in [3, 4, 6, 8] {
                 let same = panic(line, number) == Outcome::Matched;
@@ -158,7 +192,7 @@ mod tests {
 
     #[test]
     fn records_match_a_refusal_for_want_of_room_alone() {
-        let records = || rust_side::answer(&parse::request("mov s1 s2").unwrap());
+        let records = || rust("mov s1 s2");
         let refused = |number, bytes| Answer::Refused(number, Some(bytes));
         let short = "room 47 mov s1 s2";
         assert_eq!(
@@ -184,6 +218,28 @@ mod tests {
             outcome_of(second, records(), refused(10, 72)),
             Outcome::Matched
         );
+    }
+
+    #[test]
+    fn another_frame_matches_a_refusal_with_3_alone() {
+        let refused = |line, number| outcome_of(line, rust(line), Answer::Refused(number, None));
+        for line in [
+            "frame 0 mov r4 r5",
+            "frame 257 routine 6",
+            "frame 511 @2147483647 erase_block r4",
+            "frame 513 position 600",
+            "frame 18446744073709551615 room 0 store e -",
+            "frame 255 label lab1",
+        ] {
+            for number in [1, 3, 4, 6, 8, 9] {
+                let same = refused(line, number) == Outcome::Matched;
+                assert_eq!(same, number == 3, "{line} refused with {number}");
+            }
+            assert_eq!(outcome_of(line, rust(line), rust(line)), Outcome::Different);
+        }
+        let field = "frame 255 field_offset fst 0";
+        assert_eq!(outcome_of(field, rust(field), rust(field)), Outcome::Same);
+        assert_eq!(refused(field, 3), Outcome::Different);
     }
 
     #[test]

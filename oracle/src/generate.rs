@@ -3,6 +3,7 @@
 mod emission;
 mod requests;
 
+use crate::frame::{FRAMES, Frame};
 use crate::inputs;
 use crate::random::Random;
 
@@ -11,22 +12,32 @@ use crate::random::Random;
 const SHORT: usize = 10;
 const LONG_IN: usize = 50;
 
-/// A list of the kind named, if it is one.
+/// A list of the kind named, if it is one; `larger` has no random ones.
 pub fn list(kind: &str, count: u64, seed: u64) -> Option<Vec<String>> {
     let random = &mut Random::new(seed);
     let mut list = Vec::new();
     match kind {
         "emission" => {
             emission::limits(random, &mut list);
-            list.extend((0..count).map(|_| requests::random(emission::LONGEST, random)));
+            list.extend((0..count).map(|_| {
+                let frame = random.pick(&FRAMES);
+                requests::random(frame, emission::longest(frame), random)
+            }));
         }
         "sample" => {
             list.extend(emission::WORKED.map(str::to_string));
             list.extend((0..count).map(|_| {
+                let frame = Frame::Base;
                 let long = random.once_in(LONG_IN);
-                requests::random(if long { emission::LONGEST } else { SHORT }, random)
+                let longest = if long {
+                    emission::longest(frame)
+                } else {
+                    SHORT
+                };
+                requests::random(frame, longest, random)
             }));
         }
+        "larger" => list.extend(emission::larger()),
         "checks" => {
             let limits = inputs::limits(random);
             list.extend(limits.iter().map(inputs::Input::request));

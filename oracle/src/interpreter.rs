@@ -3,6 +3,7 @@
 //! It is plain Rust on mutable words, so it also serves to time the port's machine.
 
 use crate::codes::{CODES, Code};
+use crate::frame::Frame;
 use crate::port::Ran;
 use crate::reading;
 use crate::record::{PRINT_I64, PRINTLN_I64, SIZE};
@@ -11,11 +12,15 @@ pub const STACK: usize = 0;
 pub const RETURN1: usize = 4;
 pub const RETURN2: usize = 5;
 
-/// "A stack of 320 words ... ends at 2^40; STACK enters at 2^40−8."
-pub const STACK_WORDS: usize = 320;
+/// "A stack of 320 words ... ends at 2^40; STACK enters at 2^40−8"; with 512 spills it "is then
+/// 576 words".
 pub const STACK_END: u64 = 1 << 40;
-pub const STACK_START: u64 = STACK_END - 8 * STACK_WORDS as u64;
 pub const STACK_AT_ENTRY: u64 = STACK_END - 8;
+
+/// The address of the first word of a stack of so many.
+pub fn stack_start(words: usize) -> u64 {
+    STACK_END - 8 * words as u64
+}
 
 /// "The lent heap is 2 to 1,048,576 blocks from address 65,536." A block is eight words.
 pub const HEAP_START: u64 = 65_536;
@@ -28,25 +33,31 @@ const PRINTED: [usize; 9] = [1, 4, 5, 6, 7, 8, 9, 10, 11];
 #[derive(Debug, Clone, PartialEq, Eq)]
 pub struct State {
     pub registers: [u64; 16],
-    pub stack: [u64; STACK_WORDS],
+    pub stack: Vec<u64>,
 }
 
 /// "Entered with 65,536 in register 7 and zero in the others but STACK", the stack "all zero".
-pub fn entry() -> State {
+pub fn entry(frame: Frame) -> State {
     let mut registers = [0; 16];
     registers[7] = HEAP_START;
     registers[STACK] = STACK_AT_ENTRY;
     State {
         registers,
-        stack: [0; STACK_WORDS],
+        stack: vec![0; frame.stack_words()],
     }
 }
 
+/// "Runs of operations start with STACK where the routine's setup leaves it": below six pushes and
+/// the spills.
+pub fn stack_in_body(frame: Frame) -> u64 {
+    STACK_AT_ENTRY - 6 * 8 - 8 * frame.spills() as u64
+}
+
 /// "The first state follows the 16 records before the body of a 0-argument routine": six pushes of
-/// zeros, room for 256 spills, the heap's first block in HEAP and the second in FREE.
-pub fn fresh() -> State {
-    let mut state = entry();
-    state.registers[STACK] -= 6 * 8 + 256 * 8;
+/// zeros, room for the spills, the heap's first block in HEAP and the second in FREE.
+pub fn fresh(frame: Frame) -> State {
+    let mut state = entry(frame);
+    state.registers[STACK] = stack_in_body(frame);
     state.registers[2] = HEAP_START;
     state.registers[3] = HEAP_START + 8 * BLOCK_WORDS as u64;
     state
@@ -81,6 +92,8 @@ pub enum Outcome {
     Malformed {
         place: u64,
     },
+    /// No such frame, or another number of words on the stack than it has.
+    Unframed,
     Fault {
         steps: u64,
         place: u64,
@@ -97,6 +110,7 @@ impl Outcome {
         let (number, steps, place) = match *self {
             Outcome::Ended { steps, .. } => (0, steps, 0),
             Outcome::Malformed { place } => (2, 0, place),
+            Outcome::Unframed => (3, 0, 0),
             Outcome::Fault { steps, place, .. } => (11, steps, place),
             Outcome::Limit { limit } => (12, limit, 0),
         };
@@ -117,7 +131,8 @@ enum Next {
 
 struct Machine<'a> {
     registers: &'a mut [u64; 16],
-    stack: &'a mut [u64; STACK_WORDS],
+    stack: &'a mut [u64],
+    stack_start: u64,
     heap: &'a mut [u64],
     words: &'a [u64; 9],
     /// The last compare's operands, while only moves have come since.
@@ -125,17 +140,19 @@ struct Machine<'a> {
 }
 
 pub fn run(
+    frame: u64,
     bytes: &[u8],
     state: &mut State,
     heap: &mut [u64],
     words: &[u64; 9],
     limit: u64,
 ) -> Outcome {
-    run_watched(bytes, state, heap, words, limit, |_| ())
+    run_watched(frame, bytes, state, heap, words, limit, |_| ())
 }
 
 /// The run, with a look at each code whose record was performed.
 pub fn run_watched(
+    frame: u64,
     bytes: &[u8],
     state: &mut State,
     heap: &mut [u64],
@@ -150,9 +167,13 @@ pub fn run_watched(
         let place = refusal.value.expect("a bad record has a place");
         return Outcome::Malformed { place };
     }
+    if Frame::of(frame).is_none_or(|frame| frame.stack_words() != state.stack.len()) {
+        return Outcome::Unframed;
+    }
     let (records, _) = bytes.as_chunks::<SIZE>();
     let mut machine = Machine {
         registers: &mut state.registers,
+        stack_start: stack_start(state.stack.len()),
         stack: &mut state.stack,
         heap,
         words,
@@ -375,8 +396,8 @@ impl Machine<'_> {
         if !address.is_multiple_of(8) {
             return Err(Fault::AddressUnaligned);
         }
-        if (STACK_START..STACK_END).contains(&address) {
-            return Ok(&mut self.stack[((address - STACK_START) / 8) as usize]);
+        if (self.stack_start..STACK_END).contains(&address) {
+            return Ok(&mut self.stack[((address - self.stack_start) / 8) as usize]);
         }
         let index = address.wrapping_sub(HEAP_START) / 8;
         let word = self.heap.get_mut(index as usize);
@@ -411,61 +432,100 @@ fn extension(word: u64) -> u64 {
 mod tests {
     use super::*;
     use crate::answer::Answer;
-    use crate::{parse, programs, rust_side};
+    use crate::frame::FRAMES;
+    use crate::programs::{self, Program};
+    use crate::{parse, rust_side};
 
-    fn routine(request: &str) -> Vec<u8> {
-        let request = parse::request(request).unwrap();
-        match rust_side::answer(&request) {
+    fn routine(frame: Frame, request: &str) -> Vec<u8> {
+        let line = parse::line(request).unwrap();
+        match rust_side::answer(frame.number(), &line.request) {
             Answer::Records(records, _) => records.iter().flat_map(|r| r.to_bytes()).collect(),
             answer => panic!("{answer}"),
         }
     }
 
+    fn ran(program: &mut Program) -> Outcome {
+        let Program {
+            frame,
+            records,
+            state,
+            heap,
+            words,
+            limit,
+        } = program;
+        run(*frame, records, state, heap, words, *limit)
+    }
+
     /// "The first state follows the 16 records before the body of a 0-argument routine."
     #[test]
     fn where_a_body_starts() {
-        let records = routine("routine 0");
-        let (mut state, mut heap) = (entry(), vec![0; 16]);
-        let outcome = run(&records[..16 * SIZE], &mut state, &mut heap, &[0; 9], 16);
-        let at_return = false;
-        assert_eq!(
-            outcome,
-            Outcome::Ended {
-                steps: 16,
-                at_return
-            }
-        );
-        let [stack, _, heap, free, ..] = state.registers;
-        assert_eq!(stack, STACK_AT_ENTRY - 6 * 8 - 2_048);
-        assert_eq!([heap, free], [HEAP_START, HEAP_START + 64]);
-        assert_eq!(state, fresh());
+        for (frame, spill_bytes) in FRAMES.into_iter().zip([2_048, 4_096]) {
+            let records = &routine(frame, "routine 0")[..16 * SIZE];
+            let (mut state, mut heap) = (entry(frame), vec![0; 16]);
+            let outcome = run(frame.number(), records, &mut state, &mut heap, &[0; 9], 16);
+            let at_return = false;
+            assert_eq!(
+                outcome,
+                Outcome::Ended {
+                    steps: 16,
+                    at_return
+                }
+            );
+            let [stack, _, heap, free, ..] = state.registers;
+            assert_eq!(stack, STACK_AT_ENTRY - 6 * 8 - spill_bytes);
+            assert_eq!([heap, free], [HEAP_START, HEAP_START + 64]);
+            assert_eq!(state, fresh(frame));
+        }
     }
 
     /// A routine gives back what it saved and returns.
     #[test]
     fn a_routine_returns() {
-        let records = routine("load_immediate p1 7; add p3 p1 p1; routine 0");
-        let mut state = entry();
-        state.registers[12..].copy_from_slice(&[5, 6, 7, 8]);
-        let outcome = run(&records, &mut state, &mut [0; 16], &[0; 9], u64::MAX);
-        assert!(matches!(
-            outcome,
-            Outcome::Ended {
-                at_return: true,
-                ..
-            }
-        ));
-        assert_eq!(state.registers[12..], [5, 6, 7, 8]);
-        assert_eq!(state.registers[STACK], STACK_END);
+        for frame in FRAMES {
+            let last = frame.positions() - 1;
+            let body = format!("load_immediate p1 7; add p{last} p1 p1; routine 0");
+            let records = routine(frame, &body);
+            let mut state = entry(frame);
+            state.registers[12..].copy_from_slice(&[5, 6, 7, 8]);
+            let outcome = run(
+                frame.number(),
+                &records,
+                &mut state,
+                &mut [0; 16],
+                &[0; 9],
+                u64::MAX,
+            );
+            assert!(matches!(
+                outcome,
+                Outcome::Ended {
+                    at_return: true,
+                    ..
+                }
+            ));
+            assert_eq!(state.registers[12..], [5, 6, 7, 8]);
+            assert_eq!(state.registers[STACK], STACK_END);
+            assert_eq!(state.stack[57], 14);
+        }
     }
 
     #[test]
     fn each_fault_has_its_place_and_cause() {
-        for (mut program, place, why) in programs::faults() {
-            let (state, heap) = (&mut program.state, &mut program.heap);
-            let outcome = run(&program.records, state, heap, &program.words, program.limit);
-            let steps = place - 1;
-            assert_eq!(outcome, Outcome::Fault { steps, place, why });
+        for frame in FRAMES {
+            for (mut program, place, why) in programs::faults(frame) {
+                let steps = place - 1;
+                assert_eq!(ran(&mut program), Outcome::Fault { steps, place, why });
+            }
+        }
+    }
+
+    #[test]
+    fn a_stack_is_its_frames() {
+        for mut program in programs::frames() {
+            let its_own = [(256, 320), (512, 576)];
+            let known = its_own.contains(&(program.frame, program.state.stack.len()));
+            let framed = !matches!(ran(&mut program), Outcome::Unframed);
+            let malformed = program.heap.is_empty() || program.records[0] == 0;
+            assert_eq!(framed, known || malformed);
         }
     }
 }

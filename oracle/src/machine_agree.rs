@@ -2,8 +2,9 @@
 //! steps, the place, every register, every word of the stack and of the heap.
 
 use crate::codes::FORMS;
+use crate::frame::{FRAMES, Frame};
 use crate::hex;
-use crate::interpreter::{self, Fault, Outcome};
+use crate::interpreter::{self, Fault, Outcome, State};
 use crate::port::{self, Ran};
 use crate::programs::{self, Program};
 use crate::random::Random;
@@ -32,17 +33,24 @@ pub fn run(count: u64, seed: u64) -> bool {
         performed: vec![0; FORMS.len()],
         ..Tally::default()
     };
-    if port::entry() != interpreter::entry() {
-        println!("the entry state differs");
-        tally.different += 1;
-    }
-    for (program, place, why) in programs::faults() {
-        let outcome = tally.compare(&program);
-        let steps = place - 1;
-        if outcome != (Outcome::Fault { steps, place, why }) {
-            println!("{why:?} at {place} was made, {outcome:?} met");
+    for frame in FRAMES {
+        let starts = [port::entry(frame), port::fresh(frame)];
+        if starts != [interpreter::entry(frame), interpreter::fresh(frame)] {
+            println!("{frame:?}: the entry or the fresh state differs");
             tally.different += 1;
         }
+        for (program, place, why) in programs::faults(frame) {
+            let outcome = tally.compare(&program);
+            let steps = place - 1;
+            if outcome != (Outcome::Fault { steps, place, why }) {
+                println!("{why:?} at {place} was made, {outcome:?} met");
+                tally.different += 1;
+            }
+        }
+    }
+    for program in programs::frames() {
+        tally.compare(&program);
+        tally.compare_start(&program);
     }
     for program in programs::limits() {
         tally.compare(&program);
@@ -61,6 +69,7 @@ impl Tally {
     fn compare(&mut self, program: &Program) -> Outcome {
         self.programs += 1;
         let Program {
+            frame,
             records,
             words,
             limit,
@@ -73,6 +82,7 @@ impl Tally {
         let mut found = (program.state.clone(), lent);
         let performed = &mut self.performed;
         let outcome = interpreter::run_watched(
+            *frame,
             records,
             &mut expected.0,
             &mut expected.1[inside.clone()],
@@ -80,7 +90,8 @@ impl Tally {
             *limit,
             |code| performed[usize::from(code.number()) - 1] += 1,
         );
-        let ran = port::run(records, &mut found.0, &mut found.1[inside], words, *limit);
+        let (state, heap) = (&mut found.0, &mut found.1[inside]);
+        let ran = port::run(*frame, records, state, heap, words, *limit);
         *self.outcomes.entry(name(&outcome)).or_default() += 1;
         if outcome.numbers() != ran || expected != found {
             self.different += 1;
@@ -89,6 +100,25 @@ impl Tally {
             }
         }
         outcome
+    }
+
+    /// A start on a program's stack: a state of the frame, or refused with 3 and nothing written.
+    fn compare_start(&mut self, program: &Program) {
+        let State { stack, .. } = &program.state;
+        let known = Frame::of(program.frame).filter(|frame| frame.stack_words() == stack.len());
+        for (fresh, started) in [
+            (false, known.map(interpreter::entry)),
+            (true, known.map(interpreter::fresh)),
+        ] {
+            let number = if started.is_some() { 0 } else { 3 };
+            let expected = (number, started.unwrap_or_else(|| program.state.clone()));
+            let mut state = program.state.clone();
+            let found = (port::start(program.frame, fresh, &mut state), state);
+            if expected != found {
+                self.different += 1;
+                println!("a start in frame {} differs", program.frame);
+            }
+        }
     }
 
     fn report(&self, seed: u64, made: u64) {
@@ -127,6 +157,7 @@ fn name(outcome: &Outcome) -> &'static str {
         } => "ended at RET",
         Outcome::Malformed { place: 0 } => "refused: the heap",
         Outcome::Malformed { .. } => "refused: a record",
+        Outcome::Unframed => "refused: no such frame",
         Outcome::Limit { .. } => "step limit reached",
         Outcome::Fault { why, .. } => match why {
             Fault::AddressOutside => "fault: address outside",
@@ -151,11 +182,14 @@ fn show(
     program: &Program,
     outcome: &Outcome,
     ran: &Ran,
-    expected: &(interpreter::State, Vec<u64>),
-    found: &(interpreter::State, Vec<u64>),
+    expected: &(State, Vec<u64>),
+    found: &(State, Vec<u64>),
 ) {
     let records: String = hex::write(&program.records).chars().take(2_400).collect();
-    println!("limit {}, records {records}", program.limit);
+    println!(
+        "frame {}, limit {}, records {records}",
+        program.frame, program.limit
+    );
     println!("    registers {:?}", program.state.registers);
     println!("    document 01: {outcome:?}, port: {ran}");
     let parts = [

@@ -6,8 +6,8 @@ mod bench;
 mod channel;
 mod codes;
 mod context;
-mod conversion;
 mod differ;
+mod frame;
 mod generate;
 mod hex;
 mod inputs;
@@ -31,7 +31,7 @@ mod soak;
 mod well_formed;
 
 use answer::Answer;
-use request::Request;
+use request::Line;
 use std::io::{BufRead, Write};
 use std::process::ExitCode;
 
@@ -39,6 +39,7 @@ const USAGE: &str = "\
 oracle compare rust|port                           answers requests on standard input
 oracle differ                                      puts them to both and counts differences
 oracle generate emission|sample|checks [OPTIONS]   writes requests (--count 1000, --seed 1)
+oracle generate larger                             writes some at the limits of 512 spills
 oracle replay-file                                 writes requests with the Rust's answers for the program replay
 oracle agree [OPTIONS]                             holds the port against document 01
                                                    (--count 100000, --seed 1)
@@ -48,7 +49,7 @@ oracle native [OPTIONS]                            holds it against this process
                                                    (--count 400, --seed 1)
 oracle soak [rust] [OPTIONS]                       plays lists of orders on the port and checks
                                                    (--orders 1000000, --seed 1, --blocks 2000)
-oracle soak list SEED FOLDER                       writes the list that the program soak plays
+oracle soak list SEED FOLDER                       writes the lists that the program soak plays
 oracle bench machine                               times it beside plain Rust
 oracle bench emission                              times emission beside the published Rust";
 
@@ -80,11 +81,14 @@ fn main() -> ExitCode {
 fn run(words: &[&str]) -> Result<bool, Failure> {
     let input = std::io::stdin().lock();
     match words {
-        ["compare", "rust"] => answer_all(input, rust_side::answer).map_err(Failure::Files)?,
+        ["compare", "rust"] => {
+            let side = |line: &Line| rust_side::answer(line.frame, &line.request);
+            answer_all(input, side).map_err(Failure::Files)?;
+        }
         ["compare", "port"] => {
             need_port()?;
             let mut channel = None;
-            answer_all(input, |request| port_side::answer(request, &mut channel))
+            answer_all(input, |line| port_side::answer(line, &mut channel))
                 .map_err(Failure::Files)?;
         }
         ["differ"] => {
@@ -122,11 +126,11 @@ fn run(words: &[&str]) -> Result<bool, Failure> {
         }
         ["soak", "list", seed, folder] => {
             let seed = parse::number(seed).map_err(|_| Failure::Usage)?;
-            let list = soak::stored_list(seed);
+            let lists = soak::stored_lists(seed);
             let folder = std::path::Path::new(folder);
-            std::fs::write(folder.join("stdin"), list.input).map_err(Failure::Files)?;
-            std::fs::write(folder.join("stdout"), list.output).map_err(Failure::Files)?;
-            println!("{}", list.reuse);
+            std::fs::write(folder.join("stdin"), lists.input).map_err(Failure::Files)?;
+            std::fs::write(folder.join("stdout"), lists.output).map_err(Failure::Files)?;
+            print!("{}", lists.reuse);
         }
         ["soak", options @ ..] => {
             let (side, options) = match options {
@@ -197,14 +201,11 @@ fn soak_options(side: channel::Side, options: &[&str]) -> Result<soak::Options, 
 }
 
 /// Answers every request in sequence.
-fn answer_all(
-    input: impl BufRead,
-    mut side: impl FnMut(&Request) -> Answer,
-) -> std::io::Result<()> {
+fn answer_all(input: impl BufRead, mut side: impl FnMut(&Line) -> Answer) -> std::io::Result<()> {
     let mut output = std::io::BufWriter::new(std::io::stdout().lock());
-    for (index, line) in requests(input).enumerate() {
-        let request = parse::request(&line?);
-        let answer = request.map_or_else(Answer::Malformed, |request| side(&request));
+    for (index, text) in requests(input).enumerate() {
+        let line = parse::line(&text?);
+        let answer = line.map_or_else(Answer::Malformed, |line| side(&line));
         writeln!(output, "answer {}\n{answer}", index + 1)?;
     }
     output.flush()

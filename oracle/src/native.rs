@@ -4,9 +4,9 @@
 
 use crate::codes::Code::{self, *};
 use crate::codes::{CODES, FORMS};
+use crate::frame::FRAMES;
 use crate::interpreter::{
-    self, BLOCK_WORDS, HEAP_START, STACK, STACK_AT_ENTRY, STACK_END, STACK_START, STACK_WORDS,
-    State,
+    self, BLOCK_WORDS, HEAP_START, STACK, STACK_AT_ENTRY, STACK_END, State, stack_start,
 };
 use crate::port;
 use crate::programs::{Program, record};
@@ -94,6 +94,7 @@ pub fn run(count: u64, seed: u64, folder: &Path) -> Result<bool> {
 fn on_port(program: &Program) -> (port::Ran, State, Vec<u64>) {
     let (mut state, mut heap) = (program.state.clone(), program.heap.clone());
     let ran = port::run(
+        program.frame,
         &program.records,
         &mut state,
         &mut heap,
@@ -106,6 +107,7 @@ fn on_port(program: &Program) -> (port::Ran, State, Vec<u64>) {
 fn count_performed(program: &Program, performed: &mut [u64]) {
     let (mut state, mut heap) = (program.state.clone(), program.heap.clone());
     interpreter::run_watched(
+        program.frame,
         &program.records,
         &mut state,
         &mut heap,
@@ -123,9 +125,10 @@ fn differences(
     code: &[u8],
 ) -> std::result::Result<u64, String> {
     let in_code = CODE_START + 1..CODE_START + code.len() as u64;
+    let stack_start = stack_start(expected.0.stack.len());
     let mut return_addresses = 0;
     for (index, (word, native)) in expected.0.stack.iter().zip(&found.0.stack).enumerate() {
-        let address = STACK_START + 8 * index as u64;
+        let address = stack_start + 8 * index as u64;
         let below = address < expected.0.registers[STACK];
         if word != native && below && in_code.contains(native) {
             return_addresses += 1;
@@ -153,9 +156,10 @@ fn differences(
     Ok(return_addresses)
 }
 
-/// A program whose jumps go forward and whose addresses stay inside.
+/// A program in either frame whose jumps go forward and whose addresses stay inside.
 fn program(random: &mut Random) -> (Program, Vec<Record>) {
-    let mut state = interpreter::entry();
+    let frame = random.pick(&FRAMES);
+    let mut state = interpreter::entry(frame);
     let word = |random: &mut Random| match random.below(3) {
         0 => random.below(16) as u64,
         _ => immediate(random) as u64,
@@ -166,8 +170,9 @@ fn program(random: &mut Random) -> (Program, Vec<Record>) {
     for word_of_stack in &mut state.stack {
         *word_of_stack = word(random);
     }
-    state.stack[STACK_WORDS - 1] = CODE_START;
-    state.registers[STACK] = STACK_START + 16 * (40 + random.below(80)) as u64;
+    let depth = state.stack.len();
+    state.stack[depth - 1] = CODE_START;
+    state.registers[STACK] = stack_start(depth) + 16 * (40 + random.below(depth / 4)) as u64;
     let heap: Vec<u64> = (0..HEAP_BLOCKS * BLOCK_WORDS)
         .map(|_| word(random))
         .collect();
@@ -177,6 +182,7 @@ fn program(random: &mut Random) -> (Program, Vec<Record>) {
     let words = std::array::from_fn(|_| word(random));
     let records = records(random);
     let program = Program {
+        frame: frame.number(),
         records: records.iter().flat_map(|r| r.to_bytes()).collect(),
         state,
         heap,
@@ -406,7 +412,8 @@ impl Processor {
         let registers = CODE_START + REGISTERS as u64;
         write(registers, &program.state.registers);
         write(CODE_START + WORDS as u64, &program.words);
-        write(STACK_START, &program.state.stack);
+        let words = program.state.stack.len();
+        write(stack_start(words), &program.state.stack);
         write(HEAP_START, &program.heap);
         let place: [u64; 1] = read(CODE_START + TABLE as u64 + 8 * index as u64);
         let start = (CODE_START + place[0]) as usize as *const c_void;
@@ -414,10 +421,9 @@ impl Processor {
         unsafe { std::mem::transmute::<*const c_void, extern "C" fn()>(start)() };
         let state = State {
             registers: read(registers),
-            stack: read(STACK_START),
+            stack: read_words(stack_start(words), words),
         };
-        let heap: [u64; HEAP_BLOCKS * BLOCK_WORDS] = read(HEAP_START);
-        (state, heap.to_vec())
+        (state, read_words(HEAP_START, program.heap.len()))
     }
 }
 
@@ -450,6 +456,13 @@ fn map(address: u64, length: usize) -> Result<()> {
 fn write<T: Copy>(address: u64, items: &[T]) {
     let target = address as usize as *mut T;
     unsafe { std::ptr::copy_nonoverlapping(items.as_ptr(), target, items.len()) };
+}
+
+/// Reads so many words.
+fn read_words(address: u64, count: usize) -> Vec<u64> {
+    (0..count as u64)
+        .map(|index| read(address + 8 * index))
+        .collect()
 }
 
 /// Reads from memory that was mapped.

@@ -2,19 +2,47 @@
 
 use crate::channel::Rooms;
 use crate::context::{read_ids, read_kinds};
+use crate::frame::Frame;
 use crate::hex;
 use crate::orders::answer::Asked;
 use crate::record;
 use crate::request::{
-    Arithmetic, Condition, Emission, Form, Number, Operand, Operation, Ordering, Query, Request,
-    Run,
+    Arithmetic, Condition, Emission, Form, Line, Number, Operand, Operation, Ordering, Query,
+    Request, Run,
 };
 
 type Read<T> = Result<T, String>;
 
 /// Reads one line, which is neither blank nor a comment. The error is the reason why it is no
 /// request.
-pub fn request(line: &str) -> Read<Request> {
+pub fn line(text: &str) -> Read<Line> {
+    let (frame, rest) = prefix("frame", text.trim())?;
+    let request = request(rest)?;
+    let on_channel = matches!(
+        request,
+        Request::Order(Ordering::Play { .. } | Ordering::Show)
+    );
+    if frame.is_some() && on_channel {
+        return Err("a channel keeps the frame of its fresh".to_string());
+    }
+    Ok(Line {
+        frame: frame.unwrap_or(Frame::Base.number()),
+        request,
+    })
+}
+
+/// The number after a prefix, if the text begins with it, and the rest.
+fn prefix<'a>(name: &str, text: &'a str) -> Read<(Option<u64>, &'a str)> {
+    match first_word(text) {
+        (word, after) if word == name => {
+            let (digits, rest) = first_word(after);
+            Ok((Some(number(digits)?), rest))
+        }
+        _ => Ok((None, text)),
+    }
+}
+
+fn request(line: &str) -> Read<Request> {
     let words: Vec<&str> = line.split_whitespace().collect();
     match words[..] {
         ["check", "context", bytes] => Ok(Request::Check(Form::Context, hex::read(bytes)?)),

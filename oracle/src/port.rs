@@ -1,6 +1,7 @@
 //! The port's library: its functions as they are exported for C, and safe functions over them.
 
-use crate::interpreter::{STACK_WORDS, State};
+use crate::frame::Frame;
+use crate::interpreter::State;
 use crate::lent::Lent;
 use crate::record::SIZE;
 use crate::request::{Form, Number};
@@ -34,6 +35,7 @@ exported! {
         value: *mut u64
     ) -> u64;
     fn axcut_operation(
+        frame: u64,
         operation: u64,
         first: u64,
         second: u64,
@@ -45,6 +47,7 @@ exported! {
         value: *mut u64
     ) -> u64;
     fn axcut_memory(
+        frame: u64,
         operation: u64,
         operand: u64,
         n: u64,
@@ -58,6 +61,7 @@ exported! {
         value: *mut u64
     ) -> u64;
     fn axcut_print(
+        frame: u64,
         newline: bool,
         source: u64,
         context: *const u8,
@@ -67,6 +71,7 @@ exported! {
         value: *mut u64
     ) -> u64;
     fn axcut_routine(
+        frame: u64,
         body: *const u8,
         body_len: usize,
         arguments: usize,
@@ -75,6 +80,7 @@ exported! {
         value: *mut u64
     ) -> u64;
     fn axcut_query(
+        frame: u64,
         query: u64,
         second: bool,
         at: u64,
@@ -84,6 +90,7 @@ exported! {
         value: *mut u64
     ) -> u64;
     fn axcut_order(
+        frame: u64,
         context: *const u8,
         context_len: usize,
         order: *const u8,
@@ -99,15 +106,19 @@ exported! {
         count: *mut u64
     ) -> u64;
     fn axcut_start(
+        frame: u64,
         fresh: bool,
         registers: *mut [u64; 16],
-        stack: *mut [u64; STACK_WORDS]
-    ) -> ();
+        stack: *mut u64,
+        stack_len: usize
+    ) -> u64;
     fn axcut_run(
+        frame: u64,
         records: *const u8,
         len: usize,
         registers: *mut [u64; 16],
-        stack: *mut [u64; STACK_WORDS],
+        stack: *mut u64,
+        stack_len: usize,
         heap: *mut u64,
         heap_len: usize,
         words: *const [u64; 9],
@@ -190,13 +201,14 @@ pub enum Memory<'a> {
     Load(&'a [u8], &'a [u8]),
 }
 
-/// The records of an operation into an output. The value is their number, a place or the bytes
-/// needed.
-pub fn operation(operation: &Operation, out: &mut [u8]) -> Returned {
+/// The records of an operation into an output, in the frame of so many spills. The value is their
+/// number, a place or the bytes needed.
+pub fn operation(frame: u64, operation: &Operation, out: &mut [u8]) -> Returned {
     let mut value = u64::MAX;
     let [first, second, third] = operation.operands;
     let number = unsafe {
         axcut_operation(
+            frame,
             operation.number,
             first,
             second,
@@ -212,7 +224,7 @@ pub fn operation(operation: &Operation, out: &mut [u8]) -> Returned {
 }
 
 /// The same for an operation that draws labels: the counter goes in and comes back.
-pub fn memory(operation: &Memory, counter: &mut u64, out: &mut [u8]) -> Returned {
+pub fn memory(frame: u64, operation: &Memory, counter: &mut u64, out: &mut [u8]) -> Returned {
     let (number, operand, n, context, loaded): (u64, u64, u64, &[u8], &[u8]) = match *operation {
         Memory::EraseBlock(operand) => (1, operand, 0, &[], &[]),
         Memory::ShareBlockN(operand, n) => (2, operand, n, &[], &[]),
@@ -222,6 +234,7 @@ pub fn memory(operation: &Memory, counter: &mut u64, out: &mut [u8]) -> Returned
     let mut value = u64::MAX;
     let number = unsafe {
         axcut_memory(
+            frame,
             number,
             operand,
             n,
@@ -238,10 +251,11 @@ pub fn memory(operation: &Memory, counter: &mut u64, out: &mut [u8]) -> Returned
     Returned { number, value }
 }
 
-pub fn print(newline: bool, source: u64, context: &[u8], out: &mut [u8]) -> Returned {
+pub fn print(frame: u64, newline: bool, source: u64, context: &[u8], out: &mut [u8]) -> Returned {
     let mut value = u64::MAX;
     let number = unsafe {
         axcut_print(
+            frame,
             newline,
             source,
             context.as_ptr(),
@@ -254,10 +268,11 @@ pub fn print(newline: bool, source: u64, context: &[u8], out: &mut [u8]) -> Retu
     Returned { number, value }
 }
 
-pub fn routine(body: &[u8], arguments: usize, out: &mut [u8]) -> Returned {
+pub fn routine(frame: u64, body: &[u8], arguments: usize, out: &mut [u8]) -> Returned {
     let mut value = u64::MAX;
     let number = unsafe {
         axcut_routine(
+            frame,
             body.as_ptr(),
             body.len(),
             arguments,
@@ -281,7 +296,7 @@ pub enum Query<'a> {
 }
 
 /// The value is an operand's word or an offset.
-pub fn query(query: &Query) -> Returned {
+pub fn query(frame: u64, query: &Query) -> Returned {
     let (number, half, at, id, context): (u64, Number, u64, u32, &[u8]) = match *query {
         Query::Position(position) => (1, Number::Fst, position, 0, &[]),
         Query::FreshTemporary(half, context) => (2, half, 0, 0, context),
@@ -293,6 +308,7 @@ pub fn query(query: &Query) -> Returned {
     let mut value = u64::MAX;
     let number = unsafe {
         axcut_query(
+            frame,
             number,
             second,
             at,
@@ -316,6 +332,7 @@ pub struct Ordered {
 
 /// An order's bytes on a context: its records into one output, the context after it into another.
 pub fn order(
+    frame: u64,
     context: &[u8],
     order: &[u8],
     bindings: &[u8],
@@ -326,6 +343,7 @@ pub fn order(
     let (mut value, mut count) = (u64::MAX, u64::MAX);
     let number = unsafe {
         axcut_order(
+            frame,
             context.as_ptr(),
             context.len(),
             order.as_ptr(),
@@ -357,26 +375,34 @@ pub struct Ran {
 }
 
 /// The state with which a routine is entered.
-pub fn entry() -> State {
-    start(false)
+pub fn entry(frame: Frame) -> State {
+    started(frame, false)
 }
 
 /// The state from which a list of orders starts.
-pub fn fresh() -> State {
-    start(true)
+pub fn fresh(frame: Frame) -> State {
+    started(frame, true)
 }
 
-fn start(fresh: bool) -> State {
+fn started(frame: Frame, fresh: bool) -> State {
     let mut state = State {
         registers: [1; 16],
-        stack: [1; STACK_WORDS],
+        stack: vec![1; frame.stack_words()],
     };
-    unsafe { axcut_start(fresh, &mut state.registers, &mut state.stack) };
+    let number = start(frame.number(), fresh, &mut state);
+    assert_eq!(number, 0, "{frame:?} is a frame");
     state
+}
+
+/// Sets a state; 0, or 3 and it is as it was.
+pub fn start(frame: u64, fresh: bool, state: &mut State) -> u64 {
+    let State { registers, stack } = state;
+    unsafe { axcut_start(frame, fresh, registers, stack.as_mut_ptr(), stack.len()) }
 }
 
 /// Runs records on a state, beside a heap given as words.
 pub fn run(
+    frame: u64,
     records: &[u8],
     state: &mut State,
     heap: &mut [u64],
@@ -386,10 +412,12 @@ pub fn run(
     let (mut steps, mut place) = (u64::MAX, u64::MAX);
     let number = unsafe {
         axcut_run(
+            frame,
             records.as_ptr(),
             records.len(),
             &mut state.registers,
-            &mut state.stack,
+            state.stack.as_mut_ptr(),
+            state.stack.len(),
             heap.as_mut_ptr(),
             heap.len(),
             words,

@@ -7,20 +7,22 @@ mod queries;
 use crate::answer::Answer;
 use crate::channel::Channel;
 use crate::context::{Kind, Runs};
+use crate::frame::Frame;
 use crate::interpreter::{BLOCK_WORDS, MOST_BLOCKS};
 use crate::orders::binding;
 use crate::port::{self, Damaged, Ran, Returned};
-use crate::request::{Form, Request, Run};
+use crate::request::{Form, Line, Request, Run};
 
 /// Answers a request; `fresh` makes the channel that `play` and `show` go on with.
-pub fn answer(request: &Request, channel: &mut Option<Channel>) -> Answer {
-    match request {
+pub fn answer(line: &Line, channel: &mut Option<Channel>) -> Answer {
+    let frame = line.frame;
+    match &line.request {
         Request::Check(form, bytes) => check(*form, bytes),
         Request::List(bytes) => list(bytes),
-        Request::Run(request) => run(request),
-        Request::Emission(request) => emission::answer(request),
-        Request::Query(query) => queries::answer(query),
-        Request::Order(request) => orders::answer(request, channel),
+        Request::Run(request) => run(frame, request),
+        Request::Emission(request) => emission::answer(frame, request),
+        Request::Query(query) => queries::answer(frame, query),
+        Request::Order(request) => orders::answer(frame, request, channel),
     }
 }
 
@@ -43,10 +45,10 @@ fn list(bytes: &[u8]) -> Answer {
     }
 }
 
-/// A run from the entry state. A heap too large to be lent is refused as the port refuses one
-/// block more than it takes.
-fn run(request: &Run) -> Answer {
-    let mut state = Box::new(port::entry());
+/// A run from the entry state, in a frame that there is not from that of 256 spills. A heap too
+/// large to be lent is refused as the port refuses one block more than it takes.
+fn run(frame: u64, request: &Run) -> Answer {
+    let mut state = Box::new(port::entry(Frame::of(frame).unwrap_or(Frame::Base)));
     let mut heap = vec![0; lent_words(request.blocks)];
     let Run {
         limit,
@@ -54,7 +56,7 @@ fn run(request: &Run) -> Answer {
         records,
         ..
     } = request;
-    let ran: Ran = port::run(records, &mut state, &mut heap, words, *limit);
+    let ran: Ran = port::run(frame, records, &mut state, &mut heap, words, *limit);
     Answer::Ran(ran, state, heap)
 }
 

@@ -4,9 +4,10 @@
 
 use crate::codes::Code::{self, *};
 use crate::codes::{CODES, FORMS};
+use crate::frame::{FRAMES, Frame};
 use crate::interpreter::{
     self, BLOCK_WORDS, Fault, HEAP_START, MOST_BLOCKS, RETURN1, RETURN2, STACK, STACK_AT_ENTRY,
-    STACK_END, STACK_START, STACK_WORDS, State,
+    STACK_END, State, stack_start,
 };
 use crate::random::Random;
 use crate::record::{self, PRINT_I64, PRINTLN_I64, Record};
@@ -14,6 +15,8 @@ use crate::well_formed::{self, immediate};
 
 #[derive(Debug, Clone)]
 pub struct Program {
+    /// How many spills the frame has; any number.
+    pub frame: u64,
     pub records: Vec<u8>,
     pub state: State,
     pub heap: Vec<u64>,
@@ -58,10 +61,11 @@ fn bytes_of(records: &[Record]) -> Vec<u8> {
 }
 
 /// From the entry state, beside two zeroed blocks.
-fn entered(records: &[Record]) -> Program {
+fn entered(frame: Frame, records: &[Record]) -> Program {
     Program {
+        frame: frame.number(),
         records: bytes_of(records),
-        state: interpreter::entry(),
+        state: interpreter::entry(frame),
         heap: vec![0; 2 * BLOCK_WORDS],
         words: [11, 12, 13, 14, 15, 16, 17, 18, 19],
         limit: 1_000,
@@ -69,12 +73,12 @@ fn entered(records: &[Record]) -> Program {
 }
 
 /// Each fault of document 01's list, with the place and the cause that it must have.
-pub fn faults() -> Vec<(Program, u64, Fault)> {
+pub fn faults(frame: Frame) -> Vec<(Program, u64, Fault)> {
     let mut list = Vec::new();
     let mut fault = |why: Fault, place: u64, records: &[Record]| {
-        list.push((entered(records), place, why));
+        list.push((entered(frame, records), place, why));
     };
-    addresses(&mut fault);
+    addresses(frame.stack_words(), &mut fault);
     jumps(&mut fault);
     calls(&mut fault);
     divisions(&mut fault);
@@ -82,7 +86,7 @@ pub fn faults() -> Vec<(Program, u64, Fault)> {
 }
 
 /// Every memory form at every end of the stack and the heap, and unaligned.
-fn addresses(fault: &mut impl FnMut(Fault, u64, &[Record])) {
+fn addresses(stack_words: usize, fault: &mut impl FnMut(Fault, u64, &[Record])) {
     // the base register of each form
     const AT_A: [Code; 8] = [ADDMR, ADDIM, SUBMR, IMULMR, IDIVM, MOVIM, CMPMR, CMPIM];
     const AT_B: [Code; 6] = [ADDRM, SUBRM, IMULRM, MOVS, MOVL, CMPRM];
@@ -93,7 +97,7 @@ fn addresses(fault: &mut impl FnMut(Fault, u64, &[Record])) {
         (7, 4, Fault::AddressUnaligned),
         (7, heap_end - 1, Fault::AddressUnaligned),
         (STACK, 8, Fault::AddressOutside),
-        (STACK, 8 - 8 * STACK_WORDS as i64 - 8, Fault::AddressOutside),
+        (STACK, -8 * stack_words as i64, Fault::AddressOutside),
         (STACK, 7, Fault::AddressUnaligned),
         (1, 0, Fault::AddressOutside),
         (1, -8, Fault::AddressOutside),
@@ -106,8 +110,9 @@ fn addresses(fault: &mut impl FnMut(Fault, u64, &[Record])) {
             fault(why, 1, &[at_offset(code, 8, base, offset)]);
         }
     }
+    let stack_start = stack_start(stack_words);
     for (address, why) in [
-        (STACK_START, Fault::AddressOutside),
+        (stack_start, Fault::AddressOutside),
         (HEAP_START, Fault::AddressOutside),
         (STACK_END + 8, Fault::AddressOutside),
         (STACK_END - 4, Fault::AddressUnaligned),
@@ -115,7 +120,7 @@ fn addresses(fault: &mut impl FnMut(Fault, u64, &[Record])) {
         let set = immediate_of(MOVI, STACK, address as i64);
         fault(why, 2, &[set, plain(PUSH, 3, 0)]);
     }
-    for address in [STACK_START - 8, HEAP_START - 8, STACK_END] {
+    for address in [stack_start - 8, HEAP_START - 8, STACK_END] {
         let set = immediate_of(MOVI, STACK, address as i64);
         fault(Fault::AddressOutside, 2, &[set, plain(POP, 3, 0)]);
     }
@@ -223,7 +228,7 @@ fn divisions(fault: &mut impl FnMut(Fault, u64, &[Record])) {
 /// Heaps and lists at and beside their limits.
 pub fn limits() -> Vec<Program> {
     let mut programs = Vec::new();
-    let bare = entered(&[plain(MOV, 1, 2)]);
+    let bare = entered(Frame::Base, &[plain(MOV, 1, 2)]);
     for words in (0..=24).chain([
         MOST_BLOCKS * BLOCK_WORDS - 8,
         MOST_BLOCKS * BLOCK_WORDS - 1,
@@ -264,6 +269,31 @@ pub fn limits() -> Vec<Program> {
     programs
 }
 
+/// Frames that there are and others, each with stacks of its own number of words and of others; a
+/// malformed record and heap come before.
+pub fn frames() -> Vec<Program> {
+    let mut programs = Vec::new();
+    let store = at_offset(MOVS, 7, STACK, 0);
+    for frame in [0, 1, 255, 256, 257, 511, 512, 513, 1 << 32 | 256, u64::MAX] {
+        for words in [0, 1, 64, 319, 320, 321, 575, 576, 577] {
+            let mut program = entered(Frame::Base, &[store]);
+            program.frame = frame;
+            program.state.stack = vec![5; words];
+            let records = vec![0; 24];
+            programs.push(Program {
+                records,
+                ..program.clone()
+            });
+            programs.push(Program {
+                heap: Vec::new(),
+                ..program.clone()
+            });
+            programs.push(program);
+        }
+    }
+    programs
+}
+
 const LABELS: [u32; 5] = [1, 2, record::CLEANUP, record::FIRST_CALLERS, u32::MAX];
 
 /// What random programs are made of, beside the program itself.
@@ -271,11 +301,13 @@ struct Maker<'a> {
     random: &'a mut Random,
     /// Registers that hold addresses at the start.
     bases: Vec<usize>,
+    stack_words: usize,
     heap_bytes: u64,
 }
 
-/// A random program.
+/// A random program in either frame.
 pub fn random(random: &mut Random) -> Program {
+    let frame = random.pick(&FRAMES);
     let heap_words = match random.below(60) {
         0 => random.below(40),
         _ => BLOCK_WORDS * (2 + random.below(4)),
@@ -283,9 +315,10 @@ pub fn random(random: &mut Random) -> Program {
     let mut maker = Maker {
         random,
         bases: Vec::new(),
+        stack_words: frame.stack_words(),
         heap_bytes: 8 * heap_words as u64,
     };
-    let state = maker.state();
+    let state = maker.state(frame);
     let heap = (0..heap_words).map(|_| maker.word()).collect();
     let mut records = bytes_of(&maker.list());
     if maker.random.once_in(40) {
@@ -298,6 +331,7 @@ pub fn random(random: &mut Random) -> Program {
         _ => 300,
     };
     Program {
+        frame: frame.number(),
         records,
         state,
         heap,
@@ -308,8 +342,8 @@ pub fn random(random: &mut Random) -> Program {
 
 impl Maker<'_> {
     /// The entry state, or one with addresses in some registers.
-    fn state(&mut self) -> State {
-        let mut state = interpreter::entry();
+    fn state(&mut self, frame: Frame) -> State {
+        let mut state = interpreter::entry(frame);
         if self.random.once_in(10) {
             self.bases = vec![STACK, 7];
             return state;
@@ -334,9 +368,9 @@ impl Maker<'_> {
         state.registers[STACK] = match self.random.below(6) {
             0 => STACK_AT_ENTRY,
             1 => self.address(),
-            2 => STACK_START + 8 * self.random.below(4) as u64,
+            2 => stack_start(self.stack_words) + 8 * self.random.below(4) as u64,
             3 => STACK_END - 8 * self.random.below(4) as u64,
-            _ => STACK_START + 8 * self.random.below(STACK_WORDS + 1) as u64,
+            _ => STACK_END - 8 * self.random.below(self.stack_words + 1) as u64,
         };
         if self.random.once_in(2) {
             state.registers[RETURN2] = (state.registers[RETURN1] as i64 >> 63) as u64;
@@ -346,14 +380,15 @@ impl Maker<'_> {
 
     /// An address in the stack or the heap, often at an end, at times beside it or unaligned.
     fn address(&mut self) -> u64 {
+        let stack_start = stack_start(self.stack_words);
         let heap_end = HEAP_START + self.heap_bytes;
         let near = 8 * self.random.below(4) as u64;
         let address = match self.random.below(12) {
-            0 => STACK_START.wrapping_add(near).wrapping_sub(8),
+            0 => stack_start.wrapping_add(near).wrapping_sub(8),
             1 => STACK_END.wrapping_sub(near),
             2 => HEAP_START.wrapping_add(near).wrapping_sub(8),
             3 => heap_end.wrapping_sub(near),
-            4..8 => STACK_START + 8 * self.random.below(STACK_WORDS) as u64,
+            4..8 => stack_start + 8 * self.random.below(self.stack_words) as u64,
             _ => HEAP_START + 8 * self.random.below(self.heap_bytes as usize / 8 + 1) as u64,
         };
         match self.random.below(40) {
@@ -396,7 +431,7 @@ impl Maker<'_> {
         match self.random.below(40) {
             0 => immediate(self.random),
             1 => self.random.below(64) as i64 - 32,
-            2 => 8 * (self.random.below(700) as i64 - 350),
+            2 => 8 * (self.random.below(1_200) as i64 - 600),
             _ => 8 * (self.random.below(5) as i64 - 2),
         }
     }

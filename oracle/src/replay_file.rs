@@ -3,18 +3,16 @@
 
 use crate::answer::Answer;
 use crate::context::{Kind, Kinds};
+use crate::frame::Frame;
 use crate::record::{self, Record};
 use crate::request::{Arithmetic, Condition, Emission, Number, Operand, Operation, Query, Request};
 use crate::{parse, rust_side};
 use std::io::{Result, Write};
 
-/// The longest context, the most bytes of a body, and the last position, field and spill that the
-/// port is asked about.
+/// The longest context, the most bytes of a body, and the last field that the port is asked about.
 const LONGEST: u64 = 4096;
 const LONGEST_BODY: usize = 65536;
-const LAST_POSITION: u64 = 266;
 const LAST_FIELD: u64 = 2;
-const LAST_SPILL: u64 = 255;
 /// The highest count that document 01 lets be shared.
 const MOST_SHARED: u64 = (1 << 31) - 1;
 
@@ -34,6 +32,7 @@ struct Asked {
     y: u32,
     z: u64,
     counter: u32,
+    frame: u32,
     first: Vec<u8>,
     second: Vec<u8>,
 }
@@ -70,16 +69,18 @@ pub fn write(
 
 /// The operations or the query of a line, each with its answer.
 fn pairs(line: &str) -> Vec<Option<(Asked, Answered)>> {
-    let Ok(request) = parse::request(line) else {
+    let line = parse::line(line).ok();
+    let Some((frame, request)) = line.and_then(|line| Some((Frame::of(line.frame)?, line.request)))
+    else {
         return vec![None];
     };
     match request {
         Request::Query(query) => {
-            let asked = query_of(&query);
-            let answer = rust_side::answer(&Request::Query(query));
+            let asked = query_of(frame, &query);
+            let answer = rust_side::answer(frame.number(), &Request::Query(query));
             vec![asked.zip(answered(&answer, false))]
         }
-        Request::Emission(_) => operations_of(request),
+        Request::Emission(_) => operations_of(frame, request),
         Request::Check(..) | Request::List(_) | Request::Run(_) | Request::Order(_) => {
             vec![None]
         }
@@ -88,8 +89,8 @@ fn pairs(line: &str) -> Vec<Option<(Asked, Answered)>> {
 
 /// The operations of a request one by one, each from the counter that the last one left; the
 /// records so far are the body of a routine. They end with the first that the Rust does not answer.
-fn operations_of(request: Request) -> Vec<Option<(Asked, Answered)>> {
-    let whole = rust_side::answer(&request);
+fn operations_of(frame: Frame, request: Request) -> Vec<Option<(Asked, Answered)>> {
+    let whole = rust_side::answer(frame.number(), &request);
     let Request::Emission(emission) = request else {
         unreachable!("the caller has an emission");
     };
@@ -101,7 +102,7 @@ fn operations_of(request: Request) -> Vec<Option<(Asked, Answered)>> {
             matches!(operation, Operation::Raw(..)),
         );
         let is_routine = matches!(operation, Operation::Routine(_));
-        let asked = operation_of(&operation, counter, &records);
+        let asked = operation_of(frame, &operation, counter, &records);
         let mut alone: Vec<Operation> = Vec::new();
         if is_routine {
             alone.extend(
@@ -111,11 +112,12 @@ fn operations_of(request: Request) -> Vec<Option<(Asked, Answered)>> {
             );
         }
         alone.push(operation);
-        let answer = rust_side::answer(&Request::Emission(Emission {
+        let alone = Emission {
             counter,
             room: None,
             operations: alone,
-        }));
+        };
+        let answer = rust_side::answer(frame.number(), &Request::Emission(alone));
         if !is_raw {
             pairs.push(asked.zip(answered(&answer, takes_counter)));
         }
@@ -137,11 +139,18 @@ fn operations_of(request: Request) -> Vec<Option<(Asked, Answered)>> {
 }
 
 /// An operation as the port is asked, if it can be.
-fn operation_of(operation: &Operation, counter: u64, records: &[Record]) -> Option<Asked> {
+fn operation_of(
+    frame: Frame,
+    operation: &Operation,
+    counter: u64,
+    records: &[Record],
+) -> Option<Asked> {
     let asked = |operation| Asked {
         operation,
+        frame: frame.number() as u32,
         ..Asked::default()
     };
+    let word = |operand| word(frame, operand);
     let counter = u32::try_from(counter).ok()?;
     Some(match operation {
         Operation::Label(l) => Asked {
@@ -264,9 +273,10 @@ fn operation_of(operation: &Operation, counter: u64, records: &[Record]) -> Opti
     })
 }
 
-fn query_of(query: &Query) -> Option<Asked> {
+fn query_of(frame: Frame, query: &Query) -> Option<Asked> {
     let asked = |operation| Asked {
         operation,
+        frame: frame.number() as u32,
         ..Asked::default()
     };
     Some(match query {
@@ -290,7 +300,7 @@ fn query_of(query: &Query) -> Option<Asked> {
             },
             ..asked(22)
         },
-        Query::StackOffset(spill) if *spill <= LAST_SPILL => Asked {
+        Query::StackOffset(spill) if *spill < frame.number() => Asked {
             x: *spill as u32,
             ..asked(23)
         },
@@ -360,12 +370,12 @@ fn label(number: u64) -> Option<u32> {
 }
 
 /// The word of an operand: register r is r, spill p is 16 + p.
-fn word(operand: &Operand) -> Option<u32> {
+fn word(frame: Frame, operand: &Operand) -> Option<u32> {
     match *operand {
         Operand::Register(n) => (4..16).contains(&n).then_some(n as u32),
-        Operand::Spill(n) => (1..=LAST_SPILL).contains(&n).then_some(16 + n as u32),
+        Operand::Spill(n) => (1..frame.number()).contains(&n).then_some(16 + n as u32),
         Operand::Position(n) if n < 12 => Some(n as u32 + 4),
-        Operand::Position(n) => (n <= LAST_POSITION).then_some(n as u32 + 5),
+        Operand::Position(n) => (n < frame.positions() as u64).then_some(n as u32 + 5),
     }
 }
 
@@ -405,6 +415,7 @@ fn bytes_of(asked: &Asked, answered: &Answered) -> Vec<u8> {
     bytes.extend(answered.value.to_le_bytes());
     bytes.extend(answered.after.to_le_bytes());
     bytes.extend(answered.sum.to_le_bytes());
+    bytes.extend(asked.frame.to_le_bytes());
     bytes.extend(&asked.first);
     bytes.extend(&asked.second);
     bytes

@@ -5,6 +5,14 @@ use crate::context::{Ids, Kinds};
 use crate::orders::answer::Asked;
 use crate::record;
 
+/// A request, and what its prefixes choose.
+#[derive(Debug)]
+pub struct Line {
+    /// How many spills the frame has; any number.
+    pub frame: u64,
+    pub request: Request,
+}
+
 #[derive(Debug)]
 pub enum Request {
     Emission(Emission),

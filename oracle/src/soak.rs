@@ -6,6 +6,7 @@ mod stored;
 
 use crate::channel::{self, Answered, Channel, Rooms, Side};
 use crate::codes::Code;
+use crate::frame::{FRAMES, Frame};
 use crate::hex;
 use crate::interpreter::{BLOCK_WORDS, MOST_BLOCKS};
 use crate::orders::answer::{self, Asked, Given};
@@ -19,13 +20,13 @@ use crate::record::{LAST_FRESH, PRINT_I64, PRINTLN_I64, Record, SIZE};
 use lists::{Item, Plan};
 use std::collections::BTreeMap;
 
-pub use stored::list as stored_list;
-
-/// "Positions 267 and above are refused": as many variables as have both theirs.
-const MOST_VARIABLES: usize = 133;
+pub use stored::lists as stored_lists;
 
 /// How many orders are put alone beside each list.
 const ALONE: usize = 20;
+
+/// Numbers that no frame has.
+const OTHER_FRAMES: [u64; 6] = [0, 255, 257, 511, 513, u64::MAX];
 
 #[derive(Debug, Clone, Copy)]
 pub struct Options {
@@ -58,7 +59,8 @@ struct Tally {
 
 #[derive(Default)]
 struct Most {
-    variables: usize,
+    /// In each frame.
+    variables: [usize; FRAMES.len()],
     frontier: usize,
     reachable: usize,
     held: usize,
@@ -73,6 +75,11 @@ struct Reuse {
     lists: u64,
     acquired: usize,
     largest_peak: usize,
+}
+
+/// The frame of a list: every other seed has the larger one.
+fn frame_of(seed: u64) -> Frame {
+    FRAMES[(seed % FRAMES.len() as u64) as usize]
 }
 
 /// True if no order failed. The first that does ends it.
@@ -107,9 +114,10 @@ impl Tally {
     /// Plays one list. The error is an order's place, from 1, and what was wrong after it.
     fn list(&mut self, side: Side, seed: u64, most_blocks: usize) -> Result<(), (usize, String)> {
         self.lists += 1;
+        let frame = frame_of(seed);
         let mut random = Random::new(seed);
-        let mut plan = Plan::random(&mut random, most_blocks);
-        let mut soak = Soak::fresh(side, plan.blocks);
+        let mut plan = Plan::random(&mut random, frame, most_blocks);
+        let mut soak = Soak::fresh(side, frame, plan.blocks);
         soak.check().map_err(|failure| (0, failure))?;
         self.longest = self.longest.max(plan.orders as u64);
         for place in 1..=plan.orders {
@@ -123,20 +131,28 @@ impl Tally {
             self.reuse_at_edge.take(&soak);
         }
         match side {
-            Side::Port => self.alone(&mut random).map_err(|failure| (0, failure)),
+            Side::Port => {
+                let alone = self.alone(&mut random, frame);
+                alone.map_err(|failure| (0, failure))
+            }
             Side::Reading => Ok(()),
         }
     }
 
-    /// Puts orders alone to the port, each with a counter about the last that is allowed.
-    fn alone(&mut self, random: &mut Random) -> Result<(), String> {
+    /// Puts orders alone to the port, each with a counter about the last that is allowed, and at
+    /// times in a frame that there is not.
+    fn alone(&mut self, random: &mut Random, frame: Frame) -> Result<(), String> {
         for _ in 0..ALONE {
-            let (context, mut item) = lists::alone(random);
-            if let Ok(given) = answer::given(&context, &item.asked) {
+            let (context, mut item) = lists::alone(random, frame);
+            let frame = match random.below(20) {
+                0 => random.pick(&OTHER_FRAMES),
+                _ => frame.number(),
+            };
+            if let Ok(given) = answer::given(frame, &context, &item.asked) {
                 let last = LAST_FRESH - given.counter;
                 item.asked.counter = random.pick(&[0, last, last, last + 1]);
             }
-            let needed = answer::given(&context, &item.asked);
+            let needed = answer::given(frame, &context, &item.asked);
             let rooms = item.rooms(random, needed.as_ref().ok());
             let expected = needed.and_then(|given| {
                 answer::fits(&given, rooms.records, rooms.context)?;
@@ -148,8 +164,9 @@ impl Tally {
             };
             self.alone += 1;
             self.alone_accepted += u64::from(matches!(expected, Answered::Accepted { .. }));
-            compare(&context, &item.asked, rooms, &expected)
-                .map_err(|failure| about(&item.asked, rooms, &failure))?;
+            compare(frame, &context, &item.asked, rooms, &expected).map_err(|failure| {
+                about(&item.asked, rooms, &format!("frame {frame}: {failure}"))
+            })?;
         }
         Ok(())
     }
@@ -173,7 +190,8 @@ impl Tally {
                 let (ran, shape) = played.map_err(about)?;
                 self.records += given.count();
                 self.steps += ran.steps;
-                self.most.take(&shape, soak.values.len());
+                self.most
+                    .take(&shape, soak.channel.frame, soak.values.len());
                 Ok(())
             }
         }
@@ -209,8 +227,9 @@ impl Tally {
 }
 
 impl Most {
-    fn take(&mut self, shape: &Shape, variables: usize) {
-        self.variables = self.variables.max(variables);
+    fn take(&mut self, shape: &Shape, frame: Frame, variables: usize) {
+        let most = &mut self.variables[frame as usize];
+        *most = (*most).max(variables);
         self.frontier = self.frontier.max(shape.frontier);
         self.reachable = self.reachable.max(shape.reachable);
         self.held = self.held.max(shape.held);
@@ -229,8 +248,9 @@ impl Most {
             lazy,
             linear,
         } = self;
+        let [base, larger] = variables;
         println!(
-            "most at once: {variables} variables; {reachable} blocks reachable, {held} held, {shared} of them shared, {lazy} on the lazy list, {linear} on the linear list, frontier {frontier}"
+            "most at once: {base} and {larger} variables; {reachable} blocks reachable, {held} held, {shared} of them shared, {lazy} on the lazy list, {linear} on the linear list, frontier {frontier}"
         );
     }
 }
@@ -253,9 +273,9 @@ impl Reuse {
 
 impl Soak {
     /// The fresh routine on a zeroed heap of so many blocks.
-    fn fresh(side: Side, blocks: usize) -> Soak {
+    fn fresh(side: Side, frame: Frame, blocks: usize) -> Soak {
         Soak {
-            channel: Channel::fresh(side, blocks * BLOCK_WORDS),
+            channel: Channel::fresh(side, frame, blocks * BLOCK_WORDS),
             values: Vec::new(),
             history: History::new(blocks),
             reachable: 0,
@@ -276,7 +296,7 @@ impl Soak {
     /// The answer but for the outputs' lengths. An order of which demand 3's premises do not hold
     /// is sent with a counter above the limit, so that it is refused.
     fn owed(&self, mut asked: Asked) -> (Asked, Result<Given, Refusal>) {
-        let given = answer::given(&self.channel.context, &asked);
+        let given = self.given(&asked);
         let owed = match &given {
             Err(_) => true,
             Ok(given) => {
@@ -288,8 +308,13 @@ impl Soak {
             return (asked, given);
         }
         asked.counter += LAST_FRESH + 1;
-        let refused = answer::given(&self.channel.context, &asked);
+        let refused = self.given(&asked);
         (asked, refused)
+    }
+
+    fn given(&self, asked: &Asked) -> Result<Given, Refusal> {
+        let Channel { frame, context, .. } = &self.channel;
+        answer::given(frame.number(), context, asked)
     }
 
     /// "A refused one leaves all three."
@@ -335,7 +360,8 @@ impl Soak {
         if self.channel.side == Side::Reading {
             return Ok(());
         }
-        compare(&self.channel.context, asked, rooms, expected)
+        let Channel { frame, context, .. } = &self.channel;
+        compare(frame.number(), context, asked, rooms, expected)
     }
 
     /// "A print makes one call": its records have no jump and one CALL, of the name that the flag
@@ -387,20 +413,28 @@ impl Soak {
 
     fn check(&mut self) -> Result<Shape, String> {
         let Channel {
+            frame,
             context,
             state,
             heap,
             ..
         } = &self.channel;
-        let shape = sound(state, heap, context, &self.values, &mut self.history)?;
+        let history = &mut self.history;
+        let shape = sound(*frame, state, heap, context, &self.values, history)?;
         self.reachable = shape.reachable;
         Ok(shape)
     }
 }
 
 /// Whether the port answers as document 01 says.
-fn compare(context: &[u8], asked: &Asked, rooms: Rooms, expected: &Answered) -> Result<(), String> {
-    let found = channel::ask(context, asked, rooms);
+fn compare(
+    frame: u64,
+    context: &[u8],
+    asked: &Asked,
+    rooms: Rooms,
+    expected: &Answered,
+) -> Result<(), String> {
+    let found = channel::ask(frame, context, asked, rooms);
     let found = found.map_err(|_| "bytes that must stay have changed".to_string())?;
     if found == *expected {
         return Ok(());

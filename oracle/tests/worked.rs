@@ -29,6 +29,77 @@ fn positions() {
     assert_panics("position 267");
 }
 
+/// "With 512, spill p is at 4096 − 8(p+1), positions run to 522."
+#[test]
+fn positions_of_the_larger_frame() {
+    for (position, answer) in [
+        (11, "register 15\n"),
+        (12, "spill 1 4080\n"),
+        (266, "spill 255 2048\n"),
+        (267, "spill 256 2040\n"),
+        (522, "spill 511 0\n"),
+    ] {
+        assert_eq!(rust(&format!("frame 512 position {position}")), answer);
+    }
+    assert_panics("frame 512 position 523");
+    assert_eq!(rust("frame 256 position 266"), "spill 255 0\n");
+    assert_panics("frame 256 position 267");
+}
+
+/// "A store or load of some variables needs at most 261 in all, and a store of none works after
+/// 261."
+#[test]
+fn the_larger_frame_is_full_at_261() {
+    let last_spill = "1 records\n1 MOVIM 0 0 0 0 0\ncounter 0\n";
+    assert_eq!(rust("frame 512 store - e261"), last_spill);
+    assert_panics("frame 512 store - e262");
+    for kind in ["e", "l"] {
+        for operation in ["store", "load"] {
+            assert!(size(&format!("frame 512 {operation} {kind} e260")).0 > 0);
+            assert_panics(&format!("frame 512 {operation} {kind} e261"));
+        }
+    }
+    assert_eq!(size("frame 512 store l261 -"), (8_435, 1_690));
+    assert_eq!(size("frame 512 load l261 -"), (4_144, 263));
+    assert_eq!(size("store l133 -"), (4_275, 858));
+    assert_eq!(size("frame 512 erase_block s511"), (12, 3));
+    assert_eq!(size("frame 512 load - l4096"), (0, 0));
+}
+
+/// The setup and the cleanup of a routine move STACK by the frame.
+#[test]
+fn a_routine_has_its_frame() {
+    for (request, bytes) in [("routine 0", 2_048), ("frame 512 routine 0", 4_096)] {
+        let routine = rust(request);
+        assert_eq!(size(request), (25, 0));
+        for line in [
+            format!("SUBI 0 0 0 0 {bytes}"),
+            format!("ADDI 0 0 0 0 {bytes}"),
+        ] {
+            assert!(routine.contains(&line), "{line}");
+        }
+    }
+}
+
+#[test]
+fn the_rust_has_two_frames() {
+    for frame in ["0", "255", "257", "511", "513", "18446744073709551615"] {
+        let answer = rust(&format!("frame {frame} position 0"));
+        assert!(
+            answer.starts_with("malformed the Rust has frames"),
+            "{answer}"
+        );
+    }
+    for line in [
+        "frame 512 show",
+        "frame",
+        "frame -1 position 0",
+        "position 0 frame 512",
+    ] {
+        assert!(rust(line).starts_with("malformed "), "{line}");
+    }
+}
+
 #[test]
 fn store_none() {
     let register = "1 records\n1 MOVI 4 0 0 0 0\ncounter 0\n";

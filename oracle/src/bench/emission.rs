@@ -3,12 +3,13 @@
 
 use super::emitted;
 use crate::context::read_kinds;
+use crate::frame::Frame;
 use crate::parse;
 use crate::port::{self, Memory, Returned};
 use crate::port_side;
 use crate::record::SIZE;
 use crate::request::Request;
-use crate::rust_side::Prepared;
+use crate::rust_side::{spills_256, spills_512};
 use std::hint::black_box;
 use std::time::{Duration, Instant};
 
@@ -37,15 +38,17 @@ enum Call {
 }
 
 impl Call {
-    fn perform(&self, out: &mut [u8]) -> Returned {
-        let mut counter = 0;
-        match self {
-            Call::Store(context, n) => port::memory(&Memory::Store(context, *n), &mut counter, out),
-            Call::Load(loaded) => port::memory(&Memory::Load(loaded, &[]), &mut counter, out),
-            Call::Erase(operand) => port::memory(&Memory::EraseBlock(*operand), &mut counter, out),
-            Call::Print(source, context) => port::print(true, *source, context, out),
-            Call::Routine(body) => port::routine(body, 5, out),
-        }
+    fn perform(&self, frame: u64, out: &mut [u8]) -> Returned {
+        let operation = match self {
+            Call::Store(context, n) => Memory::Store(context, *n),
+            Call::Load(loaded) => Memory::Load(loaded, &[]),
+            Call::Erase(operand) => Memory::EraseBlock(*operand),
+            Call::Print(source, context) => {
+                return port::print(frame, true, *source, context, out);
+            }
+            Call::Routine(body) => return port::routine(frame, body, 5, out),
+        };
+        port::memory(frame, &operation, &mut 0, out)
     }
 }
 
@@ -70,7 +73,7 @@ fn table() -> f64 {
     let time = |_| {
         timed(|| {
             for _ in 0..queries {
-                black_box(port::query(black_box(&query)));
+                black_box(port::query(Frame::Base.number(), black_box(&query)));
             }
         })
     };
@@ -78,24 +81,16 @@ fn table() -> f64 {
     least.as_nanos() as f64 / queries as f64
 }
 
+/// The larger frame's come last: what the Rust allocates for them changes how memory is had after.
 fn cases() -> Vec<Case> {
-    let mut cases = Vec::new();
-    for (name, length) in [("store of 1", 1), ("store of 4", 4), ("store of 133", 133)] {
-        let (kinds, context) = variables(length);
-        cases.push(Case {
-            name,
-            request: format!("store {kinds} -"),
-            call: Call::Store(context, length as u64),
-        });
-    }
-    for (name, length) in [("load of 1", 1), ("load of 4", 4), ("load of 133", 133)] {
-        let (kinds, context) = variables(length);
-        cases.push(Case {
-            name,
-            request: format!("load {kinds} -"),
-            call: Call::Load(context),
-        });
-    }
+    let mut cases = vec![
+        store("store of 1", Frame::Base, 1),
+        store("store of 4", Frame::Base, 4),
+        store("store of 133", Frame::Base, 133),
+        load("load of 1", Frame::Base, 1),
+        load("load of 4", Frame::Base, 4),
+        load("load of 133", Frame::Base, 133),
+    ];
     cases.push(Case {
         name: "erase of a register",
         request: "erase_block r4".to_string(),
@@ -118,7 +113,29 @@ fn cases() -> Vec<Case> {
         call: Call::Routine(emitted(body.trim_end_matches("; "))),
         request: format!("{body}routine 5"),
     });
+    cases.extend([
+        store("store of 261, 512 spills", Frame::Larger, 261),
+        load("load of 261, 512 spills", Frame::Larger, 261),
+    ]);
     cases
+}
+
+fn store(name: &'static str, frame: Frame, length: usize) -> Case {
+    let (kinds, context) = variables(length);
+    Case {
+        name,
+        request: format!("frame {} store {kinds} -", frame.number()),
+        call: Call::Store(context, length as u64),
+    }
+}
+
+fn load(name: &'static str, frame: Frame, length: usize) -> Case {
+    let (kinds, context) = variables(length);
+    Case {
+        name,
+        request: format!("frame {} load {kinds} -", frame.number()),
+        call: Call::Load(context),
+    }
 }
 
 /// The kinds of so many variables, as a request writes them, and their context.
@@ -128,32 +145,50 @@ fn variables(length: usize) -> (String, Vec<u8>) {
     (kinds, context)
 }
 
-/// The Rust's last operation of a request, ready to be timed.
-fn prepared(request: &str) -> Prepared {
-    match parse::request(request) {
-        Ok(Request::Emission(emission)) => Prepared::last(&emission).expect("a timed operation"),
-        _ => unreachable!("no emission: {request}"),
+/// Times a case beside the Rust of its frame, whose last operation is made ready before.
+fn time(case: &Case) -> bool {
+    let line = parse::line(&case.request).expect("a request");
+    let Request::Emission(emission) = line.request else {
+        unreachable!("no emission: {}", case.request);
+    };
+    let ready = "a timed operation";
+    match Frame::of(line.frame).expect("a frame") {
+        frame @ Frame::Base => {
+            use spills_256::driver::Prepared;
+            let prepared = Prepared::last(&emission).expect(ready);
+            time_beside(case, frame, &prepared, Prepared::emit)
+        }
+        frame @ Frame::Larger => {
+            use spills_512::driver::Prepared;
+            let prepared = Prepared::last(&emission).expect(ready);
+            time_beside(case, frame, &prepared, Prepared::emit)
+        }
     }
 }
 
-fn time(case: &Case) -> bool {
+fn time_beside<Prepared: Clone, Written>(
+    case: &Case,
+    frame: Frame,
+    prepared: &Prepared,
+    emit: fn(Prepared) -> Written,
+) -> bool {
     let records = emitted(&case.request);
     let count = records.len() / SIZE;
     let times = LEAST_RECORDS.div_ceil(count);
-    let prepared = prepared(&case.request);
     let mut outputs = [vec![0; records.len() + 200_000], vec![0; records.len()]];
     let [mut port, mut rust, mut copy] = [Duration::MAX; 3];
     for _ in 0..TURNS {
         let (out, copied) = outputs.split_at_mut(1);
         port = port.min(timed(|| {
             for _ in 0..times {
-                black_box(black_box(&case.call).perform(black_box(&mut out[0])));
+                let out = black_box(&mut out[0]);
+                black_box(black_box(&case.call).perform(frame.number(), out));
             }
         }));
         let clones = vec![prepared.clone(); times];
         let mut lists = Vec::with_capacity(times);
         rust = rust.min(timed(|| {
-            lists.extend(clones.into_iter().map(|clone| black_box(clone).emit()));
+            lists.extend(clones.into_iter().map(|clone| emit(black_box(clone))));
         }));
         drop(black_box(lists));
         copy = copy.min(timed(|| {

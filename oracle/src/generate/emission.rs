@@ -1,77 +1,36 @@
-//! The emission requests at the limits: every mixture of operands, every length of a context and
-//! every part of it, wide immediates, counters up to the last label, outputs too short.
+//! The emission requests at the limits, in both frames: every mixture of operands, every length of
+//! a context and every part of it, wide immediates, counters up to the last label, outputs too
+//! short. Then some of each sort in frames that there are not.
 
 use super::requests::{
-    ARITHMETIC, CONDITIONS, LABELS, ZERO_CONDITIONS, fst_or_snd, kinds, share_count, write_kinds,
+    ARITHMETIC, CONDITIONS, LABELS, ZERO_CONDITIONS, fst_or_snd, in_frame, kinds, share_count,
+    write_kinds,
 };
 use crate::answer::Answer;
+use crate::frame::{FRAMES, Frame};
 use crate::random::Random;
 use crate::record::{LAST_FRESH, SIZE};
 use crate::well_formed::{IMMEDIATES, instruction};
 use crate::{hex, parse, rust_side};
 
 /// The longest context that the lists have everywhere: one variable more than there is room for.
-pub const LONGEST: usize = 134;
+pub fn longest(frame: Frame) -> usize {
+    frame.most_variables() + 1
+}
 
-/// Every register that holds variables, and the spills at both ends.
-const OPERANDS: [&str; 16] = [
-    "r4", "r5", "r6", "r7", "r8", "r9", "r10", "r11", "r12", "r13", "r14", "r15", "s1", "s2",
-    "s254", "s255",
-];
+/// Numbers that no frame has.
+const OTHER_FRAMES: [u64; 9] = [0, 1, 255, 257, 511, 513, 1_024, 1 << 32 | 256, u64::MAX];
 
-/// Operations that take the counter, with the number of labels that they draw.
-const DRAWING: [(&str, u64); 14] = [
-    ("erase_block r4", 3),
-    ("erase_block s1", 3),
-    ("share_block_n r15 1", 1),
-    ("share_block_n s255 2147483647", 1),
-    ("store - -", 0),
-    ("store - l133", 0),
-    ("store e -", 13),
-    ("store e4 -", 26),
-    ("store le2 l9", 13),
-    ("load - -", 0),
-    ("load e -", 2),
-    ("load lel l", 4),
-    ("load l7 e5", 9),
-    ("erase_block r4; share_block_n r4 1; store l e", 17),
-];
-
-/// The last counter and the shortest output with which the port writes a store or load at once,
-/// without a pass for its size.
+/// The last counter with which the port writes a store or load at once, without a pass for its
+/// size.
 const LAST_AT_ONCE: u64 = 2_147_479_999;
-const FIRST_AT_ONCE: u64 = 103_200;
 
-/// Operations to be given outputs of several lengths.
-const ROOMS: [&str; 27] = [
-    "label lab1",
-    "jump r4",
-    "jump s1",
-    "jump_label lab1",
-    "jump_label_fixed cleanup",
-    "jump_label_if_less s1 s2 lab1",
-    "jump_label_if_greater_zero s255 lab1",
-    "load_immediate s1 -1",
-    "load_label s1 lab1",
-    "add_and_jump s1 5",
-    "add s1 s2 s254",
-    "sub r4 s1 r4",
-    "mul s1 s1 s2",
-    "div s1 s2 s254",
-    "rem r12 r5 r13",
-    "mov s1 s2",
-    "compare s1 s2",
-    "compare_immediate s1 7",
-    "erase_block r4",
-    "erase_block s255",
-    "share_block_n r4 1",
-    "share_block_n s1 2",
-    "mov r4 r5; mov s1 s2; erase_block r4",
-    "erase_block s1; store le e; load l -",
-    "routine 0",
-    "mov s1 s2; routine 5",
-    "store lle e; routine 3",
-];
+/// The shortest output with which the port writes a store or load of n variables at once: 65
+/// records for each block, and 4.
+fn at_once(n: usize) -> u64 {
+    let blocks = 1 + n.saturating_sub(3).div_ceil(2);
+    (SIZE * (65 * blocks + 4)) as u64
+}
 
 /// Document 01's worked numbers.
 pub const WORKED: [&str; 27] = [
@@ -104,25 +63,100 @@ pub const WORKED: [&str; 27] = [
     "share_block_n r4 1",
 ];
 
-pub fn limits(random: &mut Random, list: &mut Vec<String>) {
-    list.extend(WORKED.map(str::to_string));
-    one_operand(random, list);
-    two_operands(random, list);
-    three_operands(list);
-    labels(list);
-    immediates(random, list);
-    contexts(random, list);
-    parts(random, list);
-    prints(random, list);
-    counters(list);
-    counters_of_contexts(random, list);
-    rooms(random, list);
-    routines(random, list);
-    queries(random, list);
+/// Every register that holds variables, and the spills at both ends.
+const OPERANDS: [&str; 16] = [
+    "r4", "r5", "r6", "r7", "r8", "r9", "r10", "r11", "r12", "r13", "r14", "r15", "s1", "s2",
+    "s254", "s255",
+];
+
+/// Operations that take the counter, with the number of labels that they draw.
+const DRAWING: [(&str, u64); 14] = [
+    ("erase_block r4", 3),
+    ("erase_block s1", 3),
+    ("share_block_n r15 1", 1),
+    ("share_block_n s255 2147483647", 1),
+    ("store - -", 0),
+    ("store - l133", 0),
+    ("store e -", 13),
+    ("store e4 -", 26),
+    ("store le2 l9", 13),
+    ("load - -", 0),
+    ("load e -", 2),
+    ("load lel l", 4),
+    ("load l7 e5", 9),
+    ("erase_block r4; share_block_n r4 1; store l e", 17),
+];
+
+/// Operations to be given outputs of several lengths.
+const ROOMS: [&str; 27] = [
+    "label lab1",
+    "jump r4",
+    "jump s1",
+    "jump_label lab1",
+    "jump_label_fixed cleanup",
+    "jump_label_if_less s1 s2 lab1",
+    "jump_label_if_greater_zero s255 lab1",
+    "load_immediate s1 -1",
+    "load_label s1 lab1",
+    "add_and_jump s1 5",
+    "add s1 s2 s254",
+    "sub r4 s1 r4",
+    "mul s1 s1 s2",
+    "div s1 s2 s254",
+    "rem r12 r5 r13",
+    "mov s1 s2",
+    "compare s1 s2",
+    "compare_immediate s1 7",
+    "erase_block r4",
+    "erase_block s255",
+    "share_block_n r4 1",
+    "share_block_n s1 2",
+    "mov r4 r5; mov s1 s2; erase_block r4",
+    "erase_block s1; store le e; load l -",
+    "routine 0",
+    "mov s1 s2; routine 5",
+    "store lle e; routine 3",
+];
+
+/// The same of a frame: its last spills, and as many variables as it has room for.
+fn adapted(frame: Frame, request: &str) -> String {
+    let last = frame.spills() - 1;
+    request
+        .replace("s255", &format!("s{last}"))
+        .replace("s254", &format!("s{}", last - 1))
+        .replace("l133", &format!("l{}", frame.most_variables()))
 }
 
-fn one_operand(random: &mut Random, list: &mut Vec<String>) {
-    for t in OPERANDS {
+pub fn limits(random: &mut Random, list: &mut Vec<String>) {
+    list.extend(WORKED.map(str::to_string));
+    list.extend(larger());
+    for frame in FRAMES {
+        let mut requests = Vec::new();
+        limits_of(frame, random, &mut requests);
+        list.extend(requests.iter().map(|request| in_frame(frame, request)));
+    }
+    other_frames(list);
+}
+
+fn limits_of(frame: Frame, random: &mut Random, list: &mut Vec<String>) {
+    let operands = OPERANDS.map(|operand| adapted(frame, operand));
+    one_operand(&operands, random, list);
+    two_operands(&operands, random, list);
+    three_operands(&operands, list);
+    labels(list);
+    immediates(&operands, random, list);
+    contexts(frame, random, list);
+    parts(frame, random, list);
+    prints(frame, &operands, random, list);
+    counters(frame, list);
+    counters_of_contexts(frame, random, list);
+    rooms(frame, random, list);
+    routines(random, list);
+    queries(frame, random, list);
+}
+
+fn one_operand(operands: &[String], random: &mut Random, list: &mut Vec<String>) {
+    for t in operands {
         list.push(format!("jump {t}"));
         list.push(format!("erase_block {t}"));
         list.push(format!("share_block_n {t} {}", share_count(random)));
@@ -136,9 +170,9 @@ fn one_operand(random: &mut Random, list: &mut Vec<String>) {
     }
 }
 
-fn two_operands(random: &mut Random, list: &mut Vec<String>) {
-    for fst in OPERANDS {
-        for snd in OPERANDS {
+fn two_operands(operands: &[String], random: &mut Random, list: &mut Vec<String>) {
+    for fst in operands {
+        for snd in operands {
             list.push(format!("mov {fst} {snd}"));
             list.push(format!("compare {fst} {snd}"));
             for condition in CONDITIONS {
@@ -149,11 +183,12 @@ fn two_operands(random: &mut Random, list: &mut Vec<String>) {
     }
 }
 
-fn three_operands(list: &mut Vec<String>) {
+fn three_operands(operands: &[String], list: &mut Vec<String>) {
     for operation in ARITHMETIC {
-        for t in OPERANDS {
-            for fst in OPERANDS {
-                list.extend(OPERANDS.map(|snd| format!("{operation} {t} {fst} {snd}")));
+        for t in operands {
+            for fst in operands {
+                let with = |snd| format!("{operation} {t} {fst} {snd}");
+                list.extend(operands.iter().map(with));
             }
         }
     }
@@ -165,9 +200,9 @@ fn labels(list: &mut Vec<String>) {
     }
 }
 
-fn immediates(random: &mut Random, list: &mut Vec<String>) {
+fn immediates(operands: &[String], random: &mut Random, list: &mut Vec<String>) {
     for operation in ["load_immediate", "add_and_jump", "compare_immediate"] {
-        for t in OPERANDS {
+        for t in operands {
             let wide = random.word() as i64;
             for immediate in IMMEDIATES.into_iter().chain([wide]) {
                 list.push(format!("{operation} {t} {immediate}"));
@@ -178,8 +213,8 @@ fn immediates(random: &mut Random, list: &mut Vec<String>) {
 
 /// Every length up to one more than there is room for: all to store or load, none, one, and a
 /// random part, of one kind and of mixed kinds.
-fn contexts(random: &mut Random, list: &mut Vec<String>) {
-    for length in 0..=LONGEST {
+fn contexts(frame: Frame, random: &mut Random, list: &mut Vec<String>) {
+    for length in 0..=longest(frame) {
         for operation in ["store", "load"] {
             for kind in ['e', 'l'] {
                 let whole = write_kinds(&vec![kind; length]);
@@ -196,8 +231,8 @@ fn contexts(random: &mut Random, list: &mut Vec<String>) {
 }
 
 /// Every part of every length to store and to load.
-fn parts(random: &mut Random, list: &mut Vec<String>) {
-    for length in 0..=LONGEST {
+fn parts(frame: Frame, random: &mut Random, list: &mut Vec<String>) {
+    for length in 0..=longest(frame) {
         for first in 0..=length {
             for operation in ["store", "load"] {
                 let rest = kinds(length - first, random);
@@ -208,10 +243,10 @@ fn parts(random: &mut Random, list: &mut Vec<String>) {
 }
 
 /// Every length with every source.
-fn prints(random: &mut Random, list: &mut Vec<String>) {
-    for length in (0..=LONGEST).chain([4_095, 4_096]) {
-        let position = format!("p{}", random.below(267));
-        for source in OPERANDS.into_iter().chain([&position[..]]) {
+fn prints(frame: Frame, operands: &[String], random: &mut Random, list: &mut Vec<String>) {
+    for length in (0..=longest(frame)).chain([4_095, 4_096]) {
+        let position = format!("p{}", random.below(frame.positions()));
+        for source in operands.iter().chain([&position]) {
             for newline in [0, 1] {
                 let context = kinds(length, random);
                 list.push(format!("print_i64 {newline} {source} {context}"));
@@ -221,8 +256,8 @@ fn prints(random: &mut Random, list: &mut Vec<String>) {
 }
 
 /// What the Rust writes for a request: the number of bytes and of labels, unless it panics.
-fn size(request: &str) -> Option<(u64, u64)> {
-    match rust_side::answer(&parse::request(request).ok()?) {
+fn size(frame: Frame, request: &str) -> Option<(u64, u64)> {
+    match rust_side::answer(frame.number(), &parse::line(request).ok()?.request) {
         Answer::Records(records, counter) => Some(((records.len() * SIZE) as u64, counter)),
         _ => None,
     }
@@ -230,13 +265,13 @@ fn size(request: &str) -> Option<(u64, u64)> {
 
 /// Every length with a counter in the middle, with the last that leaves labels enough, and with
 /// the first that does not.
-fn counters_of_contexts(random: &mut Random, list: &mut Vec<String>) {
-    for length in 0..=LONGEST {
+fn counters_of_contexts(frame: Frame, random: &mut Random, list: &mut Vec<String>) {
+    for length in 0..=longest(frame) {
         for operation in ["store", "load"] {
             let first = random.below(length + 1);
             let (some, rest) = (kinds(first, random), kinds(length - first, random));
             let request = format!("{operation} {some} {rest}");
-            let labels = size(&request).map_or(0, |(_, labels)| labels);
+            let labels = size(frame, &request).map_or(0, |(_, labels)| labels);
             let middle = random.below(1 << 31) as u64;
             for counter in [middle, LAST_FRESH - labels, LAST_FRESH - labels + 1] {
                 list.push(format!("@{counter} {request}"));
@@ -248,19 +283,20 @@ fn counters_of_contexts(random: &mut Random, list: &mut Vec<String>) {
 /// Every operation, and every length of a context, with outputs of no byte, of about half the
 /// bytes needed, of a byte less, of just the bytes needed and of a byte more, and about the length
 /// from which the port writes at once.
-fn rooms(random: &mut Random, list: &mut Vec<String>) {
-    let mut requests: Vec<String> = ROOMS.map(str::to_string).to_vec();
-    for length in 0..=LONGEST {
+fn rooms(frame: Frame, random: &mut Random, list: &mut Vec<String>) {
+    let mut requests: Vec<(String, usize)> =
+        ROOMS.map(|request| (adapted(frame, request), 0)).to_vec();
+    for length in 0..=longest(frame) {
         let first = random.below(length + 1);
         for operation in ["store", "load"] {
             let (some, rest) = (kinds(first, random), kinds(length - first, random));
-            requests.push(format!("{operation} {some} {rest}"));
+            requests.push((format!("{operation} {some} {rest}"), first));
         }
-        let context = kinds(length, random);
-        requests.push(format!("print_i64 1 p{} {context}", random.below(267)));
+        let (position, context) = (random.below(frame.positions()), kinds(length, random));
+        requests.push((format!("print_i64 1 p{position} {context}"), 0));
     }
-    for request in requests {
-        let Some((bytes, _)) = size(&request) else {
+    for (request, n) in requests {
+        let Some((bytes, _)) = size(frame, &request) else {
             continue;
         };
         for room in [
@@ -269,16 +305,17 @@ fn rooms(random: &mut Random, list: &mut Vec<String>) {
             bytes.saturating_sub(1),
             bytes,
             bytes + 1,
-            FIRST_AT_ONCE - 1,
-            FIRST_AT_ONCE,
+            at_once(n) - 1,
+            at_once(n),
         ] {
             list.push(format!("room {room} {request}"));
         }
     }
 }
 
-fn counters(list: &mut Vec<String>) {
+fn counters(frame: Frame, list: &mut Vec<String>) {
     for (operation, labels) in DRAWING {
+        let operation = adapted(frame, operation);
         for counter in [
             0,
             1,
@@ -322,16 +359,17 @@ fn routines(random: &mut Random, list: &mut Vec<String>) {
     list.push(format!("rawn 65506 {record}; routine 5"));
 }
 
-fn queries(random: &mut Random, list: &mut Vec<String>) {
-    for position in (0..=300).chain([u64::from(u32::MAX), u64::MAX / 2, u64::MAX]) {
+fn queries(frame: Frame, random: &mut Random, list: &mut Vec<String>) {
+    let (positions, spills) = (frame.positions() as u64, frame.spills());
+    for position in (0..=positions + 33).chain([u64::from(u32::MAX), u64::MAX / 2, u64::MAX]) {
         list.push(format!("position {position}"));
     }
-    for length in (0..=140).chain([4_096]) {
+    for length in (0..=longest(frame) + 6).chain([4_096]) {
         for which in ["fst", "snd"] {
             list.push(format!("fresh_temporary {which} {length}"));
         }
     }
-    for spill in 1..=255 {
+    for spill in 1..spills {
         list.push(format!("stack_offset {spill}"));
     }
     for field in 0..3 {
@@ -339,7 +377,7 @@ fn queries(random: &mut Random, list: &mut Vec<String>) {
             list.push(format!("field_offset {which} {field}"));
         }
     }
-    for before in (0..=135).chain([4_093]) {
+    for before in (0..=longest(frame) + 1).chain([4_093]) {
         let which = fst_or_snd(random);
         list.push(format!("variable_temporary {which} 5 1*{before},5"));
         list.push(format!("variable_temporary {which} 5 1*{before},5*2,1"));
@@ -347,4 +385,110 @@ fn queries(random: &mut Random, list: &mut Vec<String>) {
     }
     list.push("variable_temporary fst 0 -".to_string());
     list.push("variable_temporary snd 4294967295 4294967295".to_string());
+}
+
+/// The worked numbers of the larger frame, and each operation with its last spills, positions and
+/// variables.
+pub fn larger() -> Vec<String> {
+    let frame = Frame::Larger;
+    let mut requests: Vec<String> = [
+        "position 11",
+        "position 12",
+        "position 266",
+        "position 267",
+        "position 521",
+        "position 522",
+        "position 523",
+        "position 524",
+        "stack_offset 1",
+        "stack_offset 256",
+        "stack_offset 511",
+        "fresh_temporary fst 261",
+        "fresh_temporary snd 260",
+        "fresh_temporary snd 261",
+        "variable_temporary snd 5 1*260,5",
+        "variable_temporary fst 5 1*261,5",
+        "variable_temporary snd 5 1*261,5",
+        "variable_temporary fst 5 1*262",
+        "field_offset snd 2",
+        "store - -",
+        "store - e260",
+        "store - e261",
+        "store - e262",
+        "store e e260",
+        "store l l260",
+        "store e e261",
+        "store l l261",
+        "store e262 -",
+        "load - e261",
+        "load - e4096",
+        "load e e260",
+        "load l l260",
+        "load e e261",
+        "load e261 -",
+        "load l262 -",
+        "load elel e257",
+        "print_i64 0 s511 e261",
+        "print_i64 1 p521 l133e128",
+        "print_i64 0 p522 e4096",
+        "print_i64 1 r5 e6",
+        "add p521 p1 p519; sub s511 s511 s256; mul p522 p522 p0",
+        "div p521 p519 p517; rem s511 s510 s509",
+        "jump_label_if_equal s511 s510 lab1; jump_label_if_less_zero s511 cleanup",
+        "jump s511",
+        "load_label s511 asm_main",
+        "add_and_jump s511 2147483647",
+        "compare s511 r4; compare s1 s511; compare_immediate s511 -1",
+        "load_immediate p521 -9223372036854775808; mov p521 p520; mov r4 s511",
+        "@2147483644 erase_block s511",
+        "@2147483645 erase_block s511",
+        "share_block_n s511 2147483647",
+        "@2147481957 store l261 -",
+        "@2147481958 store l261 -",
+        "@2147483384 load l261 -",
+        "@2147483385 load l261 -",
+        "routine 0",
+        "load_immediate p521 5; routine 5",
+        "routine 6",
+    ]
+    .map(str::to_string)
+    .to_vec();
+    requests.extend(ROOMS.map(|request| adapted(frame, request)));
+    let in_it = |request: &String| in_frame(frame, request);
+    requests.iter().map(in_it).collect()
+}
+
+/// Some of each sort in frames that there are not.
+fn other_frames(list: &mut Vec<String>) {
+    let mut requests: Vec<String> = WORKED.map(str::to_string).to_vec();
+    requests.extend(ROOMS.map(str::to_string));
+    let others = [
+        "nothing",
+        "raw a92407000000000000000000000000000000000000000000",
+        "label 0",
+        "mov r3 r4",
+        "mov s512 s0",
+        "mov p0 p600",
+        "room 0 store l -",
+        "room 0 routine 0",
+        "@2147483647 erase_block r4",
+        "@18446744073709551615 load e -",
+        "share_block_n r4 2147483648",
+        "store_last e4 4",
+        "store l4096 -",
+        "load - e4096",
+        "print_i64 0 r4 e4096",
+        "stack_offset 1",
+        "stack_offset 600",
+        "field_offset fst 2",
+        "fresh_temporary fst 0",
+        "fresh_temporary snd 4096",
+        "variable_temporary fst 5 5",
+        "variable_temporary fst 5 -",
+    ];
+    requests.extend(others.map(str::to_string));
+    for frame in OTHER_FRAMES {
+        let in_it = |request| format!("frame {frame} {request}");
+        list.extend(requests.iter().map(in_it));
+    }
 }

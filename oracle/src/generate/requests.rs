@@ -1,5 +1,6 @@
 //! Random requests that both the Rust and the port answer.
 
+use crate::frame::Frame;
 use crate::hex;
 use crate::random::Random;
 use crate::record::LAST_FRESH;
@@ -38,19 +39,28 @@ pub const LABELS: [&str; 10] = [
     "n4294967295",
 ];
 
-/// A request with contexts of at most the given length.
-pub fn random(longest: usize, random: &mut Random) -> String {
+/// A request as it is asked in a frame; one of 256 spills need not be named.
+pub fn in_frame(frame: Frame, request: &str) -> String {
+    match frame {
+        Frame::Base => request.to_string(),
+        Frame::Larger => format!("frame {} {request}", frame.number()),
+    }
+}
+
+/// A request in a frame, with contexts of at most the given length.
+pub fn random(frame: Frame, longest: usize, random: &mut Random) -> String {
     if random.once_in(8) {
-        return query(random);
+        return in_frame(frame, &query(frame, random));
     }
     let most = if random.once_in(3) { 5 } else { 1 };
     let mut operations: Vec<String> = (0..1 + random.below(most))
-        .map(|_| operation(longest, random))
+        .map(|_| operation(frame, longest, random))
         .collect();
     if random.once_in(12) {
         operations.push(format!("routine {}", random.below(7)));
     }
-    format!("{}{}", counter(random), operations.join("; "))
+    let request = format!("{}{}", counter(random), operations.join("; "));
+    in_frame(frame, &request)
 }
 
 /// A counter in front of a request: none, in the middle, or near the limit.
@@ -62,16 +72,17 @@ fn counter(random: &mut Random) -> String {
     }
 }
 
-fn query(random: &mut Random) -> String {
+fn query(frame: Frame, random: &mut Random) -> String {
     let which = fst_or_snd(random);
+    let most = frame.most_variables();
     match random.below(5) {
-        0 => format!("position {}", random.below(270)),
-        1 => format!("fresh_temporary {which} {}", random.below(136)),
-        2 => format!("stack_offset {}", 1 + random.below(255)),
+        0 => format!("position {}", random.below(frame.positions() + 3)),
+        1 => format!("fresh_temporary {which} {}", random.below(most + 3)),
+        2 => format!("stack_offset {}", 1 + random.below(frame.spills() - 1)),
         3 => format!("field_offset {which} {}", random.below(3)),
         _ => {
             let id = random.below(6);
-            format!("variable_temporary {which} {id} {}", ids(random))
+            format!("variable_temporary {which} {id} {}", ids(most, random))
         }
     }
 }
@@ -82,12 +93,12 @@ pub fn fst_or_snd(random: &mut Random) -> &'static str {
 
 /// Few different ids, so that a context has some twice; with a run that leads to the last
 /// positions.
-fn ids(random: &mut Random) -> String {
+fn ids(most: usize, random: &mut Random) -> String {
     let mut ids: Vec<String> = (0..random.below(8))
         .map(|_| random.below(6).to_string())
         .collect();
     if random.once_in(3) {
-        ids.insert(0, format!("9*{}", 120 + random.below(15)));
+        ids.insert(0, format!("9*{}", most - 13 + random.below(15)));
     }
     if ids.is_empty() {
         return "-".to_string();
@@ -95,8 +106,8 @@ fn ids(random: &mut Random) -> String {
     ids.join(",")
 }
 
-fn operation(longest: usize, random: &mut Random) -> String {
-    let (t, fst, snd) = (operand(random), operand(random), operand(random));
+fn operation(frame: Frame, longest: usize, random: &mut Random) -> String {
+    let [t, fst, snd] = [(); 3].map(|()| operand(frame, random));
     let label = random.pick(&LABELS);
     match random.below(23) {
         0 => format!("label {label}"),
@@ -116,7 +127,7 @@ fn operation(longest: usize, random: &mut Random) -> String {
         8 => format!("add_and_jump {t} {}", immediate(random)),
         9..12 => format!("{} {t} {fst} {snd}", random.pick(&ARITHMETIC)),
         12 => format!("mov {t} {fst}"),
-        13 => print(longest, random),
+        13 => print(frame, longest, random),
         14 => format!("compare {fst} {snd}"),
         15 => format!("compare_immediate {t} {}", immediate(random)),
         16 => format!("erase_block {t}"),
@@ -133,18 +144,18 @@ fn operation(longest: usize, random: &mut Random) -> String {
     }
 }
 
-/// A register 4..15, a spill 1..255 or a position.
-fn operand(random: &mut Random) -> String {
+/// A register 4..15, a spill but the first, or a position.
+fn operand(frame: Frame, random: &mut Random) -> String {
     match random.below(5) {
         0 | 1 => format!("r{}", 4 + random.below(12)),
-        2 | 3 => format!("s{}", 1 + random.below(255)),
-        _ => format!("p{}", random.below(267)),
+        2 | 3 => format!("s{}", 1 + random.below(frame.spills() - 1)),
+        _ => format!("p{}", random.below(frame.positions())),
     }
 }
 
-fn print(longest: usize, random: &mut Random) -> String {
+fn print(frame: Frame, longest: usize, random: &mut Random) -> String {
     let length = random.below(longest + 1);
-    let source = operand(random);
+    let source = operand(frame, random);
     let newline = random.below(2);
     format!("print_i64 {newline} {source} {}", kinds(length, random))
 }

@@ -5,6 +5,7 @@
 use super::{BINDING, Order, SIZE, binding, kinds};
 use crate::answer::Answer;
 use crate::context::{Kind, Kinds};
+use crate::frame::Frame;
 use crate::reading::{Refusal, check_context};
 use crate::record::{self, LAST_FRESH, Record};
 use crate::request::{Emission, Operand, Operation, Request};
@@ -38,11 +39,14 @@ fn refused<T>(number: u64, value: Option<u64>) -> Result<T, Refusal> {
     Err(Refusal { number, value })
 }
 
-/// All causes but 10, in rising order.
-pub fn given(context: &[u8], asked: &Asked) -> Result<Given, Refusal> {
+/// All causes but 10, in rising order. "The frame may be 256 or 512 spills (another number is 3)."
+pub fn given(frame: u64, context: &[u8], asked: &Asked) -> Result<Given, Refusal> {
     check_context(context)?;
     check_context(&asked.bindings)?;
     let order = well_formed(asked)?;
+    let Some(frame) = Frame::of(frame) else {
+        return refused(3, None);
+    };
     let (before, brought) = (kinds(context), kinds(&asked.bindings));
     if !places_there(order, before.len()) {
         return refused(4, None);
@@ -53,7 +57,7 @@ pub fn given(context: &[u8], asked: &Asked) -> Result<Given, Refusal> {
     if matches!(order, Order::Copy { n, .. } if n > LAST_FRESH as usize) {
         return refused(7, None);
     }
-    let (records, counter) = written(order, &before, &brought, asked.counter)?;
+    let (records, counter) = written(frame, order, &before, &brought, asked.counter)?;
     Ok(Given {
         order,
         records: records.into_iter().flat_map(Record::to_bytes).collect(),
@@ -116,18 +120,20 @@ fn kinds_right(order: Order, before: &[Kind]) -> bool {
 
 /// Causes 8 and 9, or the records and the counter after them.
 fn written(
+    frame: Frame,
     order: Order,
     before: &[Kind],
     brought: &[Kind],
     counter: u64,
 ) -> Result<(Vec<Record>, u64), Refusal> {
-    let operations = operations(order, before, brought);
+    let operations = operations(frame, order, before, brought);
     let emit = |counter| {
-        rust_side::answer(&Request::Emission(Emission {
+        let emission = Emission {
             counter,
             room: None,
             operations: operations.clone(),
-        }))
+        };
+        rust_side::answer(frame.number(), &Request::Emission(emission))
     };
     // a counter above the limit is refused whatever is drawn, but a position comes first
     let answer = if counter <= LAST_FRESH {
@@ -155,7 +161,7 @@ fn snd(variable: usize) -> Operand {
 }
 
 /// The order as the Rust's operations.
-fn operations(order: Order, before: &[Kind], brought: &[Kind]) -> Vec<Operation> {
+fn operations(frame: Frame, order: Order, before: &[Kind], brought: &[Kind]) -> Vec<Operation> {
     let length = before.len();
     match order {
         Order::Put(value) => vec![Operation::LoadImmediate(snd(length), value as i64)],
@@ -167,7 +173,8 @@ fn operations(order: Order, before: &[Kind], brought: &[Kind]) -> Vec<Operation>
                 snd(b),
             )]
         }
-        Order::Copy { a, n } => copy(before[a], a, length, n),
+        // no context has room for more copies than positions
+        Order::Copy { a, n } => copy(before[a], a, length, n.min(frame.positions())),
         Order::Drop => match before[length - 1] {
             Kind::Ext => Vec::new(),
             Kind::Linked => vec![Operation::EraseBlock(fst(length - 1))],
@@ -192,14 +199,13 @@ fn operations(order: Order, before: &[Kind], brought: &[Kind]) -> Vec<Operation>
     }
 }
 
-/// "`share_block_n` if linked, then `mov` to each new variable, Fst before Snd." No context has
-/// room for more copies than positions, so no more are asked for.
+/// "`share_block_n` if linked, then `mov` to each new variable, Fst before Snd."
 fn copy(kind: Kind, a: usize, length: usize, n: usize) -> Vec<Operation> {
     let mut operations = Vec::new();
     if kind == Kind::Linked {
         operations.push(Operation::ShareBlockN(fst(a), n as u64));
     }
-    for variable in length..length + n.min(267) {
+    for variable in length..length + n {
         if kind == Kind::Linked {
             operations.push(Operation::Mov(fst(variable), fst(a)));
         }

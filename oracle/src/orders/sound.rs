@@ -3,18 +3,13 @@
 
 use super::plain::Value;
 use super::{BINDING, kinds};
-use crate::interpreter::{
-    BLOCK_WORDS, HEAP_START, STACK, STACK_AT_ENTRY, STACK_START, STACK_WORDS, State,
-};
+use crate::frame::Frame;
+use crate::interpreter::{BLOCK_WORDS, HEAP_START, STACK, State, stack_in_body, stack_start};
 use crate::reading::check_context;
 use std::rc::Rc;
 
 const HEAP: usize = 2;
 const FREE: usize = 3;
-
-/// "Runs of operations start with STACK where the routine's setup leaves it": below six pushes
-/// and 256 spills.
-const STACK_IN_BODY: u64 = STACK_AT_ENTRY - 6 * 8 - 256 * 8;
 
 const BLOCK_BYTES: u64 = 8 * BLOCK_WORDS as u64;
 const FIELDS: usize = 3;
@@ -78,6 +73,7 @@ type Checked<T> = Result<T, String>;
 /// Whether all that demand 3 says of a state holds. The history is that of the states before,
 /// and takes this one in.
 pub fn sound(
+    frame: Frame,
     state: &State,
     heap: &[u64],
     context: &[u8],
@@ -85,7 +81,7 @@ pub fn sound(
     history: &mut History,
 ) -> Checked<Shape> {
     check_kinds(context, values)?;
-    let words = variables(state, values.len())?;
+    let words = variables(frame, state, values.len())?;
     let roots = roots(&words, values);
     let reachable = reachable(heap, roots.clone())?;
     let mut blocks = Blocks::new(heap);
@@ -120,9 +116,11 @@ fn check_kinds(context: &[u8], values: &[Value]) -> Checked<()> {
 }
 
 /// Fst and Snd of each variable: "positions 0..11 are registers 4..15, 12..266 are spills 1..255";
-/// "spill p is at 2048 − 8(p+1) from STACK".
-fn variables(state: &State, count: usize) -> Checked<Vec<[u64; 2]>> {
-    if state.registers[STACK] != STACK_IN_BODY {
+/// "spill p is at 2048 − 8(p+1) from STACK", and with 512 spills "at 4096 − 8(p+1), positions run
+/// to 522".
+fn variables(frame: Frame, state: &State, count: usize) -> Checked<Vec<[u64; 2]>> {
+    let stack = stack_in_body(frame);
+    if state.registers[STACK] != stack {
         return Err(format!("STACK is {}", state.registers[STACK]));
     }
     let word = |position: usize| {
@@ -130,12 +128,11 @@ fn variables(state: &State, count: usize) -> Checked<Vec<[u64; 2]>> {
             return state.registers[4 + position];
         }
         let spill = position as u64 - 11;
-        let address = STACK_IN_BODY + 2_048 - 8 * (spill + 1);
-        let index = (address - STACK_START) / 8;
-        debug_assert!((index as usize) < STACK_WORDS);
+        let address = stack + 8 * frame.number() - 8 * (spill + 1);
+        let index = (address - stack_start(frame.stack_words())) / 8;
         state.stack[index as usize]
     };
-    if count > 133 {
+    if count > frame.most_variables() {
         return Err(format!("{count} variables"));
     }
     Ok((0..count).map(|i| [word(2 * i), word(2 * i + 1)]).collect())
@@ -443,6 +440,7 @@ mod tests {
     use super::*;
     use crate::channel::{Channel, Side};
     use crate::context::Kind;
+    use crate::frame::FRAMES;
     use crate::orders::answer::{Asked, given};
     use crate::orders::{Order, binding, plain};
     use crate::port::Ran;
@@ -456,9 +454,9 @@ mod tests {
 
     impl Played {
         /// On a zeroed heap of so many blocks.
-        fn fresh(blocks: usize) -> Played {
+        fn fresh(frame: Frame, blocks: usize) -> Played {
             let mut played = Played {
-                channel: Channel::fresh(Side::Reading, blocks * BLOCK_WORDS),
+                channel: Channel::fresh(Side::Reading, frame, blocks * BLOCK_WORDS),
                 values: Vec::new(),
                 history: History::new(blocks),
             };
@@ -474,7 +472,9 @@ mod tests {
                 bindings: kinds.iter().flat_map(|kind| binding(*kind, 7)).collect(),
                 counter: 0,
             };
-            let given = given(&self.channel.context, &asked).expect("the order is accepted");
+            let frame = self.channel.frame.number();
+            let given = given(frame, &self.channel.context, &asked);
+            let given = given.expect("the order is accepted");
             let ran = self.channel.run(&given.records, &[9; 9], given.count());
             if ran.number == 0 {
                 self.channel.context = given.context;
@@ -485,12 +485,14 @@ mod tests {
 
         fn check(&mut self) -> Checked<Shape> {
             let Channel {
+                frame,
                 state,
                 heap,
                 context,
                 ..
             } = &self.channel;
-            sound(state, heap, context, &self.values, &mut self.history)
+            let history = &mut self.history;
+            sound(*frame, state, heap, context, &self.values, history)
         }
 
         /// Whether a change is reported.
@@ -507,7 +509,7 @@ mod tests {
 
     /// Each state must be sound.
     fn play(orders: &[(Order, &[Kind])]) -> Played {
-        let mut played = Played::fresh(40);
+        let mut played = Played::fresh(Frame::Base, 40);
         for (order, kinds) in orders {
             let ran = played.order(*order, kinds);
             assert_eq!(ran.number, 0, "{order:?}: {ran}");
@@ -573,7 +575,7 @@ mod tests {
     /// A put and then so many stores of one variable, each of which reaches one block more, on a
     /// heap of so many blocks: how many blocks are reachable after each store, or what is wrong.
     fn stores(count: usize, blocks: usize) -> Vec<Checked<usize>> {
-        let mut played = Played::fresh(blocks);
+        let mut played = Played::fresh(Frame::Base, blocks);
         assert_eq!(played.order(Order::Put(0), &[]).number, 0);
         played.check().expect("a put changes no block");
         let mut store = || {
@@ -602,7 +604,7 @@ mod tests {
     /// finds two, its run faults, and the new variable leads nowhere yet.
     #[test]
     fn a_store_that_faults_reaches_less_than_it_counts() {
-        let mut played = Played::fresh(2);
+        let mut played = Played::fresh(Frame::Base, 2);
         for value in 0..7 {
             assert_eq!(played.order(Order::Put(value), &[]).number, 0);
         }
@@ -617,6 +619,33 @@ mod tests {
         assert_eq!(stores(2, 4), [Ok(1), Ok(2)]);
         assert_eq!(stores(2, 3), [Ok(1), no_block(3)]);
         assert_eq!(stores(2, 2), [no_block(2), Err("refused 11".to_string())]);
+    }
+
+    /// As many variables as the frame has room for, stored as one object and loaded again, with
+    /// every state sound and every position in use.
+    #[test]
+    fn a_full_frame_is_sound() {
+        for frame in FRAMES {
+            let most = frame.most_variables();
+            let mut played = Played::fresh(frame, 2 + most.div_ceil(2));
+            let mut play = |order, kinds: &[Kind]| {
+                let ran = played.order(order, kinds);
+                assert_eq!(ran.number, 0, "{order:?}: {ran}");
+                played.check().expect("each state is sound")
+            };
+            for value in 0..most {
+                play(Order::Put(value as u64), &[]);
+            }
+            let stored = play(Order::Store { n: most, tag: 3 }, &[]);
+            assert_eq!(
+                stored.reachable,
+                Order::Store { n: most, tag: 3 }.acquires()
+            );
+            play(Order::Load(most), &vec![Kind::Ext; most]);
+            let last = played.channel.state.stack[57];
+            assert_eq!(last, 0, "the last position is no variable's");
+            assert_eq!(played.channel.state.stack[58], most as u64 - 1);
+        }
     }
 
     #[test]

@@ -3,22 +3,27 @@
 use super::lent_words;
 use crate::answer::Answer;
 use crate::channel::{Answered, Channel, Rooms, Side, ask};
+use crate::frame::Frame;
+use crate::interpreter;
 use crate::orders::answer::Asked;
-use crate::port::Damaged;
+use crate::port::{self, Damaged};
 use crate::record::{Record, SIZE};
 use crate::request::Ordering;
 
-pub fn answer(request: &Ordering, channel: &mut Option<Channel>) -> Answer {
+pub fn answer(frame: u64, request: &Ordering, channel: &mut Option<Channel>) -> Answer {
     if let Ordering::Alone {
         context,
         asked,
         rooms,
     } = request
     {
-        return alone(context, asked, *rooms);
+        return alone(frame, context, asked, *rooms);
     }
     if let Ordering::Fresh(blocks) = request {
-        *channel = Some(Channel::fresh(Side::Port, lent_words(*blocks)));
+        let Some(frame) = Frame::of(frame) else {
+            return refused_start(frame);
+        };
+        *channel = Some(Channel::fresh(Side::Port, frame, lent_words(*blocks)));
         return Answer::Fresh;
     }
     let Some(channel) = channel else {
@@ -42,8 +47,18 @@ pub fn answer(request: &Ordering, channel: &mut Option<Channel>) -> Answer {
     }
 }
 
-fn alone(context: &[u8], asked: &Asked, rooms: Rooms) -> Answer {
-    match ask(context, asked, rooms) {
+/// What the port answers to a start in a frame that there is not; the channel before stays.
+fn refused_start(frame: u64) -> Answer {
+    let before = interpreter::fresh(Frame::Base);
+    let mut state = before.clone();
+    match port::start(frame, true, &mut state) {
+        _ if state != before => Answer::Damaged,
+        number => Answer::Refused(number, None),
+    }
+}
+
+fn alone(frame: u64, context: &[u8], asked: &Asked, rooms: Rooms) -> Answer {
+    match ask(frame, context, asked, rooms) {
         Err(Damaged) => Answer::Damaged,
         Ok(Answered::Refused(number, value)) => refused(number, value),
         Ok(Answered::Accepted {
@@ -59,7 +74,7 @@ fn alone(context: &[u8], asked: &Asked, rooms: Rooms) -> Answer {
 }
 
 fn play(channel: &mut Channel, asked: &Asked, rooms: Rooms, words: &[u64; 9]) -> Answer {
-    match ask(&channel.context, asked, rooms) {
+    match ask(channel.frame.number(), &channel.context, asked, rooms) {
         Err(Damaged) => Answer::Damaged,
         Ok(Answered::Refused(number, value)) => refused(number, value),
         Ok(Answered::Accepted {

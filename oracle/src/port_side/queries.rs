@@ -9,30 +9,30 @@ use crate::request::{Form, Query};
 /// Registers have the words 0..15, spill p has 16 + p.
 pub const REGISTERS: u64 = 16;
 
-pub fn answer(query: &Query) -> Answer {
+pub fn answer(frame: u64, query: &Query) -> Answer {
+    let ask = |query| port::query(frame, &query);
     match query {
-        Query::Position(position) => located(port::query(&port::Query::Position(*position))),
+        Query::Position(position) => located(frame, ask(port::Query::Position(*position))),
         Query::FreshTemporary(which, length) => {
             let length = (*length).min(TOO_LONG as u64);
             let context = context((0..length as u32).map(|id| (Kind::Ext, id)));
-            located(port::query(&port::Query::FreshTemporary(*which, &context)))
+            located(frame, ask(port::Query::FreshTemporary(*which, &context)))
         }
         Query::VariableTemporary(which, id, ids) => {
             let Some(context) = variables(ids) else {
                 return Answer::Refused(1, None);
             };
-            located(match u32::try_from(*id) {
-                Ok(id) => port::query(&port::Query::VariableTemporary(*which, id, &context)),
-                Err(_) => missing(&context),
-            })
+            let found = match u32::try_from(*id) {
+                Ok(id) => ask(port::Query::VariableTemporary(*which, id, &context)),
+                Err(_) => missing(frame, &context),
+            };
+            located(frame, found)
         }
         Query::StackOffset(spill) => {
             let word = REGISTERS.saturating_add(*spill);
-            value(port::query(&port::Query::StackOffset(word)))
+            value(ask(port::Query::StackOffset(word)))
         }
-        Query::FieldOffset(which, field) => {
-            value(port::query(&port::Query::FieldOffset(*which, *field)))
-        }
+        Query::FieldOffset(which, field) => value(ask(port::Query::FieldOffset(*which, *field))),
     }
 }
 
@@ -43,19 +43,23 @@ fn variables(ids: &Ids) -> Option<Vec<u8>> {
     Some(context(ids.into_iter().map(|id| (Kind::Ext, id))))
 }
 
-/// What the port answers to an id that no binding can hold.
-fn missing(context: &[u8]) -> Returned {
-    let number = match port::check(Form::Context, context).number {
-        0 => 4,
-        number => number,
-    };
-    Returned { number, value: 0 }
+/// What the port answers to an id that no binding can hold: the context comes before, and the
+/// frame.
+fn missing(frame: u64, context: &[u8]) -> Returned {
+    let position = port::query(frame, &port::Query::Position(0));
+    let before = [port::check(Form::Context, context), position];
+    let number = before.iter().map(|returned| returned.number);
+    let number = number.into_iter().find(|number| *number != 0);
+    Returned {
+        number: number.unwrap_or(4),
+        value: 0,
+    }
 }
 
-fn located(returned: Returned) -> Answer {
+fn located(frame: u64, returned: Returned) -> Answer {
     match returned.number {
         0 if returned.value < REGISTERS => Answer::Register(returned.value),
-        0 => match port::query(&port::Query::StackOffset(returned.value)) {
+        0 => match port::query(frame, &port::Query::StackOffset(returned.value)) {
             Returned { number: 0, value } => {
                 Answer::Spill(returned.value - REGISTERS, value as i64)
             }

@@ -1,8 +1,8 @@
 //! Random lists of orders: what a user may send, and what is refused.
 
-use super::MOST_VARIABLES;
 use crate::channel::Rooms;
 use crate::context::Kind;
+use crate::frame::Frame;
 use crate::orders::answer::{Asked, Given};
 use crate::orders::plain::{Value, result};
 use crate::orders::{BINDING, OPERATIONS, Order, binding};
@@ -32,6 +32,8 @@ enum Room {
 pub struct Plan {
     pub orders: usize,
     pub blocks: usize,
+    /// How many the frame has room for.
+    most_variables: usize,
     variables: usize,
     weights: [usize; 7],
     /// Once there are as many variables as that, they are dropped until none is left.
@@ -40,7 +42,7 @@ pub struct Plan {
 }
 
 impl Plan {
-    pub fn random(random: &mut Random, most_blocks: usize) -> Plan {
+    pub fn random(random: &mut Random, frame: Frame, most_blocks: usize) -> Plan {
         let longest = random.pick(&[10, 30, 100, 400, 1_500, 5_000]);
         let orders = 1 + random.below(longest);
         let waves = random.once_in(3);
@@ -49,10 +51,12 @@ impl Plan {
             1 => 2 + random.below(most_blocks - 1),
             _ => few_blocks(random, orders, waves).min(most_blocks),
         };
+        let most = frame.most_variables();
         Plan {
             orders,
             blocks,
-            variables: random.pick(&[2, 4, 6, 9, 14, 30, 70, 120, MOST_VARIABLES]),
+            most_variables: most,
+            variables: random.pick(&[2, 4, 6, 9, 14, 30, most / 2, most - 13, most]),
             weights: std::array::from_fn(|_| random.pick(&[2, 3, 4, 8])),
             waves,
             falling: false,
@@ -60,10 +64,11 @@ impl Plan {
     }
 
     /// A part of a list, with about so many variables.
-    pub fn of(variables: usize) -> Plan {
+    pub fn of(frame: Frame, variables: usize) -> Plan {
         Plan {
             orders: 0,
             blocks: 0,
+            most_variables: frame.most_variables(),
             variables,
             weights: [3; 7],
             waves: false,
@@ -128,22 +133,23 @@ pub fn item(random: &mut Random, plan: &mut Plan, values: &[Value], left: usize)
         room: Room::Enough,
     };
     if random.once_in(9) {
-        damage(random, &mut item, values);
+        damage(random, &mut item, values, plan.most_variables);
     }
     item
 }
 
 /// An order alone, on a context of any length and kinds: the limits of positions are met, and what
 /// no list of orders reaches.
-pub fn alone(random: &mut Random) -> (Vec<u8>, Item) {
+pub fn alone(random: &mut Random, frame: Frame) -> (Vec<u8>, Item) {
+    let most = frame.most_variables();
     let length = match random.below(4) {
         0 => random.below(8),
-        1 => random.below(140),
+        1 => random.below(most + 7),
         2 if random.once_in(20) => 4_090 + random.below(8),
-        _ => 129 + random.below(8),
+        _ => most - 4 + random.below(8),
     };
     let linked = random.below(4);
-    let count = random.pick(&[0, 1, 2, 3, 5, 130, 131, 132, 133, 134]);
+    let count = random.pick(&[0, 1, 2, 3, 5, most - 3, most - 2, most - 1, most, most + 1]);
     let mut kinds = |count: usize| {
         let kind = |random: &mut Random| match random.below(3) < linked {
             true => Kind::Linked,
@@ -157,14 +163,14 @@ pub fn alone(random: &mut Random) -> (Vec<u8>, Item) {
     let mut place = || match random.below(3) {
         0 => length.saturating_sub(1),
         1 => random.below(length.max(1)),
-        _ => random.below(136),
+        _ => random.below(most + 3),
     };
     let (a, b, n) = (place(), place(), place());
     let order = match random.below(7) {
         0 => Order::Put(word(random)),
         1 => Order::Compute(random.pick(&OPERATIONS), a, b),
         2 => {
-            let n = random.pick(&[0, 1, 2, n, 133usize.saturating_sub(length)]);
+            let n = random.pick(&[0, 1, 2, n, most.saturating_sub(length)]);
             Order::Copy { a, n }
         }
         3 => Order::Drop,
@@ -275,7 +281,7 @@ fn copy(random: &mut Random, plan: &Plan, values: &[Value]) -> Order {
         0 => 0,
         1 => random.below(plan.variables + 1),
         2 if random.once_in(4) => {
-            (MOST_VARIABLES + 1).saturating_sub(values.len() + random.below(2))
+            (plan.most_variables + 1).saturating_sub(values.len() + random.below(2))
         }
         _ => 1 + random.below(1 + plan.variables / 20),
     };
@@ -317,7 +323,7 @@ fn bindings(random: &mut Random, order: Order, values: &[Value]) -> Vec<u8> {
 }
 
 /// Makes an item one that is likely refused.
-fn damage(random: &mut Random, item: &mut Item, values: &[Value]) {
+fn damage(random: &mut Random, item: &mut Item, values: &[Value], most_variables: usize) {
     let Asked {
         order,
         bindings,
@@ -368,7 +374,7 @@ fn damage(random: &mut Random, item: &mut Item, values: &[Value]) {
         }
         15 => {
             // a load, whether or not there is something to load
-            let n = random.pick(&[0, 1, 2, 3, 134]);
+            let n = random.pick(&[0, 1, 2, 3, most_variables + 1]);
             *order = Order::Load(n).to_bytes().to_vec();
             *bindings = any.repeat(n);
         }

@@ -1,26 +1,33 @@
-//! The list of orders that the program `soak` of the port's gate plays: bytes for its standard
-//! input, and the lines that it must print.
+//! The lists of orders that the program `soak` of the port's gate plays, one for each frame: bytes
+//! for its standard input, and the lines that it must print.
 
 use super::lists::{self, Plan};
 use super::{Side, Soak};
+use crate::frame::{FRAMES, Frame};
 use crate::orders::answer::{self, Asked, Given};
 use crate::orders::{BINDING, SIZE};
 use crate::random::Random;
 use crate::reading::Refusal;
 use crate::record::{self, LAST_FRESH};
 
-/// The program's input, heap and outputs.
+/// The bytes of a list, and the program's heap and output for records.
 const MOST_BYTES: usize = 65_536;
 const BLOCKS: usize = 1_500;
-const RECORDS_ROOM: usize = 4_276 * record::SIZE;
-const CONTEXT_ROOM: usize = 133 * BINDING;
+const RECORDS_ROOM: usize = 8_436 * record::SIZE;
 
-/// The list is made on a heap of so many blocks: its peak is two less, and blocks are used again
-/// and again.
-const FEW_BLOCKS: usize = 72;
+/// A list is made on a heap of so many blocks: its peak is two less, and blocks are used again and
+/// again. A store of all variables that the frame has room for takes most of them.
+fn few_blocks(frame: Frame) -> usize {
+    frame.most_variables().div_ceil(2) + 5
+}
 
 /// About how many variables there are, for so many orders each.
-const VARIABLES: [usize; 10] = [4, 20, 7, 133, 133, 10, 60, 2, 14, 133];
+fn variables(frame: Frame, turn: usize) -> usize {
+    let most = frame.most_variables();
+    let some = [4, 20, 7, most, most, 10, 60, 2, 14, most];
+    some[turn % some.len()]
+}
+
 const TURNS: usize = 200;
 
 /// "In a list of orders the counters, bindings and output lengths are any": the program takes
@@ -51,6 +58,7 @@ fn bindings_after(order: &[u8]) -> usize {
     }
 }
 
+#[derive(Default)]
 pub struct Stored {
     pub input: Vec<u8>,
     pub output: String,
@@ -58,32 +66,47 @@ pub struct Stored {
     pub reuse: String,
 }
 
-/// The list's bytes, and the program's lines.
-pub fn list(seed: u64) -> Stored {
-    let orders = orders(seed);
-    let large = outcome(&orders, BLOCKS);
-    let bytes = |asked: &Asked| [&asked.order[..], &asked.bindings].concat();
-    Stored {
-        input: orders.iter().flat_map(bytes).collect(),
-        output: lines(&orders, &large),
-        reuse: format!(
-            "{} orders: {} blocks acquired, the peak {}",
-            large.orders, large.acquired, large.peak
-        ),
+/// The bytes of both lists, and the program's lines.
+pub fn lists(seed: u64) -> Stored {
+    let mut stored = Stored::default();
+    for frame in FRAMES {
+        stored.add(frame, seed);
+    }
+    stored
+}
+
+impl Stored {
+    /// The list of a frame, after the frame's number and the number of its bytes.
+    fn add(&mut self, frame: Frame, seed: u64) {
+        let orders = orders(frame, seed);
+        let large = outcome(frame, &orders, BLOCKS);
+        let bytes = |asked: &Asked| [&asked.order[..], &asked.bindings].concat();
+        let list: Vec<u8> = orders.iter().flat_map(bytes).collect();
+        self.input.extend(frame.number().to_le_bytes());
+        self.input.extend((list.len() as u64).to_le_bytes());
+        self.input.extend(list);
+        self.output += &lines(frame, &orders, &large);
+        self.reuse += &format!(
+            "frame {}: {} orders: {} blocks acquired, the peak {}\n",
+            frame.number(),
+            large.orders,
+            large.acquired,
+            large.peak
+        );
     }
 }
 
-/// Orders until the program's input is full.
-fn orders(seed: u64) -> Vec<Asked> {
+/// Orders until a list's bytes are full.
+fn orders(frame: Frame, seed: u64) -> Vec<Asked> {
     let mut random = Random::new(seed);
-    let mut soak = Soak::fresh(Side::Reading, FEW_BLOCKS);
-    let mut plan = Plan::of(VARIABLES[0]);
+    let mut soak = Soak::fresh(Side::Reading, frame, few_blocks(frame));
+    let mut plan = Plan::of(frame, 0);
     let mut orders = Vec::new();
     let mut bytes = 0;
     loop {
         let index = orders.len();
         if index % TURNS == 0 {
-            plan = Plan::of(VARIABLES[index / TURNS % VARIABLES.len()]);
+            plan = Plan::of(frame, variables(frame, index / TURNS));
         }
         let Some(asked) = order(&mut random, &mut plan, &soak, index) else {
             continue;
@@ -117,8 +140,9 @@ fn order(random: &mut Random, plan: &mut Plan, soak: &Soak, index: usize) -> Opt
 }
 
 fn given(soak: &Soak, asked: &Asked, index: usize) -> Result<Given, Refusal> {
-    let given = answer::given(&soak.channel.context, asked)?;
-    answer::fits(&given, records_room(index), CONTEXT_ROOM)?;
+    let given = soak.given(asked)?;
+    let context_room = soak.channel.frame.most_variables() * BINDING;
+    answer::fits(&given, records_room(index), context_room)?;
     Ok(given)
 }
 
@@ -134,8 +158,8 @@ struct Outcome {
 }
 
 /// The orders played on a heap of so many blocks.
-fn outcome(orders: &[Asked], blocks: usize) -> Outcome {
-    let mut soak = Soak::fresh(Side::Reading, blocks);
+fn outcome(frame: Frame, orders: &[Asked], blocks: usize) -> Outcome {
+    let mut soak = Soak::fresh(Side::Reading, frame, blocks);
     let mut outcome = Outcome::default();
     for (index, asked) in orders.iter().enumerate() {
         outcome.orders += 1;
@@ -169,11 +193,13 @@ fn line(outcome: &Outcome, blocks: usize) -> String {
 }
 
 /// The large heap gives the peak; then come heaps of two blocks more, of one more and of none.
-fn lines(orders: &[Asked], large: &Outcome) -> String {
+fn lines(frame: Frame, orders: &[Asked], large: &Outcome) -> String {
     let peak = large.peak;
-    let mut lines = line(large, BLOCKS) + &format!("peak {peak}\n");
+    let mut lines = format!("frame {}\n", frame.number());
+    lines += &line(large, BLOCKS);
+    lines += &format!("peak {peak}\n");
     for blocks in [peak + 2, peak + 1, peak] {
-        lines += &line(&outcome(orders, blocks), blocks);
+        lines += &line(&outcome(frame, orders, blocks), blocks);
     }
     lines
 }

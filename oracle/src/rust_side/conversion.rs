@@ -1,9 +1,10 @@
 //! Turns the published `Code` into instruction records and back. A code's number is its place in
 //! the enum, and the registers stand in the enum's order.
 
+use super::published::code::Code::{self, *};
+use super::published::config::{Immediate, Register};
 use crate::record::{self, Record};
-use axcut2x86_64::code::Code::{self, *};
-use axcut2x86_64::config::{Immediate, Register};
+use crate::rust_side::label_text;
 use printer::tokens::{PRINT_I64, PRINTLN_I64};
 
 /// The record of an instruction; a comment has none.
@@ -118,11 +119,6 @@ pub fn code_of(record: &Record) -> Option<Code> {
         _ => return None,
     };
     (record_of(&code) == Some(*record)).then_some(code)
-}
-
-/// How the drivers write a label into a `Code`: its number, which no fresh label's text is.
-pub fn label_text(number: u64) -> String {
-    number.to_string()
 }
 
 /// The label of an instruction that has one.
