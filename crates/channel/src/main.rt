@@ -93,11 +93,6 @@ fn list_first(records: &[u8], count: usize, text: &mut [u8], listed: bool) {
     }
 }
 
-// How many of the stack's words are the frame's: its spills and 64.
-fn stack_words(frame: u64) -> usize {
-    word::sum(frame, 64) as usize
-}
-
 // What an accepted order prints goes after what was printed before.
 fn print(
     prints: &mut [u8],
@@ -107,7 +102,7 @@ fn print(
     registers: &[u64; 16],
     stack: &[u64],
 ) -> usize {
-    let words = stack_words(frame);
+    let words = playing::channel::stack_words(frame);
     if stack.len() < words {
         return printed;
     }
@@ -263,7 +258,7 @@ fn show_context(
     stack: &[u64],
     text: &mut [u8],
 ) {
-    let words = stack_words(frame);
+    let words = playing::channel::stack_words(frame);
     if stack.len() < words {
         return;
     }
@@ -314,7 +309,7 @@ fn show_blocks(channel: Channel, heap: &[u64]) {
 // of the longest list can print.
 fn channel(input: &[u8], text: &mut [u8], listed: bool, frame: u64) {
     let mut heap = [0u64; 65536];
-    let mut records = [0u8; 202464];
+    let mut records = [0u8; playing::channel::RECORDS];
     let mut prints = [0u8; 262144];
     let g = play(
         input,

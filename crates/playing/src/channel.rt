@@ -5,7 +5,7 @@ ghost use mathlib.Core.List.{List, []};
 ghost use lib.ListN.{length, take};
 ghost use Rattle.layout.specs.declared.config.Shape.{Shape};
 ghost use Rattle.layout.specs.declared.config.Framed.the-variants.{Of, Unknown};
-ghost use Rattle.layout.specs.Config.{Supported, shapeOf, blockWords};
+ghost use Rattle.layout.specs.Config.{Supported, shapeOf, inFrame, stackDepth, blockWords};
 ghost use Rattle.instructions.specs.View.{view, wordsOf};
 ghost use Rattle.machine.specs.State.{freshRegisters};
 ghost use Rattle.machine.specs.Run.{ran, Leaves};
@@ -20,6 +20,9 @@ use orders::answer::Answer;
 pub const CONTEXT: usize = 2088;
 
 pub const STACK: usize = 576;
+
+// The bytes of the largest order's records, a store of 261 linked variables.
+pub const RECORDS: usize = 202464;
 
 // The context's bytes, of which the first `used` count, beside the machine's state: of the stack the frame's words count, its number of spills and 64. The heap
 // is lent.
@@ -36,6 +39,16 @@ pub struct Played {
     pub channel: Channel,
     pub answer: Answer,
     pub ran: machine::run::Answer,
+}
+
+// How many words of a channel's stack are its frame's; none where there is no such frame.
+pub fn stack_words(frame: u64) -> usize
+    ensures { λ r. ⌜ r ≡ inFrame frame stackDepth 0 ⌝ }
+{
+    match config::shape_of(frame) {
+        Framed::Of(g) => (g.spills + 64) as usize,
+        Framed::Unknown => 0,
+    }
 }
 
 // In an unknown frame any will do: every order is refused there.

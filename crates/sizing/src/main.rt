@@ -163,7 +163,7 @@ fn show_fit(g: Going, heap: &[u64]) {
 // A file's list on a channel of its own: the records of the largest order, a store of 261 linked variables, and one binding more than any order takes.
 fn size_from(file: i32, frame: u64) {
     let mut heap = [0u64; 524288];
-    let mut records = [0u8; 202464];
+    let mut records = [0u8; playing::channel::RECORDS];
     let mut bindings = [0u8; 32776];
     let g = play(file, &mut heap, &mut records, &mut bindings, frame);
     if g.stopped {

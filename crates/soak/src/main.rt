@@ -7,10 +7,8 @@ use libc::STDOUT_FILENO;
 use orders::answer::Answer;
 use playing::channel::Channel;
 use playing::channel::Played;
+use playing::channel::RECORDS;
 use records::bytes;
-
-// The records of the largest order, a store of 261 linked variables.
-const RECORDS: usize = 202464;
 
 // How many orders there were, and what came of them.
 struct Counts {
@@ -153,7 +151,7 @@ fn is_channel_sound(channel: Channel, heap: &[u64], memory: &mut [u64]) -> bool 
     let context = channel.context;
     let registers = channel.registers;
     let stack = channel.stack;
-    let depth = word::sum(channel.frame, 64) as usize;
+    let depth = playing::channel::stack_words(channel.frame);
     is_sound(
         &context,
         channel.used,
