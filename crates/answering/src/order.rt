@@ -1,20 +1,23 @@
 // An order as its bytes, answered: its records in one output, the context after it in another.
 ghost use mathlib.Core.Path.{_≡_};
-ghost use mathlib.Core.Bool.{true};
+ghost use mathlib.Core.Bool.{true, false};
+ghost use mathlib.Core.List.{[]};
 ghost use Prim.Native.Nat.{_+_, _*_, _<_, _≤_, _^_};
 ghost use lib.ListN.{length};
 ghost use Rattle.records.specs.declared.check.Checked.the-variants.{Good};
 ghost use Rattle.records.specs.Contexts.{checkedContext};
+ghost use Rattle.layout.specs.declared.config.Shaped.the-variants.{In};
 ghost use Rattle.layout.specs.Config.{Supported, positions, shapeOf};
-ghost use Rattle.orders.specs.Answered.{accepted};
+ghost use Rattle.orders.specs.Answered.{accepted, unframed};
 ghost use Rattle.orders.specs.Writes.{wanted, contextAfter, present, asked};
 ghost use Rattle.answering.specs.Answers.{asking, AnswersOrder};
+ghost use Rattle.answering.specs.Begun.{Begins};
 ghost use Rattle.answering.specs.Decided.{fitting, written, fits, judged, Leaves};
 use emit::cursor::Cursor;
 use judging::after;
 use judging::checks;
-use layout::config::Framed;
 use layout::config::Shape;
+use layout::config::Shaped;
 use ordering::emitters;
 use orders::answer::Answer;
 use records::check::Checked;
@@ -56,6 +59,7 @@ pub fn is_accepted(answer: Answer) -> bool
         Answer::Position => false,
         Answer::Labels => false,
         Answer::Room(_) => false,
+        Answer::Edition => false,
     }
 }
 
@@ -143,45 +147,95 @@ fn judge(
     )
 }
 
-// An order's bytes with the frame, the context, the label counter and the bindings that follow it.
+// An order whose bytes, context and bindings pass document 01's 1 and 2, with the number of the context's variables; or the refusal.
+pub enum Begun {
+    With(u64, Order),
+    Refused(Answer),
+}
+
+fn begin(context: &[u8], order: &[u8], bindings: &[u8]) -> Begun
+    ensures { λ r. ⌜ Begins (now (context .entry)) (now (order .entry)) (now (bindings .entry)) r ⌝ }
+{
+    let Checked::Good(k) = records::binding::check_context(context) else {
+        return Begun::Refused(Answer::Context);
+    };
+    let Checked::Good(m) = records::binding::check_context(bindings) else {
+        return Begun::Refused(Answer::Context);
+    };
+    if records::order::order_starts(order) {} else {
+        return Begun::Refused(Answer::Malformed(1));
+    }
+    let read = records::order::order_of(records::order::order_in(order));
+    if (m as u64) == checks::wanted(read) {} else {
+        return Begun::Refused(Answer::Malformed(1));
+    }
+    if order.len() == 24 {} else {
+        return Begun::Refused(Answer::Malformed(2));
+    }
+    Begun::With(k as u64, read)
+}
+
+fn order_in(
+    records_out: &mut [u8],
+    context_out: &mut [u8],
+    g: Shape,
+    context: &[u8],
+    counter: u64,
+    order: &[u8],
+    bindings: &[u8],
+) -> Answer
+    requires { ⌜ Supported g ⌝ }
+    ensures { λ r. ⌜ AnswersOrder (In g) (now (context .entry)) (asking (now (order .entry)) (now (bindings .entry)) counter (now («records_out» .entry)) (now («context_out» .entry))) r (now («records_out» .entry)) (now («records_out» .exit)) (now («context_out» .entry)) (now («context_out» .exit)) ⌝ }
+{
+    match begin(context, order, bindings) {
+        Begun::With(k, read) => judge(
+            records_out,
+            context_out,
+            g,
+            context,
+            k,
+            counter,
+            bindings,
+            read,
+        ),
+        Begun::Refused(answer) => answer,
+    }
+}
+
+// What a frame of another number of spills is answered.
+fn unframed(context: &[u8], order: &[u8], bindings: &[u8]) -> Answer
+    ensures { λ r. ⌜ (r ≡ unframed (now (context .entry)) (asking (now (order .entry)) (now (bindings .entry)) 0 [] [])) × (accepted r ≡ false) ⌝ }
+{
+    match begin(context, order, bindings) {
+        Begun::With(_, _) => Answer::Frame,
+        Begun::Refused(answer) => answer,
+    }
+}
+
+// An order's bytes with the edition, the frame, the context, the label counter and the bindings that follow it.
 pub fn order(
     records_out: &mut [u8],
     context_out: &mut [u8],
+    edition: u64,
     frame: u64,
     context: &[u8],
     counter: u64,
     order: &[u8],
     bindings: &[u8],
 ) -> Answer
-    ensures { λ r. ⌜ AnswersOrder (shapeOf frame) (now (context .entry)) (asking (now (order .entry)) (now (bindings .entry)) counter (now («records_out» .entry)) (now («context_out» .entry))) r (now («records_out» .entry)) (now («records_out» .exit)) (now («context_out» .entry)) (now («context_out» .exit)) ⌝ }
+    ensures { λ r. ⌜ AnswersOrder (shapeOf edition frame) (now (context .entry)) (asking (now (order .entry)) (now (bindings .entry)) counter (now («records_out» .entry)) (now («context_out» .entry))) r (now («records_out» .entry)) (now («records_out» .exit)) (now («context_out» .entry)) (now («context_out» .exit)) ⌝ }
 {
-    let Checked::Good(k) = records::binding::check_context(context) else {
-        return Answer::Context;
-    };
-    let Checked::Good(m) = records::binding::check_context(bindings) else {
-        return Answer::Context;
-    };
-    if records::order::order_starts(order) {} else {
-        return Answer::Malformed(1);
+    match layout::config::shape_of(edition, frame) {
+        Shaped::In(g) => order_in(
+            records_out,
+            context_out,
+            g,
+            context,
+            counter,
+            order,
+            bindings,
+        ),
+        Shaped::NoFrame => unframed(context, order, bindings),
+        Shaped::NoEdition => Answer::Edition,
     }
-    let read = records::order::order_of(records::order::order_in(order));
-    if (m as u64) == checks::wanted(read) {} else {
-        return Answer::Malformed(1);
-    }
-    if order.len() == 24 {} else {
-        return Answer::Malformed(2);
-    }
-    let Framed::Of(g) = layout::config::shape_of(frame) else {
-        return Answer::Frame;
-    };
-    judge(
-        records_out,
-        context_out,
-        g,
-        context,
-        k as u64,
-        counter,
-        bindings,
-        read,
-    )
 }

@@ -1,11 +1,18 @@
--- The blocks of the lent heap, counted by their first words, and the heap to fit for the peak that they show. From document 01, 'A block is 64 bytes' and the lines on the heap in 'Instruction record'.
+-- The blocks of the lent heap, counted by their first words, and the heap to fit for the peak that they show. From document 01, the lines on the heap in 'Instruction record'; a block has as many fields as its edition says.
 -- What does not end within as many steps as there are blocks is cut off there; in a sound heap everything ends before.
-use Prim.Native.Nat.{ℕ, zero, suc, _+_, _*_, _-_}
+use Prim.Native.Nat.{ℕ, zero, suc, _+_, _*_, _-_, _/_}
 use mathlib.Core.Bool.{cond}
+use mathlib.Core.List.{List, [], _∷_}
 use lib.Dec.{eqb}
+use Rattle.records.specs.Causes.{ACCEPTED, EDITION}
+use Rattle.layout.specs.Config.{blockWords, inEdition}
 use Rattle.heap.specs.Words.{stride, numberOf, headers}
 use Rattle.chains.specs.declared.Blocks.{Blocks}
 use Rattle.chains.specs.declared.Fit.{Fit}
+use Rattle.chains.specs.declared.Counted.{Counted}
+use Rattle.chains.specs.declared.Counted.the-variants as counts
+use Rattle.chains.specs.declared.Fitted.{Fitted}
+use Rattle.chains.specs.declared.Fitted.the-variants as fits
 
 -- HEAP's list: how many blocks it has, from first word to first word, until that is 0
 unfoldable pub listLength : (ℕ → ℕ) → ℕ → ℕ → ℕ
@@ -45,3 +52,20 @@ fitFor fieldCount peak = record { peak = peak; blocks = 2 + peak; bytes = 8 * st
 -- the peak so far is one less than the frontier
 unfoldable pub fitIn : ℕ → ℕ → (ℕ → ℕ) → ℕ → Fit
 fitIn fieldCount blocks words lazy-head = fitFor fieldCount (frontierIn fieldCount blocks words lazy-head - 1)
+
+-- in an edition, on a heap of so many words
+abbrev pub countedBy : ℕ → ℕ → (ℕ → ℕ) → ℕ → ℕ → Counted
+countedBy edition size words linear-head lazy-head =
+    inEdition edition (λ g. counts.Of (counted (g .fields) (size / blockWords g) words linear-head lazy-head)) counts.Edition
+
+abbrev pub fittedBy : ℕ → ℕ → (ℕ → ℕ) → ℕ → Fitted
+fittedBy edition size words lazy-head = inEdition edition (λ g. fits.Of (fitIn (g .fields) (size / blockWords g) words lazy-head)) fits.Edition
+
+-- the number for each answer: 0, with what was counted, where there is such an edition
+abbrev pub countedCause : Counted → List ℕ
+countedCause (counts.Of b) = ACCEPTED ∷ b .linear ∷ b .lazy ∷ b .held ∷ b .untouched ∷ []
+countedCause counts.Edition = EDITION ∷ []
+
+abbrev pub fittedCause : Fitted → List ℕ
+fittedCause (fits.Of f) = ACCEPTED ∷ f .peak ∷ f .blocks ∷ f .bytes ∷ []
+fittedCause fits.Edition = EDITION ∷ []

@@ -2,11 +2,13 @@
 ghost use mathlib.Core.Path.{_≡_};
 ghost use Prim.Native.Nat.{_/_};
 ghost use lib.ListN.{length};
-ghost use Rattle.layout.specs.Config.{Supported, base, blockWords, HEAP, FREE};
+ghost use Rattle.records.specs.Answers.{AnswersBy};
+ghost use Rattle.layout.specs.Config.{Supported, blockWords, HEAP, FREE};
 ghost use Rattle.instructions.specs.View.{wordsOf};
 ghost use Rattle.heap.specs.Words.{numberOf, headers};
-ghost use Rattle.chains.specs.Blocks.{listLength, chainLength, chainEnd, counted, fitIn};
+ghost use Rattle.chains.specs.Blocks.{listLength, chainLength, chainEnd, counted, fitIn, countedBy, countedCause, fittedBy, fittedCause};
 use layout::config;
+use layout::config::Choice;
 use layout::config::Shape;
 use layout::utils;
 
@@ -23,6 +25,18 @@ pub struct Fit {
     pub peak: u64,
     pub blocks: u64,
     pub bytes: u64,
+}
+
+// The blocks counted, or 23: no such edition.
+pub enum Counted {
+    Of(Blocks),
+    Edition,
+}
+
+// What to fit, or 23.
+pub enum Fitted {
+    Of(Fit),
+    Edition,
 }
 
 // A chain's blocks, and the block that ends it.
@@ -106,10 +120,14 @@ fn walk_chain(g: Shape, heap: &[u64], most: u64, first: u64) -> Walked
     }
 }
 
-pub fn count_blocks(registers: &[u64; 16], heap: &[u64]) -> Blocks
-    ensures { λ r. ⌜ r ≡ counted (base .fields) (length (now (heap .entry)) / blockWords base) (wordsOf (now (heap .entry))) (wordsOf (now (registers .entry)) HEAP) (wordsOf (now (registers .entry)) FREE) ⌝ }
+// The blocks of an edition's heap.
+pub fn count_blocks(edition: u64, registers: &[u64; 16], heap: &[u64]) -> Counted
+    ensures { λ r. ⌜ AnswersBy countedCause r (countedBy edition (length (now (heap .entry))) (wordsOf (now (heap .entry))) (wordsOf (now (registers .entry)) HEAP) (wordsOf (now (registers .entry)) FREE)) ⌝ }
 {
-    count_blocks_in(config::base(), registers, heap)
+    match config::edition_of(edition) {
+        Choice::Of(g) => Counted::Of(count_blocks_in(g, registers, heap)),
+        Choice::Unknown => Counted::Edition,
+    }
 }
 
 pub fn count_blocks_in(g: Shape, registers: &[u64; 16], heap: &[u64]) -> Blocks
@@ -130,10 +148,13 @@ pub fn count_blocks_in(g: Shape, registers: &[u64; 16], heap: &[u64]) -> Blocks
 }
 
 // What to fit for the orders so far, by where the frontier is.
-pub fn to_fit(registers: &[u64; 16], heap: &[u64]) -> Fit
-    ensures { λ r. ⌜ r ≡ fitIn (base .fields) (length (now (heap .entry)) / blockWords base) (wordsOf (now (heap .entry))) (wordsOf (now (registers .entry)) FREE) ⌝ }
+pub fn to_fit(edition: u64, registers: &[u64; 16], heap: &[u64]) -> Fitted
+    ensures { λ r. ⌜ AnswersBy fittedCause r (fittedBy edition (length (now (heap .entry))) (wordsOf (now (heap .entry))) (wordsOf (now (registers .entry)) FREE)) ⌝ }
 {
-    to_fit_in(config::base(), registers, heap)
+    match config::edition_of(edition) {
+        Choice::Of(g) => Fitted::Of(to_fit_in(g, registers, heap)),
+        Choice::Unknown => Fitted::Edition,
+    }
 }
 
 pub fn to_fit_in(g: Shape, registers: &[u64; 16], heap: &[u64]) -> Fit

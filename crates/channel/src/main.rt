@@ -1,7 +1,8 @@
 // Plays lists of order records, from standard input or from the files named, each on a fresh channel, and prints what came of each order, what was printed,
-// and the variables and blocks at the end, unless a run did not end. An argument `listing` asks for the instructions too, and `frame N` for a frame of so many
-// spills, of the files after it; a frame has 256 where none is asked.
+// and the variables and blocks at the end, unless a run did not end. An argument `listing` asks for the instructions too, `edition N` for the blocks of an edition
+// and `frame N` for a frame of so many spills, of the files after it; the edition is 1 and a frame has 256 where none is asked.
 ghost use Prim.Native.Nat.{_<_, _≤_};
+use chains::Counted;
 use libc::STDERR_FILENO;
 use libc::STDIN_FILENO;
 use libc::STDOUT_FILENO;
@@ -21,8 +22,8 @@ struct Going {
     channel: Channel,
 }
 
-fn start(frame: u64) -> Going {
-    let channel = playing::channel::fresh(frame);
+fn start(edition: u64, frame: u64) -> Going {
+    let channel = playing::channel::fresh(edition, frame);
     Going {
         at: 0,
         number: 1,
@@ -226,9 +227,10 @@ fn play(
     text: &mut [u8],
     prints: &mut [u8],
     listed: bool,
+    edition: u64,
     frame: u64,
 ) -> Going {
-    let mut g = start(frame);
+    let mut g = start(edition, frame);
     let mut left = input.len() / 24 + 1;
     while 0 < left {
         g = turn(input, heap, records, text, prints, listed, g);
@@ -253,6 +255,7 @@ fn show_prints(prints: &[u8], printed: usize) {
 fn show_context(
     context: &[u8],
     used: usize,
+    edition: u64,
     frame: u64,
     registers: &[u64; 16],
     stack: &[u64],
@@ -266,6 +269,7 @@ fn show_context(
         let size = showing::variables::put_variables(
             text,
             0,
+            edition,
             frame,
             &context[..used],
             registers,
@@ -283,6 +287,7 @@ fn show_variables(channel: Channel, text: &mut [u8]) {
     show_context(
         &context,
         channel.used,
+        channel.edition,
         channel.frame,
         &registers,
         &stack,
@@ -292,7 +297,9 @@ fn show_variables(channel: Channel, text: &mut [u8]) {
 
 fn show_blocks(channel: Channel, heap: &[u64]) {
     let registers = channel.registers;
-    let blocks = chains::count_blocks(&registers, heap);
+    let Counted::Of(blocks) = chains::count_blocks(channel.edition, &registers, heap) else {
+        return;
+    };
     let mut line = [0u8; 256];
     let size = reporting::put_blocks(
         &mut line,
@@ -305,9 +312,9 @@ fn show_blocks(channel: Channel, heap: &[u64]) {
     show(&line, size);
 }
 
-// A list played on a channel of its own: 8,192 blocks, the records of the largest order, a store of 261 linked variables, and more than the 10,922 orders
-// of the longest list can print.
-fn channel(input: &[u8], text: &mut [u8], listed: bool, frame: u64) {
+// A list played on a channel of its own: 8,192 blocks, or 4,096 of the second edition, the records of the largest order, a store of 261 linked variables, and more
+// than the 10,922 orders of the longest list can print.
+fn channel(input: &[u8], text: &mut [u8], listed: bool, edition: u64, frame: u64) {
     let mut heap = [0u64; 65536];
     let mut records = [0u8; playing::channel::RECORDS];
     let mut prints = [0u8; 262144];
@@ -318,6 +325,7 @@ fn channel(input: &[u8], text: &mut [u8], listed: bool, frame: u64) {
         text,
         &mut prints,
         listed,
+        edition,
         frame,
     );
     let last = g.channel;
@@ -330,7 +338,7 @@ fn channel(input: &[u8], text: &mut [u8], listed: bool, frame: u64) {
 }
 
 // What can be read of a file, played.
-fn channel_from(file: i32, listed: bool, frame: u64) {
+fn channel_from(file: i32, listed: bool, edition: u64, frame: u64) {
     let mut input = [0u8; 262145];
     let mut text = [0u8; listing::LONGEST];
     let n = io::read_full(file, &mut input);
@@ -341,10 +349,10 @@ fn channel_from(file: i32, listed: bool, frame: u64) {
         );
         return;
     }
-    channel(&input[..n], &mut text, listed, frame);
+    channel(&input[..n], &mut text, listed, edition, frame);
 }
 
-fn channel_of(name: &[u8], listed: bool, frame: u64) {
+fn channel_of(name: &[u8], listed: bool, edition: u64, frame: u64) {
     let file = os::open_read(name);
     if file < 0 {
         os::fail(name);
@@ -352,16 +360,36 @@ fn channel_of(name: &[u8], listed: bool, frame: u64) {
     }
     io::write_all(STDOUT_FILENO, name);
     io::write_all(STDOUT_FILENO, b"\n");
-    channel_from(file, listed, frame);
+    channel_from(file, listed, edition, frame);
     libc::close(file);
 }
 
-// What the arguments asked so far: instructions, a frame, 0 where there is none of that number, whether its number comes next, and whether a file was named.
+// What the next argument is: a word or a file, or the number of an edition or a frame.
+enum Next {
+    Any,
+    Edition,
+    Frame,
+}
+
+// What the arguments asked so far: instructions, the edition and the frame, each 0 where there is none of that number, what comes next, and whether a file was named.
 struct Asked {
     listed: bool,
+    edition: u64,
     frame: u64,
-    number: bool,
+    next: Next,
     named: bool,
+}
+
+// The edition that a word names by its number.
+fn edition_of(word: &[u8]) -> u64 {
+    if check::same(word, b"1") {
+        return 1;
+    }
+    if check::same(word, b"2") {
+        return 2;
+    }
+    io::write_all(STDERR_FILENO, b"an edition is 1 or 2\n");
+    0
 }
 
 // The frame that a word names by its number of spills.
@@ -376,39 +404,58 @@ fn frame_of(word: &[u8]) -> u64 {
     0
 }
 
-fn read_word(word: &[u8], a: Asked) -> Asked {
-    if a.number {
-        return Asked {
-            listed: a.listed,
-            frame: frame_of(word),
-            number: false,
-            named: a.named,
-        };
+// The same in an edition and a frame, before what comes next.
+fn asking(a: Asked, edition: u64, frame: u64, next: Next) -> Asked {
+    Asked {
+        listed: a.listed,
+        edition,
+        frame,
+        next,
+        named: a.named,
+    }
+}
+
+// A list is played where there are such an edition and such a frame.
+fn play_file(name: &[u8], a: Asked) -> Asked {
+    if a.edition != 0 {
+        if a.frame != 0 {
+            channel_of(name, a.listed, a.edition, a.frame);
+        }
+    }
+    Asked {
+        listed: a.listed,
+        edition: a.edition,
+        frame: a.frame,
+        next: Next::Any,
+        named: true,
+    }
+}
+
+fn read_any(word: &[u8], a: Asked) -> Asked {
+    if check::same(word, b"edition") {
+        return asking(a, 0, a.frame, Next::Edition);
     }
     if check::same(word, b"frame") {
-        return Asked {
-            listed: a.listed,
-            frame: 0,
-            number: true,
-            named: a.named,
-        };
+        return asking(a, a.edition, 0, Next::Frame);
     }
     if check::same(word, b"listing") {
         return Asked {
             listed: true,
+            edition: a.edition,
             frame: a.frame,
-            number: false,
+            next: Next::Any,
             named: a.named,
         };
     }
-    if a.frame != 0 {
-        channel_of(word, a.listed, a.frame);
-    }
-    Asked {
-        listed: a.listed,
-        frame: a.frame,
-        number: false,
-        named: true,
+    play_file(word, a)
+}
+
+fn read_word(word: &[u8], a: Asked) -> Asked {
+    let next = a.next;
+    match next {
+        Next::Any => read_any(word, a),
+        Next::Edition => asking(a, edition_of(word), a.frame, Next::Any),
+        Next::Frame => asking(a, a.edition, frame_of(word), Next::Any),
     }
 }
 
@@ -422,8 +469,9 @@ fn read_argument(i: usize, a: Asked) -> Asked {
 fn read_arguments(count: usize) -> Asked {
     let mut a = Asked {
         listed: false,
+        edition: 1,
         frame: 256,
-        number: false,
+        next: Next::Any,
         named: false,
     };
     let mut i = 1;
@@ -436,14 +484,22 @@ fn read_arguments(count: usize) -> Asked {
 
 fn main() {
     let a = read_arguments(os::arg_count());
-    if a.number {
-        frame_of(b"");
-        return;
+    let next = a.next;
+    match next {
+        Next::Any => {}
+        Next::Edition => {
+            edition_of(b"");
+        }
+        Next::Frame => {
+            frame_of(b"");
+        }
     }
     if a.named {
         return;
     }
-    if a.frame != 0 {
-        channel_from(STDIN_FILENO, a.listed, a.frame);
+    if a.edition != 0 {
+        if a.frame != 0 {
+            channel_from(STDIN_FILENO, a.listed, a.edition, a.frame);
+        }
     }
 }

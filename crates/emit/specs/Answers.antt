@@ -6,13 +6,13 @@ use mathlib.Core.Path.{_≡_}
 use mathlib.Core.List.{List, [], _∷_}
 use lib.Dec.{ltb}
 use lib.Seq.{sets}
-use Rattle.records.specs.Causes.{ACCEPTED, CONTEXT, MALFORMED, OPERAND, MISSING, ARGUMENTS, COUNT, POSITION, LABELS, ROOM}
+use Rattle.records.specs.Causes.{ACCEPTED, CONTEXT, MALFORMED, OPERAND, MISSING, ARGUMENTS, COUNT, POSITION, LABELS, ROOM, EDITION}
 use Rattle.records.specs.declared.check.Checked.{Checked}
 use Rattle.records.specs.declared.check.Checked.the-variants.{Good, Malformed}
 use Rattle.records.specs.declared.code.Code.{Code}
 use Rattle.records.specs.ReadBack.{joined, codeBytes}
 use Rattle.emit.specs.declared.answer.Answer.{Answer}
-use Rattle.emit.specs.declared.answer.Answer.the-variants.{Written, Context, Body, Operand, Missing, Arguments, Count, Position, Labels, Room}
+use Rattle.emit.specs.declared.answer.Answer.the-variants.{Written, Context, Body, Operand, Missing, Arguments, Count, Position, Labels, Room, Edition}
 
 -- document 01's number and values for each answer: 0, with the records and the counter after them, where they are written
 abbrev pub causeOf : Answer → List ℕ
@@ -26,6 +26,7 @@ causeOf Count = COUNT ∷ []
 causeOf Position = POSITION ∷ []
 causeOf Labels = LABELS ∷ []
 causeOf (Room bytes) = ROOM ∷ bytes ∷ []
+causeOf Edition = EDITION ∷ []
 
 -- 1 comes before 3, which another number of spills than a frame has is: by the context that is read
 abbrev pub unframed : Checked → Answer
@@ -48,6 +49,7 @@ accepted Count = false
 accepted Position = false
 accepted Labels = false
 accepted (Room bytes) = false
+accepted Edition = false
 
 -- the output: the records from its start where they are written, else as it was
 abbrev pub output : Answer → List ℕ → List Code → List ℕ

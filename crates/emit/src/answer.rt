@@ -7,7 +7,7 @@ ghost use Rattle.emit.specs.Answers.{unframed, granted, accepted};
 use crate::cursor::Cursor;
 use records::check::Checked;
 
-// Written, with the number of records and the counter after them; or refused, by document 01's causes.
+// Written, with the number of records and the counter after them; or refused, by the documents' causes.
 pub enum Answer {
     Written(usize, u64),
     // 1: the context
@@ -28,6 +28,8 @@ pub enum Answer {
     Labels,
     // 10: the output is too short, with the bytes needed
     Room(usize),
+    // 23: no such edition, before all others
+    Edition,
 }
 
 // The answer where there is no such frame, by the context that an operation reads.
@@ -72,5 +74,6 @@ pub fn is_written(answer: Answer) -> bool
         Answer::Position => false,
         Answer::Labels => false,
         Answer::Room(_) => false,
+        Answer::Edition => false,
     }
 }

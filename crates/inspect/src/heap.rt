@@ -2,7 +2,6 @@
 // or on HEAP's list, and the value that was seen in it. PEAK is the most blocks that the variables reached after any one order so far.
 use crate::arithmetic;
 use crate::plain;
-use crate::shape;
 use crate::table;
 use crate::words;
 use crate::work;
@@ -64,46 +63,46 @@ fn push_pointer(memory: &mut [u64], pointer: u64) {
 }
 
 // The Fsts of a block's fields, a link among them.
-fn push_fields(heap: &[u64], memory: &mut [u64], block: u64) {
+fn push_fields(fields: u64, heap: &[u64], memory: &mut [u64], block: u64) {
     let mut field = 0;
-    while field < shape::FIELDS {
-        push_pointer(memory, words::fst_in(heap, block, field));
+    while field < fields {
+        push_pointer(memory, words::fst_in(fields, heap, block, field));
         field += 1;
     }
 }
 
 // From HEAP to 0.
-pub fn linear(heap: &[u64], memory: &mut [u64], blocks: u64, head: u64) -> bool {
+pub fn linear(fields: u64, heap: &[u64], memory: &mut [u64], blocks: u64, head: u64) -> bool {
     let mut next = head;
     let mut i = 0;
     while i < blocks {
         if next == 0 {
             return true;
         }
-        let block = words::block_at(heap, next);
+        let block = words::block_at(fields, heap, next);
         if claim(memory, block, LINEAR) {} else {
             return false;
         }
-        next = words::word_in(heap, block, 0);
+        next = words::word_in(fields, heap, block, 0);
         i += 1;
     }
     next == 0
 }
 
 // From FREE to the first block that starts with 0, which is the frontier; NONE if there is none.
-pub fn lazy(heap: &[u64], memory: &mut [u64], blocks: u64, head: u64) -> u64 {
+pub fn lazy(fields: u64, heap: &[u64], memory: &mut [u64], blocks: u64, head: u64) -> u64 {
     let mut next = head;
     let mut i = 0;
     while i < blocks {
-        let block = words::block_at(heap, next);
-        next = words::word_in(heap, block, 0);
+        let block = words::block_at(fields, heap, next);
+        next = words::word_in(fields, heap, block, 0);
         if next == 0 {
             return block;
         }
         if claim(memory, block, LAZY) {} else {
             return table::NONE;
         }
-        push_fields(heap, memory, block);
+        push_fields(fields, heap, memory, block);
         i += 1;
     }
     table::NONE
@@ -132,26 +131,26 @@ fn name(memory: &mut [u64], block: u64) {
 }
 
 // A block that no pointer named before: it is held, one block more, and its fields are pointers too. NONE if it is on a list, or no block.
-fn enter(heap: &[u64], memory: &mut [u64], block: u64) -> u64 {
+fn enter(fields: u64, heap: &[u64], memory: &mut [u64], block: u64) -> u64 {
     if claim(memory, block, HELD) {
-        push_fields(heap, memory, block);
+        push_fields(fields, heap, memory, block);
         return 1;
     }
     table::NONE
 }
 
 // One pointer: 1 if the block that it names was not held yet, 0 if it was; NONE if it cannot be.
-fn hold(heap: &[u64], memory: &mut [u64], pointer: u64) -> u64 {
-    let block = words::block_at(heap, pointer);
+fn hold(fields: u64, heap: &[u64], memory: &mut [u64], pointer: u64) -> u64 {
+    let block = words::block_at(fields, heap, pointer);
     name(memory, block);
     if mark(memory, block, 0) == HELD {
         return 0;
     }
-    enter(heap, memory, block)
+    enter(fields, heap, memory, block)
 }
 
 // How many blocks more are held by the pointers that are left to follow; NONE if one names a block that cannot be.
-pub fn follow(heap: &[u64], memory: &mut [u64]) -> u64 {
+pub fn follow(fields: u64, heap: &[u64], memory: &mut [u64]) -> u64 {
     let mut found = 0;
     let mut i = 0;
     while i < work::MOST {
@@ -159,7 +158,7 @@ pub fn follow(heap: &[u64], memory: &mut [u64]) -> u64 {
         if pointer == 0 {
             return found;
         }
-        let more = hold(heap, memory, pointer);
+        let more = hold(fields, heap, memory, pointer);
         if more == table::NONE {
             return table::NONE;
         }
@@ -180,10 +179,10 @@ fn raise_peak(memory: &mut [u64], reachable: u64) {
 }
 
 // The variables' pointers followed, before those of the lazy list: the blocks that they reach count for the peak.
-pub fn reach(heap: &[u64], memory: &mut [u64]) -> bool {
+pub fn reach(fields: u64, heap: &[u64], memory: &mut [u64]) -> bool {
     work::clear(memory);
     roots(memory);
-    let reachable = follow(heap, memory);
+    let reachable = follow(fields, heap, memory);
     if reachable == table::NONE {
         return false;
     }
@@ -192,13 +191,14 @@ pub fn reach(heap: &[u64], memory: &mut [u64]) -> bool {
 }
 
 // Below the frontier a block is in one of the three, and a held block's count is its pointers less one; from the frontier up it is in none.
-fn block_sound(heap: &[u64], memory: &[u64], block: u64, frontier: u64) -> bool {
+fn block_sound(fields: u64, heap: &[u64], memory: &[u64], block: u64, frontier: u64) -> bool {
     let place = mark(memory, block, 0);
     if frontier <= block {
         return place == 0;
     }
     if place == HELD {
-        return words::word_in(heap, block, 0) == arithmetic::difference(mark(memory, block, 1), 1);
+        let count = words::word_in(fields, heap, block, 0);
+        return count == arithmetic::difference(mark(memory, block, 1), 1);
     }
     place == LINEAR || place == LAZY
 }
@@ -220,10 +220,16 @@ fn history_sound(memory: &mut [u64], block: u64, frontier: u64) -> bool {
     ever == 0
 }
 
-pub fn all_sound(heap: &[u64], memory: &mut [u64], blocks: u64, frontier: u64) -> bool {
+pub fn all_sound(
+    fields: u64,
+    heap: &[u64],
+    memory: &mut [u64],
+    blocks: u64,
+    frontier: u64,
+) -> bool {
     let mut b = 0;
     while b < blocks {
-        if block_sound(heap, memory, b, frontier) {} else {
+        if block_sound(fields, heap, memory, b, frontier) {} else {
             return false;
         }
         if history_sound(memory, b, frontier) {} else {

@@ -1,12 +1,20 @@
-// The shape of the states that are looked at: the first edition's blocks, and a frame of as many spills as its stack has room for.
+// The shape of the states that are looked at: blocks of as many fields as the edition's have, and a frame of as many spills as its stack has room for.
 use crate::arithmetic;
 
-// A block's fields, the last of which holds the link, and its words.
-pub const FIELDS: u64 = 3;
+// A block's fields: those of the first edition where the edition is not the second.
+pub fn fields_of(edition: u64) -> u64 {
+    if edition == 2 { 7 } else { 3 }
+}
 
-pub const LINK: u64 = FIELDS - 1;
+// The last of so many fields holds the link.
+pub fn link_of(fields: u64) -> u64 {
+    arithmetic::difference(fields, 1)
+}
 
-pub const BLOCK: u64 = 2 + 2 * FIELDS;
+// The words of a block of so many fields.
+pub fn words_of(fields: u64) -> u64 {
+    arithmetic::sum(2, arithmetic::product(2, fields))
+}
 
 // A stack's words beside the frame: seven past its end, for six registers and what the routine returns to, and room before it for what prints push.
 const BESIDE: u64 = 64;

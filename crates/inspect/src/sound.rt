@@ -8,30 +8,30 @@ use crate::values;
 use crate::words;
 
 // The blocks of the linear list marked, and then those that the variables reach.
-fn reached(heap: &[u64], memory: &mut [u64], blocks: u64, head: u64) -> bool {
+fn reached(fields: u64, heap: &[u64], memory: &mut [u64], blocks: u64, head: u64) -> bool {
     heap::forget_all(memory, blocks);
-    if heap::linear(heap, memory, blocks, head) {
-        return heap::reach(heap, memory);
+    if heap::linear(fields, heap, memory, blocks, head) {
+        return heap::reach(fields, heap, memory);
     }
     false
 }
 
 // The lazy list ends at the frontier, which is one block more than the peak; its blocks hold others; and then each block is looked at.
-fn rest_sound(heap: &[u64], memory: &mut [u64], blocks: u64, free: u64) -> bool {
-    let frontier = heap::lazy(heap, memory, blocks, free);
+fn rest_sound(fields: u64, heap: &[u64], memory: &mut [u64], blocks: u64, free: u64) -> bool {
+    let frontier = heap::lazy(fields, heap, memory, blocks, free);
     if frontier == arithmetic::sum(heap::peak(memory), 1) {} else {
         return false;
     }
-    if heap::follow(heap, memory) == table::NONE {
+    if heap::follow(fields, heap, memory) == table::NONE {
         return false;
     }
-    heap::all_sound(heap, memory, blocks, frontier)
+    heap::all_sound(fields, heap, memory, blocks, frontier)
 }
 
-fn heap_sound(heap: &[u64], memory: &mut [u64], head: u64, free: u64) -> bool {
-    let blocks = words::blocks(heap);
-    if reached(heap, memory, blocks, head) {
-        return rest_sound(heap, memory, blocks, free);
+fn heap_sound(fields: u64, heap: &[u64], memory: &mut [u64], head: u64, free: u64) -> bool {
+    let blocks = words::blocks(fields, heap);
+    if reached(fields, heap, memory, blocks, head) {
+        return rest_sound(fields, heap, memory, blocks, free);
     }
     false
 }
@@ -45,15 +45,16 @@ fn frame_sound(context: &[u8], registers: &[u64; 16], stack: &[u64], length: u64
 }
 
 // A state whose variables are noted.
-fn words_sound(heap: &[u64], memory: &mut [u64], head: u64, free: u64) -> bool {
-    if heap_sound(heap, memory, head, free) {} else {
+fn words_sound(fields: u64, heap: &[u64], memory: &mut [u64], head: u64, free: u64) -> bool {
+    if heap_sound(fields, heap, memory, head, free) {} else {
         return false;
     }
-    values::values_sound(heap, memory)
+    values::values_sound(fields, heap, memory)
 }
 
 // A state beside the plain machine's values. The memory keeps which blocks were ever held or on HEAP's list, and the peak.
 pub fn sound(
+    edition: u64,
     context: &[u8],
     registers: &[u64; 16],
     stack: &[u64],
@@ -64,5 +65,11 @@ pub fn sound(
         return false;
     }
     words::note(memory, context, registers, stack);
-    words_sound(heap, memory, registers[2], registers[3])
+    words_sound(
+        shape::fields_of(edition),
+        heap,
+        memory,
+        registers[2],
+        registers[3],
+    )
 }

@@ -17,15 +17,15 @@ pub const MARKS: u64 = 100352;
 pub const WORK: u64 = 106352;
 
 // Four words by themselves.
-pub const MADE: u64 = 118352;
+pub const MADE: u64 = 130352;
 
-pub const USED: u64 = 118353;
+pub const USED: u64 = 130353;
 
-pub const LENGTH: u64 = 118354;
+pub const LENGTH: u64 = 130354;
 
-pub const PEAK: u64 = 118355;
+pub const PEAK: u64 = 130355;
 
-pub const MEMORY: usize = 118356;
+pub const MEMORY: usize = 130356;
 
 pub fn at(words: &[u64], i: u64) -> u64 {
     let n = i as usize;

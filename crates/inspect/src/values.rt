@@ -56,29 +56,41 @@ fn variables_sound(memory: &mut [u64]) -> bool {
 }
 
 // A field holds value v; an integer's Fst is 0.
-fn field_sound(heap: &[u64], memory: &mut [u64], block: u64, field: u64, v: u64) -> bool {
-    let fst = words::fst_in(heap, block, field);
+fn field_sound(
+    fields: u64,
+    heap: &[u64],
+    memory: &mut [u64],
+    block: u64,
+    field: u64,
+    v: u64,
+) -> bool {
+    let fst = words::fst_in(fields, heap, block, field);
     if plain::count_of(memory, v) == plain::INTEGER {
         if fst == 0 {} else {
             return false;
         }
     }
-    holds(memory, v, fst, words::snd_in(heap, block, field))
+    holds(memory, v, fst, words::snd_in(fields, heap, block, field))
 }
 
 // The first field that an object of n values uses: a whole block in the last one, and all but the link in each other, from the last value on.
-fn first_field(n: u64) -> u64 {
-    if n <= shape::FIELDS {
-        return shape::FIELDS - n;
+fn first_field(fields: u64, n: u64) -> u64 {
+    if n <= fields {
+        return fields - n;
     }
-    let over = (n - shape::FIELDS) % shape::LINK;
-    if over == 0 { 0 } else { shape::LINK - over }
+    let link = shape::link_of(fields);
+    let over = arithmetic::remainder(n - fields, link);
+    if over == 0 {
+        0
+    } else {
+        arithmetic::difference(link, over)
+    }
 }
 
-fn unused_sound(heap: &[u64], block: u64, first: u64) -> bool {
+fn unused_sound(fields: u64, heap: &[u64], block: u64, first: u64) -> bool {
     let mut field = 0;
     while field < first {
-        if words::fst_in(heap, block, field) == 0 {} else {
+        if words::fst_in(fields, heap, block, field) == 0 {} else {
             return false;
         }
         field += 1;
@@ -87,24 +99,32 @@ fn unused_sound(heap: &[u64], block: u64, first: u64) -> bool {
 }
 
 // The n values whose numbers start at a cell lie in an object.
-fn object_sound(heap: &[u64], memory: &mut [u64], head: u64, cell: u64, n: u64) -> bool {
+fn object_sound(
+    fields: u64,
+    heap: &[u64],
+    memory: &mut [u64],
+    head: u64,
+    cell: u64,
+    n: u64,
+) -> bool {
+    let link = shape::link_of(fields);
     let mut block = head;
-    let mut field = first_field(n);
-    if unused_sound(heap, block, field) {} else {
+    let mut field = first_field(fields, n);
+    if unused_sound(fields, heap, block, field) {} else {
         return false;
     }
-    let mut last = n <= shape::FIELDS;
+    let mut last = n <= fields;
     let mut i = 0;
     while i < n {
-        if field == shape::LINK {
+        if field == link {
             if last {} else {
-                block = words::block_at(heap, words::fst_in(heap, block, shape::LINK));
+                block = words::block_at(fields, heap, words::fst_in(fields, heap, block, link));
                 field = 0;
-                last = n - i <= shape::FIELDS;
+                last = n - i <= fields;
             }
         }
         let v = plain::listed(memory, arithmetic::sum(cell, i));
-        if field_sound(heap, memory, block, field, v) {} else {
+        if field_sound(fields, heap, memory, block, field, v) {} else {
             return false;
         }
         field = arithmetic::sum(field, 1);
@@ -114,7 +134,7 @@ fn object_sound(heap: &[u64], memory: &mut [u64], head: u64, cell: u64, n: u64) 
 }
 
 // An object is looked at once for each value that is to be in it.
-fn look(heap: &[u64], memory: &mut [u64], block: u64, number: u64) -> bool {
+fn look(fields: u64, heap: &[u64], memory: &mut [u64], block: u64, number: u64) -> bool {
     if heap::seen(memory, block) == number {
         return true;
     }
@@ -122,11 +142,11 @@ fn look(heap: &[u64], memory: &mut [u64], block: u64, number: u64) -> bool {
     let v = arithmetic::difference(number, 1);
     let first = plain::first_of(memory, v);
     let count = plain::count_of(memory, v);
-    object_sound(heap, memory, block, first, count)
+    object_sound(fields, heap, memory, block, first, count)
 }
 
 // The objects that are left to look at.
-fn objects_sound(heap: &[u64], memory: &mut [u64]) -> bool {
+fn objects_sound(fields: u64, heap: &[u64], memory: &mut [u64]) -> bool {
     let mut i = 0;
     while i < work::MOST {
         let address = work::pop(memory);
@@ -134,8 +154,8 @@ fn objects_sound(heap: &[u64], memory: &mut [u64]) -> bool {
             return true;
         }
         let number = work::pop(memory);
-        let block = words::block_at(heap, address);
-        if look(heap, memory, block, number) {} else {
+        let block = words::block_at(fields, heap, address);
+        if look(fields, heap, memory, block, number) {} else {
             return false;
         }
         i += 1;
@@ -144,9 +164,9 @@ fn objects_sound(heap: &[u64], memory: &mut [u64]) -> bool {
 }
 
 // The values of all variables, where nothing is left to look at yet.
-pub fn values_sound(heap: &[u64], memory: &mut [u64]) -> bool {
+pub fn values_sound(fields: u64, heap: &[u64], memory: &mut [u64]) -> bool {
     if variables_sound(memory) {} else {
         return false;
     }
-    objects_sound(heap, memory)
+    objects_sound(fields, heap, memory)
 }

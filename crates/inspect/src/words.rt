@@ -5,44 +5,42 @@ use crate::shape;
 use crate::table;
 
 // How many blocks there are.
-pub fn blocks(heap: &[u64]) -> u64 {
-    (heap.len() as u64) / shape::BLOCK
+pub fn blocks(fields: u64, heap: &[u64]) -> u64 {
+    arithmetic::quotient(heap.len() as u64, shape::words_of(fields))
 }
 
 // The block at an address, by number, or NONE.
-pub fn block_at(heap: &[u64], address: u64) -> u64 {
-    if address < 65536 {
-        return table::NONE;
-    }
-    let offset = address - 65536;
-    if offset % (8 * shape::BLOCK) == 0 {
-        let words = heap.len() as u64;
-        if offset / 8 < words {
-            return offset / (8 * shape::BLOCK);
+pub fn block_at(fields: u64, heap: &[u64], address: u64) -> u64 {
+    let offset = arithmetic::difference(address, 65536);
+    let size = arithmetic::product(8, shape::words_of(fields));
+    let block = arithmetic::quotient(offset, size);
+    if arithmetic::product(size, block) == offset {
+        if block < blocks(fields, heap) {
+            return block;
         }
     }
     table::NONE
 }
 
 // Word 0 is the count or the next pointer.
-pub fn word_in(heap: &[u64], block: u64, i: u64) -> u64 {
-    table::at(
-        heap,
-        arithmetic::sum(arithmetic::product(shape::BLOCK, block), i),
-    )
+pub fn word_in(fields: u64, heap: &[u64], block: u64, i: u64) -> u64 {
+    let start = arithmetic::product(shape::words_of(fields), block);
+    table::at(heap, arithmetic::sum(start, i))
 }
 
 // The Fst and the Snd of a field.
-pub fn fst_in(heap: &[u64], block: u64, field: u64) -> u64 {
+pub fn fst_in(fields: u64, heap: &[u64], block: u64, field: u64) -> u64 {
     word_in(
+        fields,
         heap,
         block,
         arithmetic::sum(arithmetic::product(2, field), 2),
     )
 }
 
-pub fn snd_in(heap: &[u64], block: u64, field: u64) -> u64 {
+pub fn snd_in(fields: u64, heap: &[u64], block: u64, field: u64) -> u64 {
     word_in(
+        fields,
         heap,
         block,
         arithmetic::sum(arithmetic::product(2, field), 3),

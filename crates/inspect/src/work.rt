@@ -2,7 +2,7 @@
 use crate::arithmetic;
 use crate::table;
 
-// More than a state of 1,500 blocks and 261 variables leaves in all.
+// More than a state of 1,500 blocks and 261 variables leaves in all, in either edition. The stack has room for two words of each.
 pub const MOST: u64 = 12000;
 
 fn place(i: u64) -> u64 {

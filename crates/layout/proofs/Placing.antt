@@ -14,13 +14,15 @@ use Rattle.records.specs.declared.check.Checked.the-variants.{Good, Malformed}
 use Rattle.records.specs.Contexts.{bindingIn, checkedContext}
 use Rattle.layout.specs.declared.config.Offset.the-variants as offset
 use Rattle.layout.specs.declared.config.Shape.{Shape}
-use Rattle.layout.specs.declared.config.Framed.{Framed}
-use Rattle.layout.specs.declared.config.Framed.the-variants.{Of, Unknown}
+use Rattle.layout.specs.declared.config.Choice.{Choice}
+use Rattle.layout.specs.declared.config.Choice.the-variants.{Of, Unknown}
+use Rattle.layout.specs.declared.config.Shaped.{Shaped}
+use Rattle.layout.specs.declared.config.Shaped.the-variants.{In}
 use Rattle.layout.specs.declared.utils.TemporaryNumber.{TemporaryNumber}
 use Rattle.layout.specs.declared.utils.Temporary.{Temporary}
 use Rattle.layout.specs.declared.utils.Temporary.the-variants.{Operand, Missing, OutOfTemporaries}
 use Rattle.layout.specs.declared.utils.Temporary.the-variants as temporary
-use Rattle.layout.specs.Config.{Supported, base, larger, shapeOf, inShape, inFrame, shapeOn, operands, positions, stackOffset, stackDepth}
+use Rattle.layout.specs.Config.{Supported, base, larger, second, frameOf, editionOf, combined, shapeOf, inChoice, frameOn, shapeOn, operands, positions, stackOffset, stackDepth}
 use Rattle.layout.specs.Positions.{location, Table, operandOk, positionAnswer}
 use Rattle.layout.specs.Queries.{numberOf, idPlace, freshTemporary, variableTemporary, spillOffset, wordOffset, fieldOffset}
 
@@ -133,64 +135,100 @@ base-supported = record { some = omega arith; few = omega arith; frame = omega a
 pub larger-supported : Supported larger
 larger-supported = record { some = omega arith; few = omega arith; frame = omega arith; even = refl; aside = omega arith }
 
+pub second-supported : Supported second
+second-supported = record { some = omega arith; few = omega arith; frame = omega arith; even = refl; aside = omega arith }
+
 module _ (frame : ℕ) where
-  pub small-frame : {g : Shape} → frame ≡ base .spills → g ≡ base → Of g ≡ shapeOf frame
-  unfolding shapeOf
+  pub small-frame : {g : Shape} → frame ≡ base .spills → g ≡ base → Of g ≡ frameOf frame
+  unfolding frameOf
   small-frame h e = rw (e, eq-eqb frame 256 h)
 
-  pub large-frame : {g : Shape} → (frame ≡ base .spills → ⊥) → frame ≡ larger .spills → g ≡ larger → Of g ≡ shapeOf frame
-  unfolding shapeOf
+  pub large-frame : {g : Shape} → (frame ≡ base .spills → ⊥) → frame ≡ larger .spills → g ≡ larger → Of g ≡ frameOf frame
+  unfolding frameOf
   large-frame n h e = rw (e, ne-eqb frame 256 n, eq-eqb frame 512 h)
 
-  pub no-frame : (frame ≡ base .spills → ⊥) → (frame ≡ larger .spills → ⊥) → Unknown ≡ shapeOf frame
-  unfolding shapeOf
+  pub no-frame : (frame ≡ base .spills → ⊥) → (frame ≡ larger .spills → ⊥) → Unknown ≡ frameOf frame
+  unfolding frameOf
   no-frame n h = rw (ne-eqb frame 256 n, ne-eqb frame 512 h)
 
--- the frames are among the shapes that the claims are for
-abbrev OnlySupported : Framed → Type 0
+module _ (edition : ℕ) where
+  pub first-edition : {g : Shape} → edition ≡ 1 → g ≡ base → Of g ≡ editionOf edition
+  unfolding editionOf
+  first-edition h e = rw (e, eq-eqb edition 1 h)
+
+  pub second-edition : {g : Shape} → (edition ≡ 1 → ⊥) → edition ≡ 2 → g ≡ second → Of g ≡ editionOf edition
+  unfolding editionOf
+  second-edition n h e = rw (e, ne-eqb edition 1 n, eq-eqb edition 2 h)
+
+  pub no-edition : (edition ≡ 1 → ⊥) → (edition ≡ 2 → ⊥) → Unknown ≡ editionOf edition
+  unfolding editionOf
+  no-edition n h = rw (ne-eqb edition 1 n, ne-eqb edition 2 h)
+
+-- frames and editions are among the shapes that the claims are for
+abbrev OnlySupported : Choice → Type 0
 OnlySupported (Of g) = Supported g
 OnlySupported Unknown = Unit {0}
 
-only-supported : (frame : ℕ) → OnlySupported (shapeOf frame)
+-- one of two shapes, or none
+one-of-two : (b c : Bool) {g h : Shape} → Supported g → Supported h → OnlySupported (cond b (Of g) (cond c (Of h) Unknown))
+one-of-two true c u v = u
+one-of-two false true u v = v
+one-of-two false false u v = tt
+
+frame-supported : (frame : ℕ) → OnlySupported (frameOf frame)
+unfolding frameOf
+frame-supported frame = one-of-two (eqb frame (base .spills)) (eqb frame (larger .spills)) base-supported larger-supported
+
+edition-supported : (edition : ℕ) → OnlySupported (editionOf edition)
+unfolding editionOf
+edition-supported edition = one-of-two (eqb edition 1) (eqb edition 2) base-supported second-supported
+
+pub framed-supported : (frame : ℕ) {g : Shape} → frameOf frame ≡ Of g → Supported g
+framed-supported frame e = rw e at (frame-supported frame)
+
+pub edited-supported : (edition : ℕ) {g : Shape} → editionOf edition ≡ Of g → Supported g
+edited-supported edition e = rw e at (edition-supported edition)
+
+same-in : {g h : Shape} → In g ≡ In h → g ≡ h
+same-in e = cc
+
+-- the blocks of the one in the frame of the other are supported too
+combined-supported : (b f : Choice) {g : Shape} → OnlySupported b → OnlySupported f → combined b f ≡ In g → Supported g
+combined-supported Unknown f u v e = let z : _≡_ {A = ℕ} 0 1 = cc in absurd (omega arith)
+combined-supported (Of b) Unknown u v e = let z : _≡_ {A = ℕ} 0 1 = cc in absurd (omega arith)
+combined-supported (Of b) (Of f) {g} u v e =
+    let w : Supported (record { fields = b .fields; spills = f .spills }) = record { some = u .some; few = u .few; frame = v .frame; even = v .even; aside = v .aside } in
+    rw (same-in e) at w
+
+pub shaped-supported : (edition frame : ℕ) {g : Shape} → shapeOf edition frame ≡ In g → Supported g
 unfolding shapeOf
-only-supported frame = small (eqb frame (base .spills))
-  where
-    large : (b : Bool) → OnlySupported (cond b (Of larger) Unknown)
-    large true = larger-supported
-    large false = tt
+shaped-supported edition frame e = combined-supported (editionOf edition) (frameOf frame) (edition-supported edition) (frame-supported frame) e
 
-    small : (b : Bool) → OnlySupported (cond b (Of base) (cond (eqb frame (larger .spills)) (Of larger) Unknown))
-    small true = base-supported
-    small false = large (eqb frame (larger .spills))
+-- what is answered by a number, by what was found for it
+module _ {A : Type 0} {r found : Choice} (e : r ≡ found) (known : Shape → A) (other : A) where
+  pub chosen : {g : Shape} → r ≡ Of g → known g ≡ inChoice found known other
+  chosen h = rw (← e, h)
 
-pub framed-supported : (frame : ℕ) {g : Shape} → shapeOf frame ≡ Of g → Supported g
-framed-supported frame e = rw e at (only-supported frame)
-
--- what is answered in a frame, by what `shape_of` gave
-module _ {A : Type 0} (frame : ℕ) {r : Framed} (e : r ≡ shapeOf frame) (known : Shape → A) (other : A) where
-  pub in-frame : {g : Shape} → r ≡ Of g → known g ≡ inFrame frame known other
-  in-frame h = rw (← e, h)
-
-  pub no-such-frame : r ≡ Unknown → other ≡ inFrame frame known other
-  no-such-frame h = rw (← e, h)
+  pub not-chosen : r ≡ Unknown → other ≡ inChoice found known other
+  not-chosen h = rw (← e, h)
 
 module _ (frame words : ℕ) where
-  pub on-its-stack : {g : Shape} → shapeOf frame ≡ Of g → words ≡ stackDepth g → Of g ≡ shapeOn frame words
-  unfolding shapeOn
+  pub on-its-stack : {g : Shape} → frameOf frame ≡ Of g → words ≡ stackDepth g → Of g ≡ frameOn frame words
+  unfolding frameOn
   on-its-stack {g} e h = rw (e, eq-eqb words (stackDepth g) h)
 
-  pub on-another-stack : {g : Shape} → shapeOf frame ≡ Of g → (words ≡ stackDepth g → ⊥) → Unknown ≡ shapeOn frame words
-  unfolding shapeOn
+  pub on-another-stack : {g : Shape} → frameOf frame ≡ Of g → (words ≡ stackDepth g → ⊥) → Unknown ≡ frameOn frame words
+  unfolding frameOn
   on-another-stack {g} e h = rw (e, ne-eqb words (stackDepth g) h)
 
-  pub on-no-frame : shapeOf frame ≡ Unknown → Unknown ≡ shapeOn frame words
-  unfolding shapeOn
+  pub on-no-frame : frameOf frame ≡ Unknown → Unknown ≡ frameOn frame words
+  unfolding frameOn
   on-no-frame e = rw e
 
   -- a stack that goes with a frame has its words
-  pub on-stack : {g : Shape} → shapeOn frame words ≡ Of g → (shapeOf frame ≡ Of g) × (words ≡ stackDepth g)
-  unfolding shapeOn
-  on-stack {g} = by (shapeOf frame)
+  pub on-stack : {g : Shape} → frameOn frame words ≡ Of g → (frameOf frame ≡ Of g) × (words ≡ stackDepth g)
+  unfolding frameOn
+  on-stack {g} = by (frameOf frame)
     where
       same : {h : Shape} → Of h ≡ Of g → h ≡ g
       same e = cc
@@ -199,6 +237,18 @@ module _ (frame words : ℕ) where
       fits h true p e = (e, eqb-true words (stackDepth h) p ∙ ap (λ (x : Shape). stackDepth x) (same e))
       fits h false p e = let z : _≡_ {A = ℕ} 0 1 = cc in absurd (omega arith)
 
-      by : (f : Framed) → inShape f (λ h. cond (eqb words (stackDepth h)) (Of h) Unknown) Unknown ≡ Of g → (f ≡ Of g) × (words ≡ stackDepth g)
+      by : (f : Choice) → inChoice f (λ h. cond (eqb words (stackDepth h)) (Of h) Unknown) Unknown ≡ Of g → (f ≡ Of g) × (words ≡ stackDepth g)
       by (Of h) e = fits h (eqb words (stackDepth h)) refl e
       by Unknown e = let z : _≡_ {A = ℕ} 0 1 = cc in absurd (omega arith)
+
+  -- and with a shape
+  pub shape-stack : (edition : ℕ) {g : Shape} → shapeOn edition frame words ≡ In g → (shapeOf edition frame ≡ In g) × (words ≡ stackDepth g)
+  unfolding shapeOn shapeOf
+  shape-stack edition {g} = by (editionOf edition) (frameOn frame words) refl
+    where
+      by : (b f : Choice) → frameOn frame words ≡ f → combined b f ≡ In g → (combined b (frameOf frame) ≡ In g) × (words ≡ stackDepth g)
+      by Unknown f k e = let z : _≡_ {A = ℕ} 0 1 = cc in absurd (omega arith)
+      by (Of b) Unknown k e = let z : _≡_ {A = ℕ} 0 1 = cc in absurd (omega arith)
+      by (Of b) (Of f) k e =
+          let w = on-stack k in
+          (ap (combined (Of b)) (w .0) ∙ e, w .1 ∙ ap (λ (x : Shape). stackDepth x) (same-in e))

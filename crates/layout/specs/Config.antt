@@ -6,14 +6,19 @@ use mathlib.Core.Path.{_≡_}
 use mathlib.Core.Bool.{cond}
 use lib.Dec.{eqb}
 use Rattle.layout.specs.declared.config.Shape.{Shape}
-use Rattle.layout.specs.declared.config.Framed.{Framed}
-use Rattle.layout.specs.declared.config.Framed.the-variants.{Of, Unknown}
+use Rattle.layout.specs.declared.config.Choice.{Choice}
+use Rattle.layout.specs.declared.config.Choice.the-variants.{Of, Unknown}
+use Rattle.layout.specs.declared.config.Shaped.{Shaped}
+use Rattle.layout.specs.declared.config.Shaped.the-variants.{In, NoFrame, NoEdition}
 
 -- the first edition's blocks, and the smaller frame
 abbrev pub base : Shape
 base = record { fields = 3; spills = 256 }
 
--- no frame has more spills
+-- no block has more fields, and no frame more spills
+abbrev pub mostFields : ℕ
+mostFields = 7
+
 abbrev pub mostSpills : ℕ
 mostSpills = 512
 
@@ -21,26 +26,57 @@ mostSpills = 512
 abbrev pub larger : Shape
 larger = record { fields = base .fields; spills = mostSpills }
 
+-- the second edition's blocks, and the smaller frame
+abbrev pub second : Shape
+second = record { fields = mostFields; spills = base .spills }
+
+-- the second edition's blocks, and the larger frame
+abbrev pub secondLarger : Shape
+secondLarger = record { fields = second .fields; spills = larger .spills }
+
 -- the shapes that every claim is for: an object's blocks but the last hold a value and the link, no address wraps, spill 0 is there to set register 4 aside,
 -- and a frame is a whole number of 16 bytes
 pub record Supported (g : Shape) : Type 0 where
   pub some : 2 ≤ g .fields
-  pub few : g .fields ≤ 7
+  pub few : g .fields ≤ mostFields
   pub frame : g .spills ≤ mostSpills
   pub even : g .spills % 2 ≡ 0
   pub aside : 1 ≤ g .spills
 
--- a frame by its number of spills, 256 or 512; there is none of another number
-unfoldable pub shapeOf : ℕ → Framed
-shapeOf frame = cond (eqb frame (base .spills)) (Of base) (cond (eqb frame (larger .spills)) (Of larger) Unknown)
+-- a frame by its number of spills, 256 or 512, and an edition by its number, 1 or 2; there is none of another number
+unfoldable pub frameOf : ℕ → Choice
+frameOf frame = cond (eqb frame (base .spills)) (Of base) (cond (eqb frame (larger .spills)) (Of larger) Unknown)
 
--- what is answered in the shape that a frame has, and what where there is no such frame
-abbrev pub inShape : {A : Type 0} → Framed → (Shape → A) → A → A
-inShape (Of g) known other = known g
-inShape Unknown known other = other
+unfoldable pub editionOf : ℕ → Choice
+editionOf edition = cond (eqb edition 1) (Of base) (cond (eqb edition 2) (Of second) Unknown)
 
+-- the blocks of the one in the frame of the other: where there is no such edition, the frame is not asked for
+abbrev pub combined : Choice → Choice → Shaped
+combined Unknown frame = NoEdition
+combined (Of b) Unknown = NoFrame
+combined (Of b) (Of f) = In (record { fields = b .fields; spills = f .spills })
+
+-- the shape of an edition and a frame by their numbers
+unfoldable pub shapeOf : ℕ → ℕ → Shaped
+shapeOf edition frame = combined (editionOf edition) (frameOf frame)
+
+-- what is answered in the shape that a number stands for, and what where it stands for none
+abbrev pub inChoice : {A : Type 0} → Choice → (Shape → A) → A → A
+inChoice (Of g) known other = known g
+inChoice Unknown known other = other
+
+-- what depends on the frame alone, and what on the edition alone
 abbrev pub inFrame : {A : Type 0} → ℕ → (Shape → A) → A → A
-inFrame frame known other = inShape (shapeOf frame) known other
+inFrame frame known other = inChoice (frameOf frame) known other
+
+abbrev pub inEdition : {A : Type 0} → ℕ → (Shape → A) → A → A
+inEdition edition known other = inChoice (editionOf edition) known other
+
+-- what is answered in a shape, what where there is no such frame, and what where there is no such edition
+abbrev pub inShape : {A : Type 0} → Shaped → (Shape → A) → A → A → A
+inShape (In g) known unframed unknown = known g
+inShape NoFrame known unframed unknown = unframed
+inShape NoEdition known unframed unknown = unknown
 
 abbrev pub STACK : ℕ
 STACK = 0
@@ -88,9 +124,12 @@ stackOffset g w = 8 * g .spills - 8 * (w - 16 + 1)
 abbrev pub stackDepth : Shape → ℕ
 stackDepth g = g .spills + 64
 
--- a frame where a stack of so many words goes with it
-unfoldable pub shapeOn : ℕ → ℕ → Framed
-shapeOn frame words = inFrame frame (λ g. cond (eqb words (stackDepth g)) (Of g) Unknown) Unknown
+-- a frame where a stack of so many words goes with it, and a shape
+unfoldable pub frameOn : ℕ → ℕ → Choice
+frameOn frame words = inFrame frame (λ g. cond (eqb words (stackDepth g)) (Of g) Unknown) Unknown
+
+unfoldable pub shapeOn : ℕ → ℕ → ℕ → Shaped
+shapeOn edition frame words = combined (editionOf edition) (frameOn frame words)
 
 -- where STACK is once six registers and the frame are on the stack, which begins at 2 ^ 40 − 8
 abbrev pub framePointer : Shape → ℕ

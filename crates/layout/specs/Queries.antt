@@ -5,12 +5,12 @@ use mathlib.Core.Bool.{_&&_, cond}
 use mathlib.Core.List.{List, [], _∷_}
 use lib.Dec.{ltb, eqb}
 use lib.ListN.{drop}
-use Rattle.records.specs.Causes.{ACCEPTED, OPERAND}
+use Rattle.records.specs.Causes.{ACCEPTED, OPERAND, EDITION}
 use Rattle.records.specs.declared.check.Checked.{Checked}
 use Rattle.records.specs.declared.check.Checked.the-variants.{Good, Malformed}
 use Rattle.records.specs.Contexts.{bindingIn, checkedContext}
 use Rattle.layout.specs.declared.config.Offset.{Offset}
-use Rattle.layout.specs.declared.config.Offset.the-variants.{At, Operand}
+use Rattle.layout.specs.declared.config.Offset.the-variants.{At, Operand, Edition}
 use Rattle.layout.specs.declared.config.Shape.{Shape}
 use Rattle.layout.specs.declared.utils.TemporaryNumber.{TemporaryNumber}
 use Rattle.layout.specs.declared.utils.TemporaryNumber.the-variants.{Fst, Snd}
@@ -60,3 +60,4 @@ fieldOffset g number i = cond (ltb i (g .fields)) (At (wordOffset number i)) Ope
 abbrev pub offsetCause : Offset → List ℕ
 offsetCause (At bytes) = ACCEPTED ∷ bytes ∷ []
 offsetCause Operand = OPERAND ∷ []
+offsetCause Edition = EDITION ∷ []

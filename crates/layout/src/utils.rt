@@ -11,7 +11,7 @@ ghost use Rattle.layout.specs.Config.{Supported, positions, inFrame};
 ghost use Rattle.layout.specs.Positions.{location, entries, Table, operandOk, positionAnswer, temporaryCause};
 ghost use Rattle.layout.specs.Queries.{numberOf, idPlace, freshTemporary, variableTemporary, unframed};
 use crate::config;
-use crate::config::Framed;
+use crate::config::Choice;
 use crate::config::Shape;
 use records::check::Checked;
 
@@ -593,9 +593,9 @@ pub fn location_at(table: &[u16; ENTRIES], p: u64) -> u64
 pub fn position(frame: u64, p: u64) -> Temporary
     ensures { λ r. ⌜ AnswersBy temporaryCause r (inFrame frame (λ g. positionAnswer g p) Frame) ⌝ }
 {
-    match config::shape_of(frame) {
-        Framed::Of(g) => position_in(g, p),
-        Framed::Unknown => Temporary::Frame,
+    match config::frame_of(frame) {
+        Choice::Of(g) => position_in(g, p),
+        Choice::Unknown => Temporary::Frame,
     }
 }
 
@@ -679,9 +679,9 @@ fn unframed(context: &[u8]) -> Temporary
 pub fn fresh_temporary(frame: u64, number: TemporaryNumber, context: &[u8]) -> Temporary
     ensures { λ r. ⌜ AnswersBy temporaryCause r (inFrame frame (λ g. freshTemporary g number (now (context .entry))) (unframed (now (context .entry)))) ⌝ }
 {
-    match config::shape_of(frame) {
-        Framed::Of(g) => fresh_temporary_in(g, number, context),
-        Framed::Unknown => unframed(context),
+    match config::frame_of(frame) {
+        Choice::Of(g) => fresh_temporary_in(g, number, context),
+        Choice::Unknown => unframed(context),
     }
 }
 
@@ -700,9 +700,9 @@ fn fresh_temporary_in(g: Shape, number: TemporaryNumber, context: &[u8]) -> Temp
 pub fn variable_temporary(frame: u64, number: TemporaryNumber, context: &[u8], id: u32) -> Temporary
     ensures { λ r. ⌜ AnswersBy temporaryCause r (inFrame frame (λ g. variableTemporary g number (now (context .entry)) id) (unframed (now (context .entry)))) ⌝ }
 {
-    match config::shape_of(frame) {
-        Framed::Of(g) => variable_temporary_in(g, number, context, id),
-        Framed::Unknown => unframed(context),
+    match config::frame_of(frame) {
+        Choice::Of(g) => variable_temporary_in(g, number, context, id),
+        Choice::Unknown => unframed(context),
     }
 }
 

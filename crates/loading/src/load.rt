@@ -19,9 +19,9 @@ ghost use Rattle.loading.specs.Linked.{oneIfLinked, linkedIn};
 use emit::answer::Answer;
 use emit::cursor::Cursor;
 use emit::cursor::Row;
-use layout::config::Framed;
 use layout::config::STACK;
 use layout::config::Shape;
+use layout::config::Shaped;
 use layout::config::TEMP;
 use layout::utils::ENTRIES;
 use records::check::Checked;
@@ -226,12 +226,20 @@ fn load_after(out: &mut [u8], g: Shape, counter: u64, loaded: &[u8], v: u64, n: 
 }
 
 // The variables of one context, out of the object in the Fst past the existing context.
-pub fn load(out: &mut [u8], frame: u64, counter: u64, loaded: &[u8], existing: &[u8]) -> Answer
-    ensures { λ r. ⌜ Answers (now (out .entry)) (now (out .exit)) r (loadIn frame counter (length (now (out .entry))) (now (loaded .entry)) (now (existing .entry))) (loadRecordsIn frame counter (now (loaded .entry)) (now (existing .entry))) ⌝ }
+pub fn load(
+    out: &mut [u8],
+    edition: u64,
+    frame: u64,
+    counter: u64,
+    loaded: &[u8],
+    existing: &[u8],
+) -> Answer
+    ensures { λ r. ⌜ Answers (now (out .entry)) (now (out .exit)) r (loadIn edition frame counter (length (now (out .entry))) (now (loaded .entry)) (now (existing .entry))) (loadRecordsIn edition frame counter (now (loaded .entry)) (now (existing .entry))) ⌝ }
 {
-    match layout::config::shape_of(frame) {
-        Framed::Of(g) => load_in(out, g, counter, loaded, existing),
-        Framed::Unknown => unframed(loaded, existing),
+    match layout::config::shape_of(edition, frame) {
+        Shaped::In(g) => load_in(out, g, counter, loaded, existing),
+        Shaped::NoFrame => unframed(loaded, existing),
+        Shaped::NoEdition => Answer::Edition,
     }
 }
 

@@ -8,10 +8,10 @@ use Rattle.records.specs.declared.check.Checked.the-variants.{Good, Malformed}
 use Rattle.records.specs.declared.code.Code.{Code}
 use Rattle.records.specs.Contexts.{checkedContext}
 use Rattle.emit.specs.declared.answer.Answer.{Answer}
-use Rattle.emit.specs.declared.answer.Answer.the-variants.{Context, Operand, Missing, Count, Position}
+use Rattle.emit.specs.declared.answer.Answer.the-variants.{Context, Operand, Missing, Count, Position, Edition}
 use Rattle.emit.specs.Answers.{unframed, granted}
 use Rattle.layout.specs.declared.config.Shape.{Shape}
-use Rattle.layout.specs.Config.{positions, inFrame}
+use Rattle.layout.specs.Config.{positions, shapeOf, inFrame, inShape}
 use Rattle.layout.specs.Positions.{operandOk}
 use Rattle.trees.specs.Tree.{Tree, labels, size, flat}
 use Rattle.memory.specs.Blocks.{eraseBlock, shareBlock}
@@ -64,10 +64,10 @@ storeAnswer g counter room context n =
     (λ k. cond (ltb k n) Missing
     (cond (ltb (storeHighest k n) (positions g)) (treeAnswer counter room (storeTree g context n)) Position))
 
--- the answer and the records in a frame of so many spills
-abbrev pub storeIn : ℕ → ℕ → ℕ → List ℕ → ℕ → Answer
-storeIn frame counter room context n =
-    inFrame frame (λ g. storeAnswer g counter room context n) (unframed (checkedContext context))
+-- the answer and the records in an edition and a frame of so many spills
+abbrev pub storeIn : ℕ → ℕ → ℕ → ℕ → List ℕ → ℕ → Answer
+storeIn edition frame counter room context n =
+    inShape (shapeOf edition frame) (λ g. storeAnswer g counter room context n) (unframed (checkedContext context)) Edition
 
-abbrev pub storeRecordsIn : ℕ → ℕ → List ℕ → ℕ → List Code
-storeRecordsIn frame counter context n = inFrame frame (λ g. flat (storeTree g context n) counter) []
+abbrev pub storeRecordsIn : ℕ → ℕ → ℕ → List ℕ → ℕ → List Code
+storeRecordsIn edition frame counter context n = inShape (shapeOf edition frame) (λ g. flat (storeTree g context n) counter) [] []

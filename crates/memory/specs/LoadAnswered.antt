@@ -6,10 +6,10 @@ use lib.Dec.{ltb, eqb}
 use Rattle.records.specs.declared.code.Code.{Code}
 use Rattle.records.specs.Contexts.{checkedContext}
 use Rattle.emit.specs.declared.answer.Answer.{Answer}
-use Rattle.emit.specs.declared.answer.Answer.the-variants.{Position}
+use Rattle.emit.specs.declared.answer.Answer.the-variants.{Position, Edition}
 use Rattle.emit.specs.Answers.{unframed}
 use Rattle.layout.specs.declared.config.Shape.{Shape}
-use Rattle.layout.specs.Config.{positions, inFrame}
+use Rattle.layout.specs.Config.{positions, shapeOf, inShape}
 use Rattle.trees.specs.Tree.{Tree, flat}
 use Rattle.memory.specs.Objects.{extIn, loadObject}
 use Rattle.memory.specs.Answered.{treeAnswer, onContext, variablesIn}
@@ -33,11 +33,11 @@ loadAnswer g counter room loaded existing =
     onContext (checkedContext loaded)
     (λ n. onContext (checkedContext existing) (λ v. loadAfter g counter room loaded v n))
 
--- the answer and the records in a frame of so many spills: the context to load is checked first
-abbrev pub loadIn : ℕ → ℕ → ℕ → List ℕ → List ℕ → Answer
-loadIn frame counter room loaded existing =
-    inFrame frame (λ g. loadAnswer g counter room loaded existing)
-    (onContext (checkedContext loaded) (λ n. unframed (checkedContext existing)))
+-- the answer and the records in an edition and a frame of so many spills: the context to load is checked first
+abbrev pub loadIn : ℕ → ℕ → ℕ → ℕ → List ℕ → List ℕ → Answer
+loadIn edition frame counter room loaded existing =
+    inShape (shapeOf edition frame) (λ g. loadAnswer g counter room loaded existing)
+    (onContext (checkedContext loaded) (λ n. unframed (checkedContext existing))) Edition
 
-abbrev pub loadRecordsIn : ℕ → ℕ → List ℕ → List ℕ → List Code
-loadRecordsIn frame counter loaded existing = inFrame frame (λ g. flat (loadTree g loaded existing) counter) []
+abbrev pub loadRecordsIn : ℕ → ℕ → ℕ → List ℕ → List ℕ → List Code
+loadRecordsIn edition frame counter loaded existing = inShape (shapeOf edition frame) (λ g. flat (loadTree g loaded existing) counter) [] []

@@ -11,8 +11,8 @@ ghost use Rattle.memory.specs.Blocks.{eraseRegister, shareRegister, eras
 use emit::answer::Answer;
 use emit::cursor::Cursor;
 use emit::cursor::Row;
+use layout::config::Choice;
 use layout::config::FREE;
-use layout::config::Framed;
 use layout::config::HEAP;
 use layout::config::STACK;
 use layout::config::Shape;
@@ -296,9 +296,9 @@ pub fn release_block(out: &mut [u8], p: Cursor, r: u8) -> Cursor
 pub fn erase_block(out: &mut [u8], frame: u64, counter: u64, w: u64) -> Answer
     ensures { λ r. ⌜ Answers (now (out .entry)) (now (out .exit)) r (eraseIn frame counter (length (now (out .entry))) w) (eraseRecordsIn frame counter w) ⌝ }
 {
-    match layout::config::shape_of(frame) {
-        Framed::Of(g) => erase_block_in(out, g, counter, w),
-        Framed::Unknown => Answer::Operand,
+    match layout::config::frame_of(frame) {
+        Choice::Of(g) => erase_block_in(out, g, counter, w),
+        Choice::Unknown => Answer::Operand,
     }
 }
 
@@ -323,9 +323,9 @@ fn erase_block_in(out: &mut [u8], g: Shape, counter: u64, w: u64) -> Answer
 pub fn share_block_n(out: &mut [u8], frame: u64, counter: u64, w: u64, n: u64) -> Answer
     ensures { λ r. ⌜ Answers (now (out .entry)) (now (out .exit)) r (shareIn frame counter (length (now (out .entry))) w n) (shareRecordsIn frame counter w n) ⌝ }
 {
-    match layout::config::shape_of(frame) {
-        Framed::Of(g) => share_block_n_in(out, g, counter, w, n),
-        Framed::Unknown => Answer::Operand,
+    match layout::config::frame_of(frame) {
+        Choice::Of(g) => share_block_n_in(out, g, counter, w, n),
+        Choice::Unknown => Answer::Operand,
     }
 }
 

@@ -8,8 +8,9 @@ use Rattle.records.specs.declared.code.Code.{Code}
 use Rattle.records.specs.declared.order.Operation.the-variants.{Add, Sub, Mul, Div, Rem}
 use Rattle.code.specs.declared.emitters.Condition.the-variants.{Equal, NotEqual, Less, LessOrEqual, Greater, GreaterOrEqual}
 use Rattle.emit.specs.declared.answer.Answer.{Answer}
-use Rattle.emit.specs.declared.answer.Answer.the-variants.{Operand}
+use Rattle.emit.specs.declared.answer.Answer.the-variants.{Operand, Edition}
 use Rattle.emit.specs.Answers.{causeOf}
+use Rattle.layout.specs.Config.{inEdition}
 use Rattle.operations.specs.declared.operation.Operation.{Operation}
 use Rattle.operations.specs.declared.operation.Operation.the-variants.{Label, Jump, JumpLabel, JumpLabelFixed, JumpLabelIf, JumpLabelIfZero, LoadImmediate, LoadLabel, AddAndJump, Arithmetic, Mov, Compare, CompareImmediate}
 use Rattle.memory.specs.Answered.{eraseIn, eraseRecordsIn, shareIn, shareRecordsIn, storeIn, storeRecordsIn}
@@ -60,17 +61,24 @@ operations x y z l value =
 unfoldable pub operationNumbered : ℕ → ℕ → ℕ → ℕ → ℕ → ℕ → Operation
 operationNumbered number x y z l value = getD (Label 0 ∷ operations x y z l value) number (Label 0)
 
--- the answers and the records of memory.rs in a frame of so many spills: 1 erase_block, 2 share_block_n, 3 store, 4 load; any other number is refused with 3
-unfoldable pub memoryAnswer : ℕ → ℕ → ℕ → ℕ → ℕ → ℕ → List ℕ → List ℕ → Answer
-memoryAnswer frame number counter room w n context loaded =
+-- the answers and the records of memory.rs in an edition and a frame of so many spills: 1 erase_block, 2 share_block_n, 3 store, 4 load; any other number is refused
+-- with 3. 23 is asked for first, whatever the number
+unfoldable pub memoryAnswer : ℕ → ℕ → ℕ → ℕ → ℕ → ℕ → ℕ → List ℕ → List ℕ → Answer
+memoryAnswer edition frame number counter room w n context loaded =
+    inEdition edition
+    (λ g.
     cond (eqb number 1) (eraseIn frame counter room w)
     (cond (eqb number 2) (shareIn frame counter room w n)
-    (cond (eqb number 3) (storeIn frame counter room context n)
-    (cond (eqb number 4) (loadIn frame counter room loaded context) Operand)))
+    (cond (eqb number 3) (storeIn edition frame counter room context n)
+    (cond (eqb number 4) (loadIn edition frame counter room loaded context) Operand))))
+    Edition
 
-unfoldable pub memoryRecords : ℕ → ℕ → ℕ → ℕ → ℕ → List ℕ → List ℕ → List Code
-memoryRecords frame number counter w n context loaded =
+unfoldable pub memoryRecords : ℕ → ℕ → ℕ → ℕ → ℕ → ℕ → List ℕ → List ℕ → List Code
+memoryRecords edition frame number counter w n context loaded =
+    inEdition edition
+    (λ g.
     cond (eqb number 1) (eraseRecordsIn frame counter w)
     (cond (eqb number 2) (shareRecordsIn frame counter w n)
-    (cond (eqb number 3) (storeRecordsIn frame counter context n)
-    (cond (eqb number 4) (loadRecordsIn frame counter loaded context) [])))
+    (cond (eqb number 3) (storeRecordsIn edition frame counter context n)
+    (cond (eqb number 4) (loadRecordsIn edition frame counter loaded context) []))))
+    []

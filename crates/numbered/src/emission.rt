@@ -6,6 +6,8 @@ ghost use Rattle.emit.specs.Answers.{Answers};
 ghost use Rattle.numbered.specs.Emission.{answerNumbers, counterAfter, operationNumbered, memoryAnswer, memoryRecords};
 use code::emitters::Condition;
 use emit::answer::Answer;
+use layout::config;
+use layout::config::Choice;
 use operations::operation::Operation;
 use records::order;
 
@@ -34,6 +36,7 @@ pub fn told(answer: Answer, value: &mut u64) -> u64
             *value = bytes as u64;
             10
         }
+        Answer::Edition => 23,
     }
 }
 
@@ -52,6 +55,7 @@ pub fn counter_after(answer: Answer, counter: u64) -> u64
         Answer::Position => counter,
         Answer::Labels => counter,
         Answer::Room(_) => counter,
+        Answer::Edition => counter,
     }
 }
 
@@ -100,6 +104,7 @@ pub fn operation_numbered(
 
 pub fn memory(
     out: &mut [u8],
+    edition: u64,
     frame: u64,
     operation: u64,
     counter: u64,
@@ -108,13 +113,16 @@ pub fn memory(
     context: &[u8],
     loaded: &[u8],
 ) -> Answer
-    ensures { λ r. ⌜ Answers (now (out .entry)) (now (out .exit)) r (memoryAnswer frame operation counter (length (now (out .entry))) operand n (now (context .entry)) (now (loaded .entry))) (memoryRecords frame operation counter operand n (now (context .entry)) (now (loaded .entry))) ⌝ }
+    ensures { λ r. ⌜ Answers (now (out .entry)) (now (out .exit)) r (memoryAnswer edition frame operation counter (length (now (out .entry))) operand n (now (context .entry)) (now (loaded .entry))) (memoryRecords edition frame operation counter operand n (now (context .entry)) (now (loaded .entry))) ⌝ }
 {
+    let Choice::Of(_) = config::edition_of(edition) else {
+        return Answer::Edition;
+    };
     match operation {
         1 => memory::block::erase_block(out, frame, counter, operand),
         2 => memory::block::share_block_n(out, frame, counter, operand, n),
-        3 => storing::store::store(out, frame, counter, context, n),
-        4 => loading::load::load(out, frame, counter, loaded, context),
+        3 => storing::store::store(out, edition, frame, counter, context, n),
+        4 => loading::load::load(out, edition, frame, counter, loaded, context),
         _ => Answer::Operand,
     }
 }

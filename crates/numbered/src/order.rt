@@ -32,6 +32,7 @@ pub fn told(answer: Answer, value: &mut u64, bindings: &mut u64) -> u64
             *value = bytes as u64;
             10
         }
+        Answer::Edition => 23,
     }
 }
 
@@ -50,5 +51,6 @@ pub fn counter_after(answer: Answer, counter: u64) -> u64
         Answer::Position => counter,
         Answer::Labels => counter,
         Answer::Room(_) => counter,
+        Answer::Edition => counter,
     }
 }

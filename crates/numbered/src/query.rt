@@ -57,5 +57,9 @@ pub fn measured(offset: Offset, value: &mut u64) -> u64
             *value = 0;
             3
         }
+        Offset::Edition => {
+            *value = 0;
+            23
+        }
     }
 }

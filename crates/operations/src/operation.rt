@@ -13,7 +13,7 @@ use code::emitters::Condition;
 use emit::answer::Answer;
 use emit::cursor::Cursor;
 use emit::cursor::Row;
-use layout::config::Framed;
+use layout::config::Choice;
 use layout::config::Shape;
 use records::number::JMPL;
 use records::number::JMPLN;
@@ -121,9 +121,9 @@ fn emit_operation(out: &mut [u8], p: Cursor, g: Shape, operation: Operation) -> 
 pub fn operate(out: &mut [u8], frame: u64, operation: Operation) -> Answer
     ensures { λ r. ⌜ Operates frame (now (out .entry)) (now (out .exit)) r operation ⌝ }
 {
-    match layout::config::shape_of(frame) {
-        Framed::Of(g) => operate_in(out, g, operation),
-        Framed::Unknown => Answer::Operand,
+    match layout::config::frame_of(frame) {
+        Choice::Of(g) => operate_in(out, g, operation),
+        Choice::Unknown => Answer::Operand,
     }
 }
 

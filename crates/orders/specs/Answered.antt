@@ -5,7 +5,7 @@ use mathlib.Core.List.{List, [], _∷_}
 use lib.Dec.{ltb, leb, eqb}
 use lib.ListN.{length, getD}
 use lib.Seq.{sets}
-use Rattle.records.specs.Causes.{ACCEPTED, CONTEXT, MALFORMED, OPERAND, MISSING, KIND, COUNT, POSITION, LABELS, ROOM}
+use Rattle.records.specs.Causes.{ACCEPTED, CONTEXT, MALFORMED, OPERAND, MISSING, KIND, COUNT, POSITION, LABELS, ROOM, EDITION}
 use Rattle.records.specs.declared.check.Checked.{Checked}
 use Rattle.records.specs.declared.check.Checked.the-variants as checked
 use Rattle.records.specs.declared.order.Order.{Order}
@@ -14,11 +14,11 @@ use Rattle.records.specs.Orders.{orderOf, orderIn, orderStarts}
 use Rattle.records.specs.ReadBack.{joined, codeBytes}
 use Rattle.trees.specs.Tree.{Tree, labels, size, flat}
 use Rattle.layout.specs.declared.config.Shape.{Shape}
-use Rattle.layout.specs.declared.config.Framed.{Framed}
+use Rattle.layout.specs.declared.config.Shaped.{Shaped}
 use Rattle.layout.specs.Config.{inShape, positions}
 use Rattle.memory.specs.Answered.{variablesIn}
 use Rattle.orders.specs.declared.answer.Answer.{Answer}
-use Rattle.orders.specs.declared.answer.Answer.the-variants.{Accepted, Context, Malformed, Frame, Missing, Kind, Count, Position, Labels, Room}
+use Rattle.orders.specs.declared.answer.Answer.the-variants.{Accepted, Context, Malformed, Frame, Missing, Kind, Count, Position, Labels, Room, Edition}
 use Rattle.orders.specs.Writes.{wanted, countOk, treeOf, contextAfter, present, kindsOk, asked}
 
 -- document 01's number and values for each answer: 0, with the records, the bindings and the counter after them, where the order is accepted
@@ -33,6 +33,7 @@ causeOf Count = COUNT ∷ []
 causeOf Position = POSITION ∷ []
 causeOf Labels = LABELS ∷ []
 causeOf (Room bytes) = ROOM ∷ bytes ∷ []
+causeOf Edition = EDITION ∷ []
 
 -- the counter after an answer, the last of the accepted order's numbers: a refusal has none, and keeps it
 abbrev pub counterAfter : ℕ → Answer → ℕ
@@ -49,6 +50,7 @@ accepted Count = false
 accepted Position = false
 accepted Labels = false
 accepted (Room bytes) = false
+accepted Edition = false
 
 -- what goes in with an order: its bytes, those of the bindings that follow it, the label counter, and how many bytes the two outputs have
 pub record Asked : Type 0 where
@@ -123,12 +125,12 @@ recordsOutput g context q o = cond (accepted (answerTo g context q)) (sets o 0 (
 abbrev pub contextOutput : Shape → List ℕ → Asked → List ℕ → List ℕ
 contextOutput g context q o = cond (accepted (answerTo g context q)) (sets o 0 (orderContext context q)) o
 
--- the answer and the two outputs by frame: where there is no such frame, both outputs stay
-abbrev pub answerIn : Framed → List ℕ → Asked → Answer
-answerIn f context q = inShape f (λ g. answerTo g context q) (unframed context q)
+-- the answer and the two outputs by edition and frame: where there is no such edition or frame, both outputs stay
+abbrev pub answerIn : Shaped → List ℕ → Asked → Answer
+answerIn f context q = inShape f (λ g. answerTo g context q) (unframed context q) Edition
 
-abbrev pub recordsIn : Framed → List ℕ → Asked → List ℕ → List ℕ
-recordsIn f context q o = inShape f (λ g. recordsOutput g context q o) o
+abbrev pub recordsIn : Shaped → List ℕ → Asked → List ℕ → List ℕ
+recordsIn f context q o = inShape f (λ g. recordsOutput g context q o) o o
 
-abbrev pub contextIn : Framed → List ℕ → Asked → List ℕ → List ℕ
-contextIn f context q o = inShape f (λ g. contextOutput g context q o) o
+abbrev pub contextIn : Shaped → List ℕ → Asked → List ℕ → List ℕ
+contextIn f context q o = inShape f (λ g. contextOutput g context q o) o o

@@ -1,6 +1,6 @@
 // What an order is answered with.
 
-// Accepted, with the number of records, the counter after them and the number of bindings in the context after them; or refused, by document 01's causes.
+// Accepted, with the number of records, the counter after them and the number of bindings in the context after them; or refused, by the documents' causes.
 pub enum Answer {
     Accepted(usize, u64, usize),
     // 1: the context or the bindings
@@ -21,4 +21,6 @@ pub enum Answer {
     Labels,
     // 10: an output is too short, with the bytes needed
     Room(usize),
+    // 23: no such edition, before all others
+    Edition,
 }

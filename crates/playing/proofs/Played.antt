@@ -16,9 +16,9 @@ use Rattle.records.proofs.Joined.{joined-length}
 use Rattle.trees.specs.Tree.{Tree, size, flat}
 use Rattle.trees.specs.Flat.{length-flat}
 use Rattle.layout.specs.declared.config.Shape.{Shape}
-use Rattle.layout.specs.declared.config.Framed.{Framed}
-use Rattle.layout.specs.declared.config.Framed.the-variants.{Of, Unknown}
-use Rattle.layout.specs.Config.{Supported, larger, shapeOf, mostVariables, stackDepth, blockWords}
+use Rattle.layout.specs.declared.config.Shaped.{Shaped}
+use Rattle.layout.specs.declared.config.Shaped.the-variants.{In, NoFrame, NoEdition}
+use Rattle.layout.specs.Config.{Supported, larger, mostVariables, stackDepth, blockWords}
 use Rattle.memory.specs.Answered.{variablesIn}
 use Rattle.instructions.specs.View.{View, view}
 use Rattle.machine.specs.declared.run.Answer as run
@@ -26,7 +26,7 @@ use Rattle.machine.specs.declared.run.Answer.the-variants.{Ended}
 use Rattle.machine.specs.State.{freshRegisters}
 use Rattle.machine.specs.Run.{Done, ran, Leaves}
 use Rattle.orders.specs.declared.answer.Answer.{Answer}
-use Rattle.orders.specs.declared.answer.Answer.the-variants.{Accepted, Context, Malformed, Frame, Missing, Kind, Count, Position, Labels, Room}
+use Rattle.orders.specs.declared.answer.Answer.the-variants.{Accepted, Context, Malformed, Frame, Missing, Kind, Count, Position, Labels, Room, Edition}
 use Rattle.orders.proofs.answer.Answer.{the-type}
 use Rattle.orders.specs.Writes.{treeOf, contextAfter}
 use Rattle.orders.specs.Answered.{Asked, accepted, orderIs, orderTree, orderContext, answerTo, unframed, recordsOf}
@@ -34,15 +34,22 @@ use Rattle.judging.proofs.Leaving.{context-long, after-long}
 use Rattle.answering.specs.Answers.{AnswersOrder}
 use Rattle.answering.specs.Answers as answering
 use Rattle.playing.specs.declared.channel.Channel as code
-use Rattle.playing.specs.Playing.{Channel, fresh, isAccepted, channelOf, asking, Plays, Stays, PlaysIn}
+use Rattle.playing.specs.Playing.{Channel, fresh, isAccepted, channelOf, shapeIn, asking, Plays, Stays, unframedOn, SameShape, PlaysIn}
 use Rattle.orders.proofs.Accepting.{good-context, taken}
 
--- a frame has one shape, or none
-pub same-shape : {f : Framed} {g h : Shape} → f ≡ Of g → f ≡ Of h → g ≡ h
+-- an edition and a frame have one shape, or none for one cause
+pub same-shape : {f : Shaped} {g h : Shape} → f ≡ In g → f ≡ In h → g ≡ h
 same-shape e k = cc
 
-pub no-shape : {A : Type 0} {f : Framed} {g : Shape} → f ≡ Unknown → f ≡ Of g → A
-no-shape e k = let z : _≡_ {A = ℕ} 0 1 = cc in absurd (omega arith)
+module _ {A : Type 0} {f : Shaped} where
+  pub framed : {g : Shape} → f ≡ NoFrame → f ≡ In g → A
+  framed e k = let z : _≡_ {A = ℕ} 0 1 = cc in absurd (omega arith)
+
+  pub known : {g : Shape} → f ≡ NoEdition → f ≡ In g → A
+  known e k = let z : _≡_ {A = ℕ} 0 1 = cc in absurd (omega arith)
+
+  pub one-cause : f ≡ NoFrame → f ≡ NoEdition → A
+  one-cause e k = let z : _≡_ {A = ℕ} 0 1 = cc in absurd (omega arith)
 
 -- what is taken of equal words
 take-replicate : (n m x : ℕ) → n ≤ m → take n (replicate m x) ≡ replicate n x
@@ -70,12 +77,12 @@ module _ (g : Shape) (u : Supported g) where
   starts-so e blocks = rw (e, take-replicate (stackDepth g) (stackDepth larger) 0 depth-there)
 
 -- a context of which all bytes are in use
-pub all-used : {f : Framed} {q : Asked} {r : Answer} {o o′ a a′ : List ℕ} (s : List ℕ) (used : ℕ) → length s ≤ used → AnswersOrder f s q r o o′ a a′ → AnswersOrder f (take used s) q r o o′ a a′
+pub all-used : {f : Shaped} {q : Asked} {r : Answer} {o o′ a a′ : List ℕ} (s : List ℕ) (used : ℕ) → length s ≤ used → AnswersOrder f s q r o o′ a a′ → AnswersOrder f (take used s) q r o o′ a a′
 all-used s used h w = rw (take-all used s h) w
 
 -- an answer that is none but the first of its kinds is a refusal
-pub not-accepted : (r : Answer) → OneOf (1 ∷ 2 ∷ 3 ∷ 4 ∷ 5 ∷ 6 ∷ 7 ∷ 8 ∷ 9 ∷ []) (tagOf the-type r) → accepted r ≡ false
-not-accepted (Accepted records counter bindings) k = absurd (miss (1 ∷ 2 ∷ 3 ∷ 4 ∷ 5 ∷ 6 ∷ 7 ∷ 8 ∷ 9 ∷ []) 0 tt k)
+pub not-accepted : (r : Answer) → OneOf (1 ∷ 2 ∷ 3 ∷ 4 ∷ 5 ∷ 6 ∷ 7 ∷ 8 ∷ 9 ∷ 10 ∷ []) (tagOf the-type r) → accepted r ≡ false
+not-accepted (Accepted records counter bindings) k = absurd (miss (1 ∷ 2 ∷ 3 ∷ 4 ∷ 5 ∷ 6 ∷ 7 ∷ 8 ∷ 9 ∷ 10 ∷ []) 0 tt k)
 not-accepted Context k = refl
 not-accepted (Malformed place) k = refl
 not-accepted Frame k = refl
@@ -85,6 +92,7 @@ not-accepted Count k = refl
 not-accepted Position k = refl
 not-accepted Labels k = refl
 not-accepted (Room bytes) k = refl
+not-accepted Edition k = refl
 
 -- what an accepted answer counts, where the context has k variables
 pub record CountedAt (g : Shape) (context : List ℕ) (q : Asked) (n m k : ℕ) : Type 0 where
@@ -119,7 +127,7 @@ start-of o s n e h = rw (sets-eq s o 0 (omega arith)) (take-at s _ n e)
 records-long : (t : Tree) (c : ℕ) → length (joined codeBytes (flat t c)) ≡ 24 * size t
 records-long t c = omega (arith, joined-length code-laws (flat t c), length-flat t c 0)
 
-module _ {g : Shape} (ch : Channel) (q : Asked) (words : ℕ → ℕ) {r : Answer} {o o′ a a′ : List ℕ} (s : AnswersOrder (Of g) (ch .context) q r o o′ a a′) where
+module _ {g : Shape} (ch : Channel) (q : Asked) (words : ℕ → ℕ) {r : Answer} {o o′ a a′ : List ℕ} (s : AnswersOrder (In g) (ch .context) q r o o′ a a′) where
   pub refused-plays : accepted r ≡ false → Plays g ch q words ch r (Ended 0) o o′
   refused-plays f =
       let e : isAccepted g ch q ≡ false = ap accepted (sym (s .answer)) ∙ f in
@@ -166,24 +174,36 @@ module _ {g : Shape} (ch : Channel) (q : Asked) (words : ℕ → ℕ) {r : Answe
         rw (take-append-le (8 * m) a′ context (omega (arith, long, k, bindings-there)), take-at S stack (stackDepth g) h) (accepted-plays k w)
 
 -- the room of a frame
-pub in-shape : {f : Framed} {g : Shape} {context order bindings : List ℕ} {counter : ℕ} {r : Answer} {o o′ a a′ : List ℕ} → f ≡ Of g → length a ≡ 8 * mostVariables g
-    → AnswersOrder f context (answering.asking order bindings counter o a) r o o′ a a′ → AnswersOrder (Of g) context (asking g order bindings counter o) r o o′ a a′
+pub in-shape : {f : Shaped} {g : Shape} {context order bindings : List ℕ} {counter : ℕ} {r : Answer} {o o′ a a′ : List ℕ} → f ≡ In g → length a ≡ 8 * mostVariables g
+    → AnswersOrder f context (answering.asking order bindings counter o a) r o o′ a a′ → AnswersOrder (In g) context (asking g order bindings counter o) r o o′ a a′
 in-shape e l w = rw (e, l) at w
 
--- by the channel's frame
+-- an edition and a frame are kept
+same-channel : {c c′ : code.Channel} → c′ ≡ c → SameShape c c′
+same-channel e = record { edition = ap (λ (z : code.Channel). z .edition) e; frame = ap (λ (z : code.Channel). z .frame) e }
+
+-- by the channel's edition and frame
 module _ {c : code.Channel} {order bindings : List ℕ} {counter : ℕ} {r : Answer} {o o′ : List ℕ} where
   -- what the answer leaves where there is no such frame, whatever room is lent for the context
-  pub refused-stays : {a a′ : List ℕ} → shapeOf (c .frame) ≡ Unknown → AnswersOrder (shapeOf (c .frame)) (take (c .used) (c .context)) (answering.asking order bindings counter o a) r o o′ a a′
-      → (heap : List ℕ) → Stays c (answering.asking order bindings counter o []) c heap heap r (Ended 0) o o′
+  pub refused-stays : {a a′ : List ℕ} → shapeIn c ≡ NoFrame → AnswersOrder (shapeIn c) (take (c .used) (c .context)) (answering.asking order bindings counter o a) r o o′ a a′
+      → (heap : List ℕ) → Stays c (unframedOn c (answering.asking order bindings counter o [])) c heap heap r (Ended 0) o o′
   unfolding unframed
   refused-stays e w heap =
       let s = rw e at w in
       record { answer = answers-by (s .answer); channel = refl; heap-kept = refl; ran = answers-by refl; records = s .records }
 
   module _ {c′ : code.Channel} {words : ℕ → ℕ} {heap heap′ : List ℕ} {x : run.Answer} where
-    pub plays-known : {g : Shape} → shapeOf (c .frame) ≡ Of g → c′ .frame ≡ c .frame → Plays g (channelOf g c heap) (asking g order bindings counter o) words (channelOf g c′ heap′) r x o o′
+    pub plays-known : {g : Shape} → shapeIn c ≡ In g → SameShape c c′ → Plays g (channelOf g c heap) (asking g order bindings counter o) words (channelOf g c′ heap′) r x o o′
         → PlaysIn c order bindings counter words c′ heap heap′ r x o o′
-    plays-known e k p = record { frame = k; known = λ h f. rw (same-shape e f) at p; unknown = λ f. no-shape f e }
+    plays-known e k p = record { same-shape = k; known = λ h f. rw (same-shape e f) at p; no-frame = λ f. framed f e; no-edition = λ f. known f e }
 
-    pub plays-unknown : shapeOf (c .frame) ≡ Unknown → Stays c (answering.asking order bindings counter o []) c′ heap heap′ r x o o′ → PlaysIn c order bindings counter words c′ heap heap′ r x o o′
-    plays-unknown e s = record { frame = ap (λ (z : code.Channel). z .frame) (s .channel); known = λ h f. no-shape e f; unknown = λ f. s }
+    pub plays-unframed : shapeIn c ≡ NoFrame → Stays c (unframedOn c (answering.asking order bindings counter o [])) c′ heap heap′ r x o o′
+        → PlaysIn c order bindings counter words c′ heap heap′ r x o o′
+    plays-unframed e s = record { same-shape = same-channel (s .channel); known = λ h f. framed e f; no-frame = λ f. s; no-edition = λ f. one-cause e f }
+
+    pub plays-unknown : shapeIn c ≡ NoEdition → Stays c Edition c′ heap heap′ r x o o′ → PlaysIn c order bindings counter words c′ heap heap′ r x o o′
+    plays-unknown e s = record { same-shape = same-channel (s .channel); known = λ h f. known e f; no-frame = λ f. one-cause f e; no-edition = λ f. s }
+
+-- where there is no such edition nothing is asked
+pub unknown-stays : (c : code.Channel) (heap o : List ℕ) → Stays c Edition c heap heap Edition (Ended 0) o o
+unknown-stays c heap o = record { answer = answers-by refl; channel = refl; heap-kept = refl; ran = answers-by refl; records = refl }

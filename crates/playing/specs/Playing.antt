@@ -8,7 +8,8 @@ use lib.ListN.{length, replicate, take}
 use Rattle.records.specs.Answers.{AnswersBy}
 use Rattle.trees.specs.Tree.{size}
 use Rattle.layout.specs.declared.config.Shape.{Shape}
-use Rattle.layout.specs.declared.config.Framed.the-variants.{Of, Unknown}
+use Rattle.layout.specs.declared.config.Shaped.{Shaped}
+use Rattle.layout.specs.declared.config.Shaped.the-variants.{In, NoFrame, NoEdition}
 use Rattle.layout.specs.Config.{shapeOf, mostVariables, stackDepth, blockWords}
 use Rattle.instructions.specs.View.{View, view}
 use Rattle.machine.specs.declared.run.Answer as run
@@ -17,6 +18,7 @@ use Rattle.machine.specs.State.{see, freshState}
 use Rattle.machine.specs.Run.{Done, ran}
 use Rattle.machine.specs.Run as machine
 use Rattle.orders.specs.declared.answer.Answer.{Answer}
+use Rattle.orders.specs.declared.answer.Answer.the-variants.{Edition}
 use Rattle.orders.specs.Answered.{Asked, causeOf, accepted, orderTree, orderContext, answerTo, unframed, recordsOf, recordsOutput}
 use Rattle.answering.specs.Answers as answering
 use Rattle.playing.specs.declared.channel.Channel as code
@@ -54,11 +56,16 @@ module _ (g : Shape) where
 abbrev pub channelOf : Shape → code.Channel → List ℕ → Channel
 channelOf g c heap = record { context = take (c .used) (c .context); view = view (c .registers) (take (stackDepth g) (c .stack)) heap }
 
--- the words with which a list of orders starts in a frame, on a zeroed heap of any number of blocks; where there is no such frame any will do, since every
--- order is refused there
-pub record Starts (frame : ℕ) (c : code.Channel) : Type 0 where
+-- the shape of its edition and frame
+abbrev pub shapeIn : code.Channel → Shaped
+shapeIn c = shapeOf (c .edition) (c .frame)
+
+-- the words with which a list of orders starts in an edition and a frame, on a zeroed heap of any number of blocks; where there is no such edition or frame any
+-- will do, since every order is refused there
+pub record Starts (edition frame : ℕ) (c : code.Channel) : Type 0 where
+  pub edition-is : c .edition ≡ edition
   pub frame-is : c .frame ≡ frame
-  pub starts : (g : Shape) → shapeOf frame ≡ Of g → (blocks : ℕ) → channelOf g c (replicate (blockWords g * blocks) 0) ≡ fresh g blocks
+  pub starts : (g : Shape) → shapeOf edition frame ≡ In g → (blocks : ℕ) → channelOf g c (replicate (blockWords g * blocks) 0) ≡ fresh g blocks
 
 -- what goes in with an order: the bindings of as many variables as have both positions are all the context that orders can reach
 abbrev pub asking : Shape → List ℕ → List ℕ → ℕ → List ℕ → Asked
@@ -72,16 +79,26 @@ pub record Plays (g : Shape) (ch : Channel) (q : Asked) (words : ℕ → ℕ) (c
   pub ran : AnswersBy machine.causeOf a (ends g ch q words)
   pub records : o′ ≡ recordsOutput g (ch .context) q o
 
--- where there is no such frame: an order is answered 1, 2 or 3, and all stays as it was
-pub record Stays (c : code.Channel) (q : Asked) (c′ : code.Channel) (heap heap′ : List ℕ) (r : Answer) (a : run.Answer) (o o′ : List ℕ) : Type 0 where
-  pub answer : AnswersBy causeOf r (unframed (take (c .used) (c .context)) q)
+-- an order that is answered so, and all stays as it was
+pub record Stays (c : code.Channel) (expected : Answer) (c′ : code.Channel) (heap heap′ : List ℕ) (r : Answer) (a : run.Answer) (o o′ : List ℕ) : Type 0 where
+  pub answer : AnswersBy causeOf r expected
   pub channel : c′ ≡ c
   pub heap-kept : heap′ ≡ heap
   pub ran : AnswersBy machine.causeOf a (Ended 0)
   pub records : o′ ≡ o
 
--- an order's bytes and its bindings' on the program's words, by the channel's frame, which stays
-pub record PlaysIn (c : code.Channel) (order bindings : List ℕ) (counter : ℕ) (words : ℕ → ℕ) (c′ : code.Channel) (heap heap′ : List ℕ) (r : Answer) (a : run.Answer) (o o′ : List ℕ) : Type 0 where
+-- where there is no such frame an order is answered 1, 2 or 3
+abbrev pub unframedOn : code.Channel → Asked → Answer
+unframedOn c q = unframed (take (c .used) (c .context)) q
+
+-- a channel has one edition and one frame throughout
+pub record SameShape (c c′ : code.Channel) : Type 0 where
+  pub edition : c′ .edition ≡ c .edition
   pub frame : c′ .frame ≡ c .frame
-  pub known : (g : Shape) → shapeOf (c .frame) ≡ Of g → Plays g (channelOf g c heap) (asking g order bindings counter o) words (channelOf g c′ heap′) r a o o′
-  pub unknown : shapeOf (c .frame) ≡ Unknown → Stays c (answering.asking order bindings counter o []) c′ heap heap′ r a o o′
+
+-- an order's bytes and its bindings' on the program's words, by the channel's edition and frame
+pub record PlaysIn (c : code.Channel) (order bindings : List ℕ) (counter : ℕ) (words : ℕ → ℕ) (c′ : code.Channel) (heap heap′ : List ℕ) (r : Answer) (a : run.Answer) (o o′ : List ℕ) : Type 0 where
+  pub same-shape : SameShape c c′
+  pub known : (g : Shape) → shapeIn c ≡ In g → Plays g (channelOf g c heap) (asking g order bindings counter o) words (channelOf g c′ heap′) r a o o′
+  pub no-frame : shapeIn c ≡ NoFrame → Stays c (unframedOn c (answering.asking order bindings counter o [])) c′ heap heap′ r a o o′
+  pub no-edition : shapeIn c ≡ NoEdition → Stays c Edition c′ heap heap′ r a o o′

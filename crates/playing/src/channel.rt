@@ -4,7 +4,7 @@ ghost use Prim.Native.Nat.{ℕ, _*_, _≤_};
 ghost use mathlib.Core.List.{List, []};
 ghost use lib.ListN.{length, take};
 ghost use Rattle.layout.specs.declared.config.Shape.{Shape};
-ghost use Rattle.layout.specs.declared.config.Framed.the-variants.{Of, Unknown};
+ghost use Rattle.layout.specs.declared.config.Shaped.the-variants.{In, NoFrame};
 ghost use Rattle.layout.specs.Config.{Supported, shapeOf, inFrame, stackDepth, blockWords};
 ghost use Rattle.instructions.specs.View.{view, wordsOf};
 ghost use Rattle.machine.specs.State.{freshRegisters};
@@ -12,8 +12,9 @@ ghost use Rattle.machine.specs.Run.{ran, Leaves};
 ghost use Rattle.answering.specs.Answers as answering;
 ghost use Rattle.playing.specs.Playing as is;
 use layout::config;
-use layout::config::Framed;
+use layout::config::Choice;
 use layout::config::Shape;
+use layout::config::Shaped;
 use orders::answer::Answer;
 
 // The bytes of a context with as many variables as the largest frame has positions for, and the words of that frame's stack.
@@ -25,8 +26,9 @@ pub const STACK: usize = 576;
 pub const RECORDS: usize = 202464;
 
 // The context's bytes, of which the first `used` count, beside the machine's state: of the stack the frame's words count, its number of spills and 64. The heap
-// is lent.
+// is lent, of the edition's blocks.
 pub struct Channel {
+    pub edition: u64,
     pub frame: u64,
     pub used: usize,
     pub context: [u8; CONTEXT],
@@ -45,31 +47,33 @@ pub struct Played {
 pub fn stack_words(frame: u64) -> usize
     ensures { λ r. ⌜ r ≡ inFrame frame stackDepth 0 ⌝ }
 {
-    match config::shape_of(frame) {
-        Framed::Of(g) => (g.spills + 64) as usize,
-        Framed::Unknown => 0,
+    match config::frame_of(frame) {
+        Choice::Of(g) => (g.spills + 64) as usize,
+        Choice::Unknown => 0,
     }
 }
 
-// In an unknown frame any will do: every order is refused there.
-fn fresh_registers(frame: u64) -> [u64; 16]
-    ensures { λ r. ⌜ ((g : Shape) → shapeOf frame ≡ Of g → r ≡ freshRegisters g) ⌝ }
+// Where there is no such edition or frame any will do: every order is refused there.
+fn fresh_registers(edition: u64, frame: u64) -> [u64; 16]
+    ensures { λ r. ⌜ ((g : Shape) → shapeOf edition frame ≡ In g → r ≡ freshRegisters g) ⌝ }
 {
-    match config::shape_of(frame) {
-        Framed::Of(g) => machine::state::fresh_registers(g),
-        Framed::Unknown => [0; 16],
+    match config::shape_of(edition, frame) {
+        Shaped::In(g) => machine::state::fresh_registers(g),
+        Shaped::NoFrame => [0; 16],
+        Shaped::NoEdition => [0; 16],
     }
 }
 
 // With which a list of orders starts, on a zeroed heap.
-pub fn fresh(frame: u64) -> Channel
-    ensures { λ r. ⌜ is.Starts frame r ⌝ }
+pub fn fresh(edition: u64, frame: u64) -> Channel
+    ensures { λ r. ⌜ is.Starts edition frame r ⌝ }
 {
     Channel {
+        edition,
         frame,
         used: 0,
         context: [0; CONTEXT],
-        registers: fresh_registers(frame),
+        registers: fresh_registers(edition, frame),
         stack: [0; STACK],
     }
 }
@@ -78,6 +82,7 @@ pub fn fresh(frame: u64) -> Channel
 fn ask(
     records_out: &mut [u8],
     context_out: &mut [u8],
+    edition: u64,
     frame: u64,
     context: &[u8],
     used: usize,
@@ -85,12 +90,13 @@ fn ask(
     order: &[u8],
     bindings: &[u8],
 ) -> Answer
-    ensures { λ r. ⌜ answering.AnswersOrder (shapeOf frame) (take used (now (context .entry))) (answering.asking (now (order .entry)) (now (bindings .entry)) counter (now («records_out» .entry)) (now («context_out» .entry))) r (now («records_out» .entry)) (now («records_out» .exit)) (now («context_out» .entry)) (now («context_out» .exit)) ⌝ }
+    ensures { λ r. ⌜ answering.AnswersOrder (shapeOf edition frame) (take used (now (context .entry))) (answering.asking (now (order .entry)) (now (bindings .entry)) counter (now («records_out» .entry)) (now («context_out» .entry))) r (now («records_out» .entry)) (now («records_out» .exit)) (now («context_out» .entry)) (now («context_out» .exit)) ⌝ }
 {
     if used <= context.len() {
         return answering::order::order(
             records_out,
             context_out,
+            edition,
             frame,
             &context[..used],
             counter,
@@ -101,6 +107,7 @@ fn ask(
     answering::order::order(
         records_out,
         context_out,
+        edition,
         frame,
         context,
         counter,
@@ -135,7 +142,7 @@ fn run_records(
     )
 }
 
-// An order in the shape of the channel's frame.
+// An order in the shape of the channel's edition and frame.
 fn play_in(
     g: Shape,
     channel: Channel,
@@ -146,8 +153,8 @@ fn play_in(
     bindings: &[u8],
     words: [u64; 9],
 ) -> Played
-    requires { ⌜ (shapeOf (channel .frame) ≡ Of g) × Supported g ⌝ }
-    ensures { λ r. ⌜ (r .channel .frame ≡ channel .frame) × is.Plays g (is.channelOf g channel (now (heap .entry))) (is.asking g (now (order .entry)) (now (bindings .entry)) counter (now («records_out» .entry))) (wordsOf words) (is.channelOf g (r .channel) (now (heap .exit))) (r .answer) (r .ran) (now («records_out» .entry)) (now («records_out» .exit)) ⌝ }
+    requires { ⌜ (is.shapeIn channel ≡ In g) × Supported g ⌝ }
+    ensures { λ r. ⌜ is.SameShape channel (r .channel) × is.Plays g (is.channelOf g channel (now (heap .entry))) (is.asking g (now (order .entry)) (now (bindings .entry)) counter (now («records_out» .entry))) (wordsOf words) (is.channelOf g (r .channel) (now (heap .exit))) (r .answer) (r .ran) (now («records_out» .entry)) (now («records_out» .exit)) ⌝ }
 {
     let room = (8 * ((g.spills + 11) / 2)) as usize;
     let depth = (g.spills + 64) as usize;
@@ -158,6 +165,7 @@ fn play_in(
     let answer = ask(
         records_out,
         &mut after[..room],
+        channel.edition,
         channel.frame,
         &context,
         channel.used,
@@ -183,6 +191,7 @@ fn play_in(
     );
     Played {
         channel: Channel {
+            edition: channel.edition,
             frame: channel.frame,
             used: 8 * count,
             context: after,
@@ -202,14 +211,15 @@ fn refuse(
     order: &[u8],
     bindings: &[u8],
 ) -> Played
-    requires { ⌜ shapeOf (channel .frame) ≡ Unknown ⌝ }
-    ensures { λ r. ⌜ ((heap : List ℕ) → is.Stays channel (answering.asking (now (order .entry)) (now (bindings .entry)) counter (now («records_out» .entry)) []) (r .channel) heap heap (r .answer) (r .ran) (now («records_out» .entry)) (now («records_out» .exit))) ⌝ }
+    requires { ⌜ is.shapeIn channel ≡ NoFrame ⌝ }
+    ensures { λ r. ⌜ ((heap : List ℕ) → is.Stays channel (is.unframedOn channel (answering.asking (now (order .entry)) (now (bindings .entry)) counter (now («records_out» .entry)) [])) (r .channel) heap heap (r .answer) (r .ran) (now («records_out» .entry)) (now («records_out» .exit))) ⌝ }
 {
     let context = channel.context;
     let mut none = [0u8; 1];
     let answer = ask(
         records_out,
         &mut none,
+        channel.edition,
         channel.frame,
         &context,
         channel.used,
@@ -236,8 +246,8 @@ pub fn play(
 ) -> Played
     ensures { λ r. ⌜ is.PlaysIn channel (now (order .entry)) (now (bindings .entry)) counter (wordsOf words) (r .channel) (now (heap .entry)) (now (heap .exit)) (r .answer) (r .ran) (now («records_out» .entry)) (now («records_out» .exit)) ⌝ }
 {
-    match config::shape_of(channel.frame) {
-        Framed::Of(g) => play_in(
+    match config::shape_of(channel.edition, channel.frame) {
+        Shaped::In(g) => play_in(
             g,
             channel,
             heap,
@@ -247,6 +257,11 @@ pub fn play(
             bindings,
             words,
         ),
-        Framed::Unknown => refuse(channel, records_out, counter, order, bindings),
+        Shaped::NoFrame => refuse(channel, records_out, counter, order, bindings),
+        Shaped::NoEdition => Played {
+            channel,
+            answer: Answer::Edition,
+            ran: machine::run::Answer::Ended(0),
+        },
     }
 }

@@ -1,16 +1,18 @@
--- What a run gives and what a start sets, told by the frame.
+-- What a run gives and what a start sets, told by the edition and the frame.
 use Prim.Native.Nat.{ℕ}
 use mathlib.Core.Path.{_≡_, refl, ap, _∙_}
 use mathlib.Core.Bool.{Bool, true, false}
 use mathlib.Core.List.{List, [], _∷_}
 use lib.ListN.{replicate}
-use Rattle.records.specs.Causes.{ACCEPTED, MALFORMED, OPERAND}
+use Rattle.records.specs.Causes.{ACCEPTED, MALFORMED, OPERAND, EDITION}
 use Rattle.records.specs.declared.check.Checked.the-variants.{Good, Malformed}
 use Rattle.records.specs.Instructions.{checkedCodes}
-use Rattle.layout.specs.declared.config.Framed.{Framed}
-use Rattle.layout.specs.declared.config.Framed.the-variants.{Of, Unknown}
+use Rattle.layout.specs.declared.config.Choice.{Choice}
+use Rattle.layout.specs.declared.config.Choice.the-variants.{Of, Unknown}
+use Rattle.layout.specs.declared.config.Shaped.{Shaped}
+use Rattle.layout.specs.declared.config.Shaped.the-variants.{In, NoFrame, NoEdition}
 use Rattle.layout.specs.declared.config.Shape.{Shape}
-use Rattle.layout.specs.Config.{base, stackDepth, blockWords}
+use Rattle.layout.specs.Config.{stackDepth, blockWords}
 use Rattle.machine.specs.declared.run.Answer.{Answer}
 use Rattle.instructions.specs.View.{View}
 use Rattle.instructions.specs.Memory.{heapOk}
@@ -22,19 +24,29 @@ start-stack : (g : Shape) (fresh : Bool) → replicate (stackDepth g) 0 ≡ star
 start-stack g true = refl
 start-stack g false = refl
 
-module _ (f : Framed) (fresh : Bool) {registers registers′ stack stack′ : List ℕ} where
-  pub starts : {g : Shape} {words : ℕ} → f ≡ Of g → registers′ ≡ startState g fresh .registers → words ≡ stackDepth g → stack′ ≡ replicate words 0 → Starts f fresh ACCEPTED registers registers′ stack stack′
+module _ (f : Shaped) (fresh : Bool) {registers registers′ stack stack′ : List ℕ} where
+  pub starts : {g : Shape} {words : ℕ} → f ≡ In g → registers′ ≡ startState g fresh .registers → words ≡ stackDepth g → stack′ ≡ replicate words 0 → Starts f fresh ACCEPTED registers registers′ stack stack′
   starts {g} e r w s = rw e (record { answer = refl; registers-set = r; stack-set = s ∙ ap (λ (n : ℕ). replicate n 0) w ∙ start-stack g fresh })
 
-  pub does-not-start : f ≡ Unknown → registers′ ≡ registers → stack′ ≡ stack → Starts f fresh OPERAND registers registers′ stack stack′
-  does-not-start e r s = rw e (record { answer = refl; registers-set = r; stack-set = s })
+  pub unframed-start : f ≡ NoFrame → registers′ ≡ registers → stack′ ≡ stack → Starts f fresh OPERAND registers registers′ stack stack′
+  unframed-start e r s = rw e (record { answer = refl; registers-set = r; stack-set = s })
 
-module _ (f : Framed) (words : ℕ → ℕ) (s : List ℕ) (limit : ℕ) {v v′ : View} {n m p : ℕ} where
-  pub gives : {g : Shape} {a : Answer} → f ≡ Of g → Leaves a v′ (ran (blockWords g) words s limit v) → n ∷ m ∷ p ∷ [] ≡ runNumbers a → Gives f words s limit v v′ n m p
-  gives e l k = rw e (record { numbers = k ∙ ap runNumbers (l .answer); last = l .last })
+  pub unknown-start : f ≡ NoEdition → registers′ ≡ registers → stack′ ≡ stack → Starts f fresh EDITION registers registers′ stack stack′
+  unknown-start e r s = rw e (record { answer = refl; registers-set = r; stack-set = s })
 
-  pub gives-none : f ≡ Unknown → v′ ≡ v → n ∷ m ∷ p ∷ [] ≡ unrun (blockWords base) s (v .size) → Gives f words s limit v v′ n m p
-  gives-none e l k = rw e (record { numbers = k; last = l })
+module _ (edition frame : Choice) (words : ℕ → ℕ) (s : List ℕ) (limit : ℕ) {v v′ : View} {n m p : ℕ} where
+  pub gives : {b g : Shape} {a : Answer} {block : ℕ} → edition ≡ Of b → block ≡ blockWords b → frame ≡ Of g → Leaves a v′ (ran block words s limit v) → n ∷ m ∷ p ∷ [] ≡ runNumbers a
+      → Gives edition frame words s limit v v′ n m p
+  gives e k f l t =
+      let w = rw k at l in
+      rw (e, f) (record { numbers = t ∙ ap runNumbers (w .answer); last = w .last })
+
+  pub gives-none : {b : Shape} {block : ℕ} → edition ≡ Of b → block ≡ blockWords b → frame ≡ Unknown → v′ ≡ v → n ∷ m ∷ p ∷ [] ≡ unrun block s (v .size)
+      → Gives edition frame words s limit v v′ n m p
+  gives-none e k f l t = rw (e, f) (record { numbers = rw k at t; last = l })
+
+  pub gives-unknown : edition ≡ Unknown → v′ ≡ v → n ∷ m ∷ p ∷ [] ≡ EDITION ∷ 0 ∷ 0 ∷ [] → Gives edition frame words s limit v v′ n m p
+  gives-unknown e l t = rw e (record { numbers = t; last = l })
 
 module _ (block : ℕ) (s : List ℕ) (size : ℕ) where
   pub bad-heap : heapOk block size ≡ false → MALFORMED ∷ 0 ∷ 0 ∷ [] ≡ unrun block s size

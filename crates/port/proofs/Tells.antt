@@ -3,7 +3,7 @@ use Prim.Native.Nat.{ℕ}
 use mathlib.Core.Path.{_≡_, ap, _∙_}
 use mathlib.Core.List.{List, [], _∷_}
 use Rattle.records.specs.declared.code.Code.{Code}
-use Rattle.layout.specs.declared.config.Framed.{Framed}
+use Rattle.layout.specs.declared.config.Shaped.{Shaped}
 use Rattle.emit.specs.declared.answer.Answer.{Answer}
 use Rattle.emit.specs.Answers.{Answers}
 use Rattle.routine.specs.Routine.{Assembles}
@@ -21,5 +21,5 @@ tells a e = record { numbers = e ∙ ap answerNumbers (a .answer); bytes = a .by
 pub tells-routine : {o o′ : List ℕ} {r expected : Answer} {routine : List ℕ} {number value : ℕ} → Assembles o o′ r expected routine → number ∷ value ∷ [] ≡ answerNumbers r → TellsRoutine o o′ number value expected routine
 tells-routine a e = record { numbers = e ∙ ap answerNumbers (a .answer); bytes = a .bytes }
 
-pub tells-order : {f : Framed} {context o o′ a a′ : List ℕ} {q : Asked} {r : order.Answer} {number value bindings after : ℕ} → AnswersOrder f context q r o o′ a a′ → number ∷ value ∷ bindings ∷ [] ≡ orderNumbers r → after ≡ counterAfter (q .counter) r → TellsOrder f context q number value bindings after o o′ a a′
+pub tells-order : {f : Shaped} {context o o′ a a′ : List ℕ} {q : Asked} {r : order.Answer} {number value bindings after : ℕ} → AnswersOrder f context q r o o′ a a′ → number ∷ value ∷ bindings ∷ [] ≡ orderNumbers r → after ≡ counterAfter (q .counter) r → TellsOrder f context q number value bindings after o o′ a a′
 tells-order {q = q} s e d = record { numbers = e ∙ ap orderNumbers (s .answer); counter = d ∙ ap (counterAfter (q .counter)) (s .answer); records = s .records; context-after = s .after }

@@ -35,9 +35,11 @@ pub extern "C" fn axcut_operation(
     numbered::emission::told(answer, value)
 }
 
-// The operations of memory.rs: erase_block and share_block_n of an operand, a store of the context's last n variables, a load after the context.
+// The operations of memory.rs: erase_block and share_block_n of an operand; a store of the context's last n variables and a load after the context, in the blocks
+// of an edition.
 #[no_mangle]
 pub extern "C" fn axcut_memory(
+    edition: u64,
     frame: u64,
     operation: u64,
     operand: u64,
@@ -48,12 +50,13 @@ pub extern "C" fn axcut_memory(
     out: &mut [u8],
     value: &mut u64,
 ) -> u64
-    ensures answer { λ r. ⌜ Tells (now (out .entry)) (now (out .exit)) r (now (value .exit)) (memoryAnswer frame operation (now (counter .entry)) (length (now (out .entry))) operand n (now (context .entry)) (now (loaded .entry))) (memoryRecords frame operation (now (counter .entry)) operand n (now (context .entry)) (now (loaded .entry))) ⌝ }
-    ensures counter { λ r. ⌜ now (counter .exit) ≡ counterAfter (now (counter .entry)) (memoryAnswer frame operation (now (counter .entry)) (length (now (out .entry))) operand n (now (context .entry)) (now (loaded .entry))) ⌝ }
+    ensures answer { λ r. ⌜ Tells (now (out .entry)) (now (out .exit)) r (now (value .exit)) (memoryAnswer edition frame operation (now (counter .entry)) (length (now (out .entry))) operand n (now (context .entry)) (now (loaded .entry))) (memoryRecords edition frame operation (now (counter .entry)) operand n (now (context .entry)) (now (loaded .entry))) ⌝ }
+    ensures counter { λ r. ⌜ now (counter .exit) ≡ counterAfter (now (counter .entry)) (memoryAnswer edition frame operation (now (counter .entry)) (length (now (out .entry))) operand n (now (context .entry)) (now (loaded .entry))) ⌝ }
 {
     let before = *counter;
     let answer = numbered::emission::memory(
         out,
+        edition,
         frame,
         operation,
         before,
@@ -84,14 +87,15 @@ pub extern "C" fn axcut_print(
 
 #[no_mangle]
 pub extern "C" fn axcut_routine(
+    edition: u64,
     frame: u64,
     body: &[u8],
     arguments: usize,
     out: &mut [u8],
     value: &mut u64,
 ) -> u64
-    ensures { λ r. ⌜ TellsRoutine (now (out .entry)) (now (out .exit)) r (now (value .exit)) (routineIn frame (length (now (out .entry))) arguments (now (body .entry))) (routineBytesIn frame arguments (now (body .entry))) ⌝ }
+    ensures { λ r. ⌜ TellsRoutine (now (out .entry)) (now (out .exit)) r (now (value .exit)) (routineIn edition frame (length (now (out .entry))) arguments (now (body .entry))) (routineBytesIn edition frame arguments (now (body .entry))) ⌝ }
 {
-    let answer = routine::into_routine::into_x86_64_routine(out, frame, body, arguments);
+    let answer = routine::into_routine::into_x86_64_routine(out, edition, frame, body, arguments);
     numbered::emission::told(answer, value)
 }

@@ -8,10 +8,8 @@ ghost use Rattle.listing.specs.Listing.{listed, listedText};
 ghost use Rattle.instructions.specs.View.{view, wordsOf};
 ghost use Rattle.numbered.specs.Numbers.{numberIn, valueIn};
 ghost use Rattle.numbered.specs.List.{listedNumbers};
-ghost use Prim.Native.Nat.{_/_};
-ghost use Rattle.layout.specs.Config.{Supported, base, blockWords, shapeOn, HEAP, FREE};
-ghost use Rattle.chains.specs.Blocks.{counted, fitIn};
-ghost use Rattle.port.specs.Blocks.{blockNumbers};
+ghost use Rattle.layout.specs.Config.{Supported, editionOf, frameOn, shapeOn, HEAP, FREE};
+ghost use Rattle.port.specs.Blocks.{TellsBlocks};
 ghost use Rattle.port.specs.Run.{startState, Starts, unrun, Gives};
 
 pub mod check; // bytes checked: a context, instruction records, an order
@@ -21,8 +19,9 @@ pub mod order; // the seven orders
 
 use instructions::memory;
 use layout::config;
-use layout::config::Framed;
+use layout::config::Choice;
 use layout::config::Shape;
+use layout::config::Shaped;
 use records::check::Checked;
 use records::code;
 
@@ -61,16 +60,18 @@ fn clear(stack: &mut [u64])
 // The state with which a routine is entered, or that a list of orders starts from, on a stack of the frame's words.
 #[no_mangle]
 pub extern "C" fn axcut_start(
+    edition: u64,
     frame: u64,
     fresh: bool,
     registers: &mut [u64; 16],
     stack: &mut [u64],
 ) -> u64
-    ensures { λ r. ⌜ Starts (shapeOn frame (length (now (stack .entry)))) fresh r (now (registers .entry)) (now (registers .exit)) (now (stack .entry)) (now (stack .exit)) ⌝ }
+    ensures { λ r. ⌜ Starts (shapeOn edition frame (length (now (stack .entry)))) fresh r (now (registers .entry)) (now (registers .exit)) (now (stack .entry)) (now (stack .exit)) ⌝ }
 {
-    match config::shape_on(frame, stack.len()) {
-        Framed::Unknown => 3,
-        Framed::Of(g) => {
+    match config::shape_on(edition, frame, stack.len()) {
+        Shaped::NoEdition => 23,
+        Shaped::NoFrame => 3,
+        Shaped::In(g) => {
             let words = registers_of(g, fresh);
             *registers = words;
             clear(stack);
@@ -97,9 +98,10 @@ fn unrun(block: usize, records: &[u8], heap: usize, steps: &mut u64, place: &mut
     }
 }
 
-// Document 01's run on a lent state, heap and print words: the answer's number, with the steps and the record's place that go with it.
+// Document 01's run on a lent state, a heap of the edition's blocks and print words: the answer's number, with the steps and the record's place that go with it.
 #[no_mangle]
 pub extern "C" fn axcut_run(
+    edition: u64,
     frame: u64,
     records: &[u8],
     registers: &mut [u64; 16],
@@ -110,15 +112,17 @@ pub extern "C" fn axcut_run(
     steps: &mut u64,
     place: &mut u64,
 ) -> u64
-    ensures { λ r. ⌜ Gives (shapeOn frame (length (now (stack .entry)))) (wordsOf (now (words .entry))) (now (records .entry)) limit (view (now (registers .entry)) (now (stack .entry)) (now (heap .entry))) (view (now (registers .exit)) (now (stack .exit)) (now (heap .exit))) r (now (steps .exit)) (now (place .exit)) ⌝ }
+    ensures { λ r. ⌜ Gives (editionOf edition) (frameOn frame (length (now (stack .entry)))) (wordsOf (now (words .entry))) (now (records .entry)) limit (view (now (registers .entry)) (now (stack .entry)) (now (heap .entry))) (view (now (registers .exit)) (now (stack .exit)) (now (heap .exit))) r (now (steps .exit)) (now (place .exit)) ⌝ }
 {
-    match config::shape_on(frame, stack.len()) {
-        Framed::Unknown => {
-            let block = config::block_words(config::base()) as usize;
-            unrun(block, records, heap.len(), steps, place)
-        }
-        Framed::Of(g) => {
-            let block = config::block_words(g) as usize;
+    let Choice::Of(g) = config::edition_of(edition) else {
+        *steps = 0;
+        *place = 0;
+        return 23;
+    };
+    let block = config::block_words(g) as usize;
+    match config::frame_on(frame, stack.len()) {
+        Choice::Unknown => unrun(block, records, heap.len(), steps, place),
+        Choice::Of(_) => {
             let answer = machine::run::run_lent(
                 block,
                 records,
@@ -135,11 +139,19 @@ pub extern "C" fn axcut_run(
 
 // The blocks of a channel's heap between two runs, counted, and the most that were reachable at once.
 #[no_mangle]
-pub extern "C" fn axcut_blocks(registers: &[u64; 16], heap: &[u64], counts: &mut [u64; 5])
-    ensures { λ r. ⌜ now (counts .exit) ≡ blockNumbers (counted (base .fields) (length (now (heap .entry)) / blockWords base) (wordsOf (now (heap .entry))) (wordsOf (now (registers .entry)) HEAP) (wordsOf (now (registers .entry)) FREE)) (fitIn (base .fields) (length (now (heap .entry)) / blockWords base) (wordsOf (now (heap .entry))) (wordsOf (now (registers .entry)) FREE)) ⌝ }
+pub extern "C" fn axcut_blocks(
+    edition: u64,
+    registers: &[u64; 16],
+    heap: &[u64],
+    counts: &mut [u64; 5],
+) -> u64
+    ensures { λ r. ⌜ TellsBlocks (editionOf edition) (length (now (heap .entry))) (wordsOf (now (heap .entry))) (wordsOf (now (registers .entry)) HEAP) (wordsOf (now (registers .entry)) FREE) r (now (counts .entry)) (now (counts .exit)) ⌝ }
 {
-    let blocks = chains::count_blocks(registers, heap);
-    let fit = chains::to_fit(registers, heap);
+    let Choice::Of(g) = config::edition_of(edition) else {
+        return 23;
+    };
+    let blocks = chains::count_blocks_in(g, registers, heap);
+    let fit = chains::to_fit_in(g, registers, heap);
     *counts = [
         blocks.linear,
         blocks.lazy,
@@ -147,4 +159,5 @@ pub extern "C" fn axcut_blocks(registers: &[u64; 16], heap: &[u64], counts: &mut
         blocks.untouched,
         fit.peak,
     ];
+    0
 }

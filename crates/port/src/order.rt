@@ -6,6 +6,7 @@ ghost use Rattle.port.specs.Order.{TellsOrder};
 // Its records go into one output, the context after it into the other.
 #[no_mangle]
 pub extern "C" fn axcut_order(
+    edition: u64,
     frame: u64,
     context: &[u8],
     order: &[u8],
@@ -16,12 +17,13 @@ pub extern "C" fn axcut_order(
     value: &mut u64,
     count: &mut u64,
 ) -> u64
-    ensures { λ r. ⌜ TellsOrder (shapeOf frame) (now (context .entry)) (asking (now (order .entry)) (now (bindings .entry)) (now (counter .entry)) (now («records_out» .entry)) (now («context_out» .entry))) r (now (value .exit)) (now (count .exit)) (now (counter .exit)) (now («records_out» .entry)) (now («records_out» .exit)) (now («context_out» .entry)) (now («context_out» .exit)) ⌝ }
+    ensures { λ r. ⌜ TellsOrder (shapeOf edition frame) (now (context .entry)) (asking (now (order .entry)) (now (bindings .entry)) (now (counter .entry)) (now («records_out» .entry)) (now («context_out» .entry))) r (now (value .exit)) (now (count .exit)) (now (counter .exit)) (now («records_out» .entry)) (now («records_out» .exit)) (now («context_out» .entry)) (now («context_out» .exit)) ⌝ }
 {
     let before = *counter;
     let answer = answering::order::order(
         records_out,
         context_out,
+        edition,
         frame,
         context,
         before,

@@ -13,7 +13,7 @@ use crate::save;
 use emit::answer::Answer;
 use emit::cursor::Cursor;
 use emit::cursor::Row;
-use layout::config::Framed;
+use layout::config::Choice;
 use layout::config::STACK;
 use layout::config::Shape;
 use layout::config::TEMP;
@@ -125,9 +125,9 @@ fn print_checked(
 pub fn print_i64(out: &mut [u8], frame: u64, newline: bool, source: u64, context: &[u8]) -> Answer
     ensures { λ r. ⌜ Prints frame (now (out .entry)) (now (out .exit)) r newline source (now (context .entry)) ⌝ }
 {
-    match layout::config::shape_of(frame) {
-        Framed::Of(g) => print_i64_in(out, g, newline, source, context),
-        Framed::Unknown => emit::answer::unframed(context),
+    match layout::config::frame_of(frame) {
+        Choice::Of(g) => print_i64_in(out, g, newline, source, context),
+        Choice::Unknown => emit::answer::unframed(context),
     }
 }
 

@@ -1,4 +1,5 @@
--- The causes of a refusal and their numbers, from document 01, 'Causes and numbers'. The one table of them: what gives an answer's number and values cites it.
+-- The causes of a refusal and their numbers, from document 01, 'Causes and numbers', and document 02. The one table of them: what gives an answer's number and values cites it.
+-- Checked in rising order, but for 23, which comes first.
 use Prim.Native.Nat.{ℕ}
 
 -- the input is accepted
@@ -13,7 +14,7 @@ CONTEXT = 1
 abbrev pub MALFORMED : ℕ
 MALFORMED = 2
 
--- register not 4..15, spill not 1..255, label no record may hold
+-- register not 4..15, spill not 1 to the frame's last, field not of the edition's block, label no record may hold; no such frame
 abbrev pub OPERAND : ℕ
 OPERAND = 3
 
@@ -33,7 +34,7 @@ ARGUMENTS = 6
 abbrev pub COUNT : ℕ
 COUNT = 7
 
--- position above 266 needed
+-- a position past the frame's last needed
 abbrev pub POSITION : ℕ
 POSITION = 8
 
@@ -52,3 +53,7 @@ FAULT = 11
 -- step limit reached before the end. With the limit
 abbrev pub LIMIT : ℕ
 LIMIT = 12
+
+-- an edition other than 1 or 2
+abbrev pub EDITION : ℕ
+EDITION = 23

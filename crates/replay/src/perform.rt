@@ -114,7 +114,7 @@ fn ask(r: Request, context: &[u8]) -> Answered {
             r.label,
         )),
         23 => of_offset(layout::config::stack_offset(r.frame, word_of(r.x))),
-        24 => of_offset(layout::config::field_offset(half(r.kind), r.x)),
+        24 => of_offset(layout::config::field_offset(r.edition, half(r.kind), r.x)),
         _ => Answered {
             number: 2,
             value: 0,
@@ -133,10 +133,11 @@ pub fn perform(out: &mut [u8], r: Request, first: &[u8], second: &[u8]) -> Answe
         14 => of_answer(printing::code::print_i64(out, r.frame, r.kind == 1, r.x, first)),
         15 => of_answer(memory::block::erase_block(out, r.frame, r.counter, r.x)),
         16 => of_answer(memory::block::share_block_n(out, r.frame, r.counter, r.x, r.z)),
-        17 => of_answer(storing::store::store(out, r.frame, r.counter, first, r.z)),
-        18 => of_answer(loading::load::load(out, r.frame, r.counter, first, second)),
+        17 => of_answer(storing::store::store(out, r.edition, r.frame, r.counter, first, r.z)),
+        18 => of_answer(loading::load::load(out, r.edition, r.frame, r.counter, first, second)),
         19 => of_answer(routine::into_routine::into_x86_64_routine(
             out,
+            r.edition,
             r.frame,
             first,
             r.z as usize,

@@ -20,8 +20,13 @@ pub struct Request {
     pub value: u64,
     pub after: u64,
     pub sum: u64,
-    // how many spills the frame has
+    // the edition, and how many spills the frame has
+    pub edition: u64,
     pub frame: u64,
+}
+
+fn wide(x: u8) -> u64 {
+    x as u64
 }
 
 pub fn request_in(head: &[u8; 56]) -> Request {
@@ -40,6 +45,7 @@ pub fn request_in(head: &[u8; 56]) -> Request {
         value: bytes::number4(s, 36) as u64,
         after: bytes::number4(s, 40) as u64,
         sum: bytes::number8(s, 44),
+        edition: wide(s[3]),
         frame: bytes::number4(s, 52) as u64,
     }
 }

@@ -4,7 +4,7 @@ use Prim.Native.Nat.{ℕ, _-_}
 use mathlib.Core.Bool.{cond}
 use mathlib.Core.List.{List, [], _∷_, _++_}
 use lib.Dec.{eqb}
-use Rattle.records.specs.Causes.{CONTEXT, MALFORMED, OPERAND, MISSING, KIND, COUNT, POSITION, LABELS, ROOM}
+use Rattle.records.specs.Causes.{CONTEXT, MALFORMED, OPERAND, MISSING, KIND, COUNT, POSITION, LABELS, ROOM, EDITION}
 use Rattle.records.specs.declared.order.Order.{Order}
 use Rattle.records.specs.declared.order.Order.the-variants.{Put, Compute, Copy, Drop, Store, Load, Print}
 use Rattle.records.specs.declared.order.OrderRead.{OrderRead}
@@ -13,7 +13,7 @@ use Rattle.records.specs.Orders.{orderRead}
 use Rattle.text.specs.Text.{ascii, decimal}
 use Rattle.layout.specs.Config.{inFrame, positions}
 use Rattle.orders.specs.declared.answer.Answer.{Answer}
-use Rattle.orders.specs.declared.answer.Answer.the-variants.{Accepted, Context, Malformed, Frame, Missing, Kind, Count, Position, Labels, Room}
+use Rattle.orders.specs.declared.answer.Answer.the-variants.{Accepted, Context, Malformed, Frame, Missing, Kind, Count, Position, Labels, Room, Edition}
 use Rattle.orders.specs.Answered.{causeOf}
 use Rattle.reporting.specs.Parts.{counted}
 
@@ -50,7 +50,8 @@ causeWords frame n =
     (cond (eqb n COUNT) (ascii "a copy's count above 2147483647")
     (cond (eqb n POSITION) (positionWords frame)
     (cond (eqb n LABELS) (ascii "labels above 2147483647 needed, let the counter start afresh")
-    (cond (eqb n ROOM) (ascii "an output is too short") []))))))))
+    (cond (eqb n ROOM) (ascii "an output is too short")
+    (cond (eqb n EDITION) (ascii "an edition is 1 or 2") [])))))))))
 
 -- the value beside a number: the record's place for 2, the bytes needed for 10
 unfoldable pub causeValue : ℕ → ℕ → List ℕ
@@ -78,6 +79,7 @@ outcome frame before Count = refusal frame (causeOf Count)
 outcome frame before Position = refusal frame (causeOf Position)
 outcome frame before Labels = refusal frame (causeOf Labels)
 outcome frame before (Room bytes) = refusal frame (causeOf (Room bytes))
+outcome frame before Edition = refusal frame (causeOf Edition)
 
 unfoldable pub orderLine : ℕ → ℕ → List ℕ → ℕ → Answer → List ℕ
 orderLine frame number order before answer = start number order ++ outcome frame before answer ++ ascii "\n"

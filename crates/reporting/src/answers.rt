@@ -10,7 +10,7 @@ ghost use Rattle.orders.specs.Answered.{causeOf};
 ghost use Rattle.reporting.specs.Parts.{counted};
 ghost use Rattle.reporting.specs.Answers.{orderName, readName, start, refusal, acceptance, outcome, orderLine};
 use crate::parts;
-use layout::config::Framed;
+use layout::config::Choice;
 use layout::config::Shape;
 use orders::answer::Answer;
 use records::order::Order;
@@ -106,9 +106,9 @@ fn put_position(text: &mut [u8], at: usize, frame: u64) -> usize
     ensures { λ r. ⌜ Puts 75 (now (text .entry)) at (now (text .exit)) r (refusal frame (causeOf Answer.Position)) ⌝ }
 {
     let next = text::put_bytes(text, at, b"refused 8, too many variables");
-    match layout::config::shape_of(frame) {
-        Framed::Of(g) => put_last(text, next, g),
-        Framed::Unknown => next,
+    match layout::config::frame_of(frame) {
+        Choice::Of(g) => put_last(text, next, g),
+        Choice::Unknown => next,
     }
 }
 
@@ -140,6 +140,7 @@ fn put_outcome(text: &mut [u8], at: usize, frame: u64, before: u64, answer: Answ
             b", labels above 2147483647 needed, let the counter start afresh",
         ),
         Answer::Room(bytes) => put_short(text, at, bytes as u64),
+        Answer::Edition => put_refused(text, at, 23, b", an edition is 1 or 2"),
     }
 }
 

@@ -17,7 +17,7 @@ use Rattle.layout.specs.declared.config.Shape.{Shape}
 use Rattle.layout.specs.Config.{Supported, positions, mostVariables}
 use Rattle.memory.specs.Answered.{variablesIn}
 use Rattle.orders.specs.declared.answer.Answer.{Answer}
-use Rattle.orders.specs.declared.answer.Answer.the-variants.{Accepted, Context, Malformed, Frame, Missing, Kind, Count, Position, Labels, Room}
+use Rattle.orders.specs.declared.answer.Answer.the-variants.{Accepted, Context, Malformed, Frame, Missing, Kind, Count, Position, Labels, Room, Edition}
 use Rattle.orders.specs.Writes.{wanted, countOk, treeOf, contextAfter, present, kindsOk, asked}
 use Rattle.orders.specs.Answered.{Asked, accepted, orderIs, placesIn, orderContext, granted, onContext, answerTo}
 use Rattle.orders.proofs.Accepting.{all-passed, all-judged}
@@ -37,6 +37,7 @@ early Count = true
 early Position = true
 early Labels = false
 early (Room bytes) = false
+early Edition = true
 
 pub record Passed (g : Shape) (context : List ℕ) (q : Asked) (k : ℕ) : Type 0 where
   pub bindings-good : checkedContext (q .bindings) ≡ checked.Good (wanted (orderIs q))
@@ -107,6 +108,7 @@ accepted-late Count e = sym e
 accepted-late Position e = sym e
 accepted-late Labels e = refl
 accepted-late (Room bytes) e = refl
+accepted-late Edition e = sym e
 
 few-places : (g : Shape) (s : List ℕ) → length s ≤ 8 * mostVariables g → placesIn s ≤ mostVariables g
 few-places g s h = by (checkedContext s) refl

@@ -20,7 +20,7 @@ use Rattle.records.proofs.OrdersBack.{order-laws}
 use Rattle.records.proofs.ReadBack.{records-read-back}
 use Rattle.trees.specs.Tree.{labels}
 use Rattle.layout.specs.declared.config.Shape.{Shape}
-use Rattle.layout.specs.Config.{Supported, shapeOf, positions, mostVariables}
+use Rattle.layout.specs.Config.{Supported, frameOf, editionOf, shapeOf, positions, mostVariables}
 use Rattle.layout.specs.Positions.{location}
 use Rattle.memory.specs.Objects.{snd, extIn}
 use Rattle.memory.specs.Sizes.{store-object-size, immediate-size}
@@ -30,7 +30,7 @@ use Rattle.orders.specs.Answered.{Asked, orderIs, granted, answerTo}
 use Rattle.orders.proofs.Accepting.{all-passed, all-judged}
 use Rattle.judging.proofs.Leaving.{context-long, after-long}
 use Rattle.rooms.specs.Sizes.{variables, storeOfAll, roomForRecords, roomForContext}
-use Rattle.rooms.specs.Claims.{ordering, RoomsByFrame, OrdersFill}
+use Rattle.rooms.specs.Claims.{ordering, RoomsByShape, OrdersFill}
 use Rattle.rooms.proofs.Answering.{records-short, context-short}
 use Rattle.rooms.proofs.OrderSizes.{order-most}
 
@@ -107,8 +107,18 @@ module _ (g : Shape) (s : Supported g) (room : ℕ) where
 
 pub orders-fill : OrdersFill
 unfolding treeOf location bindingBytes le
-orders-fill = record { store-reaches = λ n. refl; load-reaches = λ n. refl; records-needed = records-needed; context-needed = context-needed }
+orders-fill = record { store-reaches = λ n. refl; load-reaches = λ n. refl; second-store-reaches = λ n. refl; second-load-reaches = λ n. refl; records-needed = records-needed; context-needed = context-needed }
 
-pub rooms-by-frame : RoomsByFrame
-unfolding shapeOf treeOf location bindingBytes le
-rooms-by-frame = record { variables-256 = refl; records-256 = refl; context-256 = refl; variables-512 = refl; records-512 = refl; context-512 = refl }
+pub rooms-by-shape : RoomsByShape
+unfolding frameOf editionOf shapeOf treeOf location bindingBytes le
+rooms-by-shape =
+    record {
+      variables-256 = (refl, refl);
+      variables-512 = (refl, refl);
+      context-256 = (refl, refl);
+      context-512 = (refl, refl);
+      records-256 = refl;
+      records-512 = refl;
+      second-records-256 = refl;
+      second-records-512 = refl;
+    }

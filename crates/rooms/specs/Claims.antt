@@ -16,7 +16,7 @@ use Rattle.records.specs.Orders.{orderFieldsOf, orderBytes}
 use Rattle.records.specs.ReadBack.{Bytes, joined, codeBytes}
 use Rattle.trees.specs.Tree.{size}
 use Rattle.layout.specs.declared.config.Shape.{Shape}
-use Rattle.layout.specs.Config.{Supported, base, inFrame, mostVariables}
+use Rattle.layout.specs.Config.{Supported, base, second, shapeOf, inShape, mostVariables}
 use Rattle.emit.specs.declared.answer.Answer.the-variants as emission
 use Rattle.routine.specs.Routine.{routineAnswer}
 use Rattle.orders.specs.declared.answer.Answer.the-variants.{Room}
@@ -40,28 +40,42 @@ pub record OrdersFit : Type 0 where
       (g : Shape) → Supported g → (context : List ℕ) (q : Asked) → placesIn context ≤ mostVariables g → accepted (answerTo g context q) ≡ true
       → placesIn (orderContext context q) ≤ mostVariables g
 
--- The sizes by the frame's number: AXCUT_MOST_VARIABLES, AXCUT_ROOM_FOR_RECORDS and AXCUT_ROOM_FOR_CONTEXT of the header, and those of the larger frame.
-pub record RoomsByFrame : Type 0 where
-  pub variables-256 : inFrame 256 mostVariables 0 ≡ 133
-  pub records-256 : inFrame 256 roomForRecords 0 ≡ 102624
-  pub context-256 : inFrame 256 roomForContext 0 ≡ 1064
-  pub variables-512 : inFrame 512 mostVariables 0 ≡ 261
-  pub records-512 : inFrame 512 roomForRecords 0 ≡ 202464
-  pub context-512 : inFrame 512 roomForContext 0 ≡ 2088
+-- what a shape decides, by the numbers of an edition and a frame
+abbrev pub sizeIn : ℕ → ℕ → (Shape → ℕ) → ℕ
+sizeIn edition frame size = inShape (shapeOf edition frame) size 0 0
+
+-- The sizes by these numbers: AXCUT_MOST_VARIABLES, AXCUT_ROOM_FOR_RECORDS and AXCUT_ROOM_FOR_CONTEXT of the header. Seven-field blocks take fewer records.
+pub record RoomsByShape : Type 0 where
+  pub variables-256 : (sizeIn 1 256 mostVariables ≡ 133) × (sizeIn 2 256 mostVariables ≡ 133)
+  pub variables-512 : (sizeIn 1 512 mostVariables ≡ 261) × (sizeIn 2 512 mostVariables ≡ 261)
+  pub context-256 : (sizeIn 1 256 roomForContext ≡ 1064) × (sizeIn 2 256 roomForContext ≡ 1064)
+  pub context-512 : (sizeIn 1 512 roomForContext ≡ 2088) × (sizeIn 2 512 roomForContext ≡ 2088)
+  pub records-256 : sizeIn 1 256 roomForRecords ≡ 102624
+  pub records-512 : sizeIn 1 512 roomForRecords ≡ 202464
+  pub second-records-256 : sizeIn 2 256 roomForRecords ≡ 67872
+  pub second-records-512 : sizeIn 2 512 roomForRecords ≡ 135648
 
 -- an order alone, with so many bytes for its records and the context after it
 abbrev pub ordering : Order → ℕ → ℕ → Asked
 ordering order records after =
     record { order = orderBytes (orderFieldsOf order); bindings = []; counter = 0; recordsRoom = records; contextRoom = after }
 
--- blocks of the first edition in a frame of so many spills
+-- blocks of the first edition, and of the second, in a frame of so many spills
 abbrev pub ofSpills : ℕ → Shape
 ofSpills n = record { fields = base .fields; spills = n }
+
+abbrev pub secondOfSpills : ℕ → Shape
+secondOfSpills n = record { fields = second .fields; spills = n }
 
 pub record OrdersFill : Type 0 where
   -- five linked variables in spills reach the bounds for a store and a load of five
   pub store-reaches : (n : ℕ) → size (treeOf (ofSpills n) (variables Linked 11) 11 [] (Store 5 0)) ≡ recordsWithin (ofSpills n) (Store 5 0)
   pub load-reaches : (n : ℕ) → size (treeOf (ofSpills n) (variables Linked 7) 7 (variables Linked 5) (Load 5)) ≡ recordsWithin (ofSpills n) (Load 5)
+  -- and thirteen in the second edition those of thirteen
+  pub second-store-reaches :
+      (n : ℕ) → size (treeOf (secondOfSpills n) (variables Linked 19) 19 [] (Store 13 0)) ≡ recordsWithin (secondOfSpills n) (Store 13 0)
+  pub second-load-reaches :
+      (n : ℕ) → size (treeOf (secondOfSpills n) (variables Linked 7) 7 (variables Linked 13) (Load 13)) ≡ recordsWithin (secondOfSpills n) (Load 13)
   -- a store of all variables, all linked, needs the whole room for records
   pub records-needed :
       (g : Shape) → Supported g → (room : ℕ) → room < roomForRecords g

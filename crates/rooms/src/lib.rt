@@ -1,6 +1,6 @@
-// The sizes of buffers that include/axcut.h recommends for each frame are enough, and nothing less is.
+// The sizes of buffers that include/axcut.h recommends for each edition and frame are enough, and nothing less is.
 // Each promise is the claim of a function that does nothing: its statement is in specs/Claims.antt, and its proof cites the theorem.
-ghost use Rattle.rooms.specs.Claims.{ListingsFill, ListingsFit, OrdersFill, OrdersFit, RoomsByFrame, RoutinesFit};
+ghost use Rattle.rooms.specs.Claims.{ListingsFill, ListingsFit, OrdersFill, OrdersFit, RoomsByShape, RoutinesFit};
 
 // no order on as many variables as have positions is refused for want of room
 pub fn orders_fit()
@@ -12,9 +12,9 @@ pub fn orders_fill()
     ensures { λ r. ⌜ OrdersFill ⌝ }
 {}
 
-// how many those are and how much room that is, for each frame
-pub fn rooms_by_frame()
-    ensures { λ r. ⌜ RoomsByFrame ⌝ }
+// how many those are and how much room that is, for each edition and frame
+pub fn rooms_by_shape()
+    ensures { λ r. ⌜ RoomsByShape ⌝ }
 {}
 
 // no listing of at most 2,730 records is refused for want of room

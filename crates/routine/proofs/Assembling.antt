@@ -7,26 +7,20 @@ use native.Mathlib.Omega.{arith}
 use lib.ListN.{length, take, length-append}
 use lib.Seq.{sets, length-sets, take-length}
 use borrow.Author.Tests.{le-ltb}
-use Rattle.records.specs.declared.check.Checked.the-variants.{Malformed}
 use Rattle.records.specs.declared.code.Code.{Code}
-use Rattle.records.specs.Instructions.{checkedCodes}
 use Rattle.records.specs.ReadBack.{joined, items, codeBytes, codeIn}
 use Rattle.records.proofs.CodesBack.{code-laws}
 use Rattle.records.proofs.Joined.{joined-length}
 use Rattle.records.proofs.ReadBack.{records-read-back}
 use Rattle.records.proofs.Storing.{sets-then}
 use Rattle.emit.specs.declared.answer.Answer.{Answer}
-use Rattle.emit.specs.declared.answer.Answer.the-variants.{Body}
 use Rattle.emit.specs.declared.cursor.Cursor.{Cursor}
 use Rattle.emit.specs.Answers.{causeOf, granted, accepted}
 use Rattle.emit.specs.Emitted.{fieldsList, Emitted}
 use Rattle.emit.specs.Laws.{length-fields}
 use Rattle.emit.specs.Wrote.{written-whole, granted-if}
 use Rattle.layout.specs.declared.config.Shape.{Shape}
-use Rattle.layout.specs.declared.config.Framed.{Framed}
-use Rattle.layout.specs.declared.config.Framed.the-variants.{Of, Unknown}
-use Rattle.layout.specs.Config.{shapeOf, inShape}
-use Rattle.routine.specs.Routine.{moveArguments, head, cleanup, routineBytes, accepting, routineAnswer, routineIn, routineBytesIn, Assembles}
+use Rattle.routine.specs.Routine.{moveArguments, head, cleanup, routineBytes, accepting, Assembles}
 use Rattle.routine.specs.Records.{RoutineIsRecords}
 
 arguments-length : (n : ℕ) → length (moveArguments n) ≡ n
@@ -97,12 +91,6 @@ module _ (g : Shape) (o : List ℕ) (n : ℕ) (body : List ℕ) {r : Answer} (e 
   pub room-enough : {b : Bool} → b ≡ accepted r → b ≡ true → 24 * (25 + n) + length body ≤ length o
   room-enough f t = granted-if 0 (length o) (24 * (25 + n) + length body) 0 (ap accepted (sym e) ∙ sym f ∙ t) .1
 
--- a body that is refused is so in every frame, and where there is none
-pub body-refused : {place : ℕ} (o : List ℕ) (frame room n : ℕ) (body : List ℕ) → checkedCodes 65506 body ≡ Malformed place
-    → Assembles o o (Body place) (routineIn frame room n body) (routineBytesIn frame n body)
-unfolding routineAnswer
-body-refused {place} o frame room n body e = rw e (by (shapeOf frame) (routineBytesIn frame n body))
-  where
-    by : (f : Framed) (routine : List ℕ) → Assembles o o (Body place) (inShape f (λ g. Body place) (Body place)) routine
-    by (Of g) routine = record { answer = refl; cause = refl; bytes = refl }
-    by Unknown routine = record { answer = refl; cause = refl; bytes = refl }
+-- a refusal leaves the output
+pub refused : {o routine : List ℕ} {r expected : Answer} → r ≡ expected → accepted r ≡ false → Assembles o o r expected routine
+refused e f = record { answer = e; cause = ap causeOf e; bytes = rw (← e, f) }

@@ -14,10 +14,10 @@ use Rattle.records.specs.declared.code.Code.the-variants.{ADDI, SUBI, MOV, PUSH
 use Rattle.records.specs.Instructions.{checkedCodes}
 use Rattle.records.specs.ReadBack.{joined, codeBytes}
 use Rattle.emit.specs.declared.answer.Answer.{Answer}
-use Rattle.emit.specs.declared.answer.Answer.the-variants.{Body, Operand, Arguments}
+use Rattle.emit.specs.declared.answer.Answer.the-variants.{Body, Operand, Arguments, Edition}
 use Rattle.emit.specs.Answers.{causeOf, granted, accepted}
 use Rattle.layout.specs.declared.config.Shape.{Shape}
-use Rattle.layout.specs.Config.{STACK, HEAP, FREE, blockBytes, inFrame}
+use Rattle.layout.specs.Config.{STACK, HEAP, FREE, blockBytes, shapeOf, inShape}
 
 -- the names asm_main, cleanup, PRINT_I64 and PRINTLN_I64
 abbrev ASMMAIN : ℕ
@@ -97,12 +97,13 @@ module _ (g : Shape) where
   unfoldable pub routineAnswer : ℕ → ℕ → List ℕ → Answer
   routineAnswer room n body = onBody (checkedCodes 65506 body) (accepting room n body)
 
--- the answer and the routine's bytes in a frame of so many spills
-abbrev pub routineIn : ℕ → ℕ → ℕ → List ℕ → Answer
-routineIn frame room n body = inFrame frame (λ g. routineAnswer g room n body) (onBody (checkedCodes 65506 body) Operand)
+-- the answer and the routine's bytes in an edition and a frame of so many spills
+abbrev pub routineIn : ℕ → ℕ → ℕ → ℕ → List ℕ → Answer
+routineIn edition frame room n body =
+    inShape (shapeOf edition frame) (λ g. routineAnswer g room n body) (onBody (checkedCodes 65506 body) Operand) Edition
 
-abbrev pub routineBytesIn : ℕ → ℕ → List ℕ → List ℕ
-routineBytesIn frame n body = inFrame frame (λ g. routineBytes g n body) []
+abbrev pub routineBytesIn : ℕ → ℕ → ℕ → List ℕ → List ℕ
+routineBytesIn edition frame n body = inShape (shapeOf edition frame) (λ g. routineBytes g n body) [] []
 
 -- what into_x86_64_routine ensures of the output before and after: its answer is the one expected, and the output holds the routine's bytes from its start
 -- if it is written, else it is as it was

@@ -1,20 +1,23 @@
 // A whole routine: control directives and entry point, setup, the body as it is given, cleanup.
 ghost use mathlib.Core.Path.{_≡_};
+ghost use mathlib.Core.Bool.{false};
 ghost use Prim.Native.Nat.{_+_, _*_, _≤_, _<_, _^_};
 ghost use lib.ListN.{length};
 ghost use lib.Seq.{sets};
+ghost use Rattle.records.specs.Instructions.{checkedCodes};
 ghost use Rattle.emit.specs.Emitted.{fieldsList, Emitted};
+ghost use Rattle.emit.specs.Answers.{accepted};
 ghost use Rattle.emit.specs.declared.answer.Answer.the-variants.{Operand};
-ghost use Rattle.layout.specs.Config.{Supported, inFrame};
-ghost use Rattle.routine.specs.Routine.{argument, preamble, setup, moveArguments, head, cleanup, routineBytes, accepting, routineIn, routineBytesIn, Assembles};
+ghost use Rattle.layout.specs.Config.{Supported};
+ghost use Rattle.routine.specs.Routine.{argument, preamble, setup, moveArguments, head, cleanup, routineBytes, accepting, onBody, routineAnswer, routineIn, routineBytesIn, Assembles};
 use emit::answer::Answer;
 use emit::cursor::Cursor;
 use emit::cursor::Row;
 use layout::config::FREE;
-use layout::config::Framed;
 use layout::config::HEAP;
 use layout::config::STACK;
 use layout::config::Shape;
+use layout::config::Shaped;
 use records::check::Checked;
 use records::number::ADDI;
 use records::number::EXTERN;
@@ -35,6 +38,9 @@ const CLEANUP: u32 = 2147483649;
 const PRINT_I64: u32 = 2147483650;
 
 const PRINTLN_I64: u32 = 2147483651;
+
+// The most records of a body.
+const MOST: usize = 65506;
 
 // The register that each argument is passed in, by the calling convention.
 const ARGUMENTS: [u8; 6] = [7, 6, 5, 1, 8, 9];
@@ -186,23 +192,39 @@ fn assemble_checked(out: &mut [u8], g: Shape, body: &[u8], n: usize) -> Answer
     answer
 }
 
-// In a frame of so many spills, around a body that is accepted.
-fn assemble_in(out: &mut [u8], frame: u64, body: &[u8], n: usize) -> Answer
-    requires { ⌜ length (now body) < 2 ^ 32 ⌝ }
-    ensures { λ r. ⌜ Assembles (now (out .entry)) (now (out .exit)) r (inFrame frame (λ g. accepting g (length (now (out .entry))) n (now (body .entry))) Operand) (routineBytesIn frame n (now (body .entry))) ⌝ }
+fn routine_in(out: &mut [u8], g: Shape, body: &[u8], arguments: usize) -> Answer
+    requires { ⌜ Supported g ⌝ }
+    ensures { λ r. ⌜ Assembles (now (out .entry)) (now (out .exit)) r (routineAnswer g (length (now (out .entry))) arguments (now (body .entry))) (routineBytes g arguments (now (body .entry))) ⌝ }
 {
-    match layout::config::shape_of(frame) {
-        Framed::Of(g) => assemble_checked(out, g, body, n),
-        Framed::Unknown => Answer::Operand,
+    match records::code::check_codes(body, MOST) {
+        Checked::Good(_) => assemble_checked(out, g, body, arguments),
+        Checked::Malformed(place) => Answer::Body(place),
+    }
+}
+
+// What a frame of another number of spills is answered.
+fn unframed(body: &[u8]) -> Answer
+    ensures { λ r. ⌜ (r ≡ onBody (checkedCodes 65506 (now (body .entry))) Operand) × (accepted r ≡ false) ⌝ }
+{
+    match records::code::check_codes(body, MOST) {
+        Checked::Good(_) => Answer::Operand,
+        Checked::Malformed(place) => Answer::Body(place),
     }
 }
 
 // A whole routine around a body of at most 65,506 records, for 0 to 5 arguments.
-pub fn into_x86_64_routine(out: &mut [u8], frame: u64, body: &[u8], arguments: usize) -> Answer
-    ensures { λ r. ⌜ Assembles (now (out .entry)) (now (out .exit)) r (routineIn frame (length (now (out .entry))) arguments (now (body .entry))) (routineBytesIn frame arguments (now (body .entry))) ⌝ }
+pub fn into_x86_64_routine(
+    out: &mut [u8],
+    edition: u64,
+    frame: u64,
+    body: &[u8],
+    arguments: usize,
+) -> Answer
+    ensures { λ r. ⌜ Assembles (now (out .entry)) (now (out .exit)) r (routineIn edition frame (length (now (out .entry))) arguments (now (body .entry))) (routineBytesIn edition frame arguments (now (body .entry))) ⌝ }
 {
-    match records::code::check_codes(body, 65506) {
-        Checked::Good(_) => assemble_in(out, frame, body, arguments),
-        Checked::Malformed(place) => Answer::Body(place),
+    match layout::config::shape_of(edition, frame) {
+        Shaped::In(g) => routine_in(out, g, body, arguments),
+        Shaped::NoFrame => unframed(body),
+        Shaped::NoEdition => Answer::Edition,
     }
 }

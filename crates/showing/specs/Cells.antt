@@ -44,6 +44,6 @@ firstLines g context registers stack k = cellLines g (extAt context) 0 (variable
 unfoldable pub variableLines : Shape → List ℕ → List ℕ → List ℕ → List ℕ
 variableLines g context registers stack = cond (ltb (2 * placesIn context) (positions g)) (firstLines g context registers stack (placesIn context)) []
 
--- in a frame; none where the stack is not the frame's
-abbrev pub variablesOn : ℕ → List ℕ → List ℕ → List ℕ → List ℕ
-variablesOn frame context registers stack = inShape (shapeOn frame (length stack)) (λ g. variableLines g context registers stack) []
+-- in an edition and a frame; none where the stack is not the frame's
+abbrev pub variablesOn : ℕ → ℕ → List ℕ → List ℕ → List ℕ → List ℕ
+variablesOn edition frame context registers stack = inShape (shapeOn edition frame (length stack)) (λ g. variableLines g context registers stack) [] []

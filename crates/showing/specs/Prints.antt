@@ -11,7 +11,7 @@ use Rattle.records.specs.declared.order.OrderRead.the-variants as read
 use Rattle.records.specs.Orders.{orderRead}
 use Rattle.text.specs.Text.{ascii, signed}
 use Rattle.layout.specs.declared.config.Shape.{Shape}
-use Rattle.layout.specs.Config.{inShape, positions, shapeOn}
+use Rattle.layout.specs.Config.{inChoice, positions, frameOn}
 use Rattle.layout.specs.Positions.{location}
 use Rattle.instructions.specs.View.{wordsOf, fromEnd}
 use Rattle.positions.specs.Held.{heldIn}
@@ -43,4 +43,4 @@ module _ (g : Shape) (reg stk : ℕ → ℕ) where
 
 -- on lent registers and stack, by the order's bytes; nothing where the stack is not the frame's
 abbrev pub printsOn : ℕ → List ℕ → List ℕ → List ℕ → List ℕ
-printsOn frame order registers stack = inShape (shapeOn frame (length stack)) (λ g. prints g (wordsOf registers) (fromEnd stack) (orderRead order)) []
+printsOn frame order registers stack = inChoice (frameOn frame (length stack)) (λ g. prints g (wordsOf registers) (fromEnd stack) (orderRead order)) []

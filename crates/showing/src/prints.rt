@@ -11,7 +11,7 @@ ghost use Rattle.instructions.specs.Forms.{Sized};
 ghost use Rattle.positions.specs.Held.{heldIn};
 ghost use Rattle.showing.specs.Prints.{printedText, printsOf, prints, printsOn};
 use crate::variables;
-use layout::config::Framed;
+use layout::config::Choice;
 use layout::config::Shape;
 use records::order::Order;
 use records::order::OrderRead;
@@ -86,9 +86,9 @@ pub fn put_print(
     requires { ⌜ at + 22 ≤ farthest ⌝ }
     ensures { λ r. ⌜ Puts 22 (now (text .entry)) at (now (text .exit)) r (printsOn frame (now (order .entry)) (now (registers .entry)) (now (stack .entry))) ⌝ }
 {
-    match layout::config::shape_on(frame, stack.len()) {
-        Framed::Of(g) => put_print_in(text, at, g, order, registers, stack),
-        Framed::Unknown => at,
+    match layout::config::frame_on(frame, stack.len()) {
+        Choice::Of(g) => put_print_in(text, at, g, order, registers, stack),
+        Choice::Unknown => at,
     }
 }
 

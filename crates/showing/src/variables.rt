@@ -13,8 +13,8 @@ ghost use Rattle.instructions.specs.Forms.{Sized};
 ghost use Rattle.heap.specs.Blocks.{cell};
 ghost use Rattle.positions.specs.Held.{heldIn};
 ghost use Rattle.showing.specs.Cells.{blockName, cellWords, cellLine, lineOf, firstLines, variableLines, variablesOn};
-use layout::config::Framed;
 use layout::config::Shape;
+use layout::config::Shaped;
 use layout::utils::ENTRIES;
 use records::check::Checked;
 use reporting::parts;
@@ -139,22 +139,24 @@ fn put_first(
     next
 }
 
-// The line of each variable of a context on registers and a frame's stack; nothing where the context is malformed or has more than there are positions for, or
-// the stack another number of words.
+// The line of each variable of a context on registers and a frame's stack, its blocks an edition's; nothing where the context is malformed or has more than
+// there are positions for, or the stack another number of words.
 pub fn put_variables(
     text: &mut [u8],
     at: usize,
+    edition: u64,
     frame: u64,
     context: &[u8],
     registers: &[u64; 16],
     stack: &[u64],
 ) -> usize
     requires { ⌜ at + 83 * mostVariables larger ≤ farthest ⌝ }
-    ensures { λ r. ⌜ Puts (83 * mostVariables larger) (now (text .entry)) at (now (text .exit)) r (variablesOn frame (now (context .entry)) (now (registers .entry)) (now (stack .entry))) ⌝ }
+    ensures { λ r. ⌜ Puts (83 * mostVariables larger) (now (text .entry)) at (now (text .exit)) r (variablesOn edition frame (now (context .entry)) (now (registers .entry)) (now (stack .entry))) ⌝ }
 {
-    match layout::config::shape_on(frame, stack.len()) {
-        Framed::Of(g) => put_variables_in(text, at, g, context, registers, stack),
-        Framed::Unknown => at,
+    match layout::config::shape_on(edition, frame, stack.len()) {
+        Shaped::In(g) => put_variables_in(text, at, g, context, registers, stack),
+        Shaped::NoFrame => at,
+        Shaped::NoEdition => at,
     }
 }
 

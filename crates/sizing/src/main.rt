@@ -1,8 +1,9 @@
-// Plays lists of order records of any length, from standard input or from the files named, each on a fresh channel beside 65,536 blocks, and prints the most
-// blocks that were reachable at once and the heap to fit for it. A run that does not end is told instead. An argument `frame N` asks for a frame of so many
-// spills, of the files after it; a frame has 256 where none is asked.
+// Plays lists of order records of any length, from standard input or from the files named, each on a fresh channel beside 65,536 blocks, or 32,768 of the second
+// edition, and prints the most blocks that were reachable at once and the heap to fit for it. A run that does not end is told instead. An argument `edition N` asks
+// for the blocks of an edition and `frame N` for a frame of so many spills, of the files after it; the edition is 1 and a frame has 256 where none is asked.
 ghost use Prim.Native.Nat.{_-_, _≤_};
 ghost use lib.ListN.{length};
+use chains::Fitted;
 use libc::STDERR_FILENO;
 use libc::STDIN_FILENO;
 use libc::STDOUT_FILENO;
@@ -21,8 +22,8 @@ struct Going {
     channel: Channel,
 }
 
-fn start(frame: u64) -> Going {
-    let channel = playing::channel::fresh(frame);
+fn start(edition: u64, frame: u64) -> Going {
+    let channel = playing::channel::fresh(edition, frame);
     Going {
         accepted: 0,
         refused: 0,
@@ -130,8 +131,15 @@ fn turn(file: i32, heap: &mut [u64], records: &mut [u8], bindings: &mut [u8], g:
 }
 
 // All orders of a file, up to a run that does not end.
-fn play(file: i32, heap: &mut [u64], records: &mut [u8], bindings: &mut [u8], frame: u64) -> Going {
-    let mut g = start(frame);
+fn play(
+    file: i32,
+    heap: &mut [u64],
+    records: &mut [u8],
+    bindings: &mut [u8],
+    edition: u64,
+    frame: u64,
+) -> Going {
+    let mut g = start(edition, frame);
     let mut left = 0xFFFFFFFFFFFFFFFFu64;
     while 0 < left {
         if g.on {} else {
@@ -146,7 +154,9 @@ fn play(file: i32, heap: &mut [u64], records: &mut [u8], bindings: &mut [u8], fr
 fn show_fit(g: Going, heap: &[u64]) {
     let channel = g.channel;
     let registers = channel.registers;
-    let fit = chains::to_fit(&registers, heap);
+    let Fitted::Of(fit) = chains::to_fit(channel.edition, &registers, heap) else {
+        return;
+    };
     let mut lines = [0u8; 256];
     let size = reporting::put_fit(
         &mut lines,
@@ -161,18 +171,18 @@ fn show_fit(g: Going, heap: &[u64]) {
 }
 
 // A file's list on a channel of its own: the records of the largest order, a store of 261 linked variables, and one binding more than any order takes.
-fn size_from(file: i32, frame: u64) {
+fn size_from(file: i32, edition: u64, frame: u64) {
     let mut heap = [0u64; 524288];
     let mut records = [0u8; playing::channel::RECORDS];
     let mut bindings = [0u8; 32776];
-    let g = play(file, &mut heap, &mut records, &mut bindings, frame);
+    let g = play(file, &mut heap, &mut records, &mut bindings, edition, frame);
     if g.stopped {
         return;
     }
     show_fit(g, &heap);
 }
 
-fn size_of(name: &[u8], frame: u64) {
+fn size_of(name: &[u8], edition: u64, frame: u64) {
     let file = os::open_read(name);
     if file < 0 {
         os::fail(name);
@@ -180,15 +190,35 @@ fn size_of(name: &[u8], frame: u64) {
     }
     io::write_all(STDOUT_FILENO, name);
     io::write_all(STDOUT_FILENO, b"\n");
-    size_from(file, frame);
+    size_from(file, edition, frame);
     libc::close(file);
 }
 
-// What the arguments asked so far: a frame, 0 where there is none of that number, whether its number comes next, and whether a file was named.
+// What the next argument is: a word or a file, or the number of an edition or a frame.
+enum Next {
+    Any,
+    Edition,
+    Frame,
+}
+
+// What the arguments asked so far: the edition and the frame, each 0 where there is none of that number, what comes next, and whether a file was named.
 struct Asked {
+    edition: u64,
     frame: u64,
-    number: bool,
+    next: Next,
     named: bool,
+}
+
+// The edition that a word names by its number.
+fn edition_of(word: &[u8]) -> u64 {
+    if check::same(word, b"1") {
+        return 1;
+    }
+    if check::same(word, b"2") {
+        return 2;
+    }
+    io::write_all(STDERR_FILENO, b"an edition is 1 or 2\n");
+    0
 }
 
 // The frame that a word names by its number of spills.
@@ -203,28 +233,47 @@ fn frame_of(word: &[u8]) -> u64 {
     0
 }
 
-fn read_word(word: &[u8], a: Asked) -> Asked {
-    if a.number {
-        return Asked {
-            frame: frame_of(word),
-            number: false,
-            named: a.named,
-        };
+// The same in an edition and a frame, before what comes next.
+fn asking(a: Asked, edition: u64, frame: u64, next: Next) -> Asked {
+    Asked {
+        edition,
+        frame,
+        next,
+        named: a.named,
     }
-    if check::same(word, b"frame") {
-        return Asked {
-            frame: 0,
-            number: true,
-            named: a.named,
-        };
-    }
-    if a.frame != 0 {
-        size_of(word, a.frame);
+}
+
+// A list is played where there are such an edition and such a frame.
+fn size_file(name: &[u8], a: Asked) -> Asked {
+    if a.edition != 0 {
+        if a.frame != 0 {
+            size_of(name, a.edition, a.frame);
+        }
     }
     Asked {
+        edition: a.edition,
         frame: a.frame,
-        number: false,
+        next: Next::Any,
         named: true,
+    }
+}
+
+fn read_any(word: &[u8], a: Asked) -> Asked {
+    if check::same(word, b"edition") {
+        return asking(a, 0, a.frame, Next::Edition);
+    }
+    if check::same(word, b"frame") {
+        return asking(a, a.edition, 0, Next::Frame);
+    }
+    size_file(word, a)
+}
+
+fn read_word(word: &[u8], a: Asked) -> Asked {
+    let next = a.next;
+    match next {
+        Next::Any => read_any(word, a),
+        Next::Edition => asking(a, edition_of(word), a.frame, Next::Any),
+        Next::Frame => asking(a, a.edition, frame_of(word), Next::Any),
     }
 }
 
@@ -237,8 +286,9 @@ fn read_argument(i: usize, a: Asked) -> Asked {
 // The files are played as they are named.
 fn read_arguments(count: usize) -> Asked {
     let mut a = Asked {
+        edition: 1,
         frame: 256,
-        number: false,
+        next: Next::Any,
         named: false,
     };
     let mut i = 1;
@@ -251,14 +301,22 @@ fn read_arguments(count: usize) -> Asked {
 
 fn main() {
     let a = read_arguments(os::arg_count());
-    if a.number {
-        frame_of(b"");
-        return;
+    let next = a.next;
+    match next {
+        Next::Any => {}
+        Next::Edition => {
+            edition_of(b"");
+        }
+        Next::Frame => {
+            frame_of(b"");
+        }
     }
     if a.named {
         return;
     }
-    if a.frame != 0 {
-        size_from(STDIN_FILENO, a.frame);
+    if a.edition != 0 {
+        if a.frame != 0 {
+            size_from(STDIN_FILENO, a.edition, a.frame);
+        }
     }
 }

@@ -1,6 +1,6 @@
-// Plays the lists of orders on standard input, a load followed by its bindings, each list in its frame, and checks after each accepted order what demand 3 says
-// of the words: on a large heap, which gives the list's peak; on two blocks more than the peak, where all is sound; on one more, where the frontier is no block
-// of the heap; and on no more, where a run meets a fault.
+// Plays the lists of orders on standard input, a load followed by its bindings, each list in its edition and its frame, and checks after each accepted order what
+// demand 3 says of the words: on a large heap, which gives the list's peak; on two blocks more than the peak, where all is sound; on one more, where the frontier
+// is no block of the heap; and on no more, where a run meets a fault.
 ghost use Prim.Native.Nat.{_≤_};
 use libc::STDIN_FILENO;
 use libc::STDOUT_FILENO;
@@ -25,8 +25,8 @@ struct Going {
     channel: Channel,
 }
 
-fn start(frame: u64) -> Going {
-    let channel = playing::channel::fresh(frame);
+fn start(edition: u64, frame: u64) -> Going {
+    let channel = playing::channel::fresh(edition, frame);
     Going {
         at: 0,
         counts: Counts {
@@ -58,6 +58,11 @@ fn plus(x: Counts, y: Counts) -> Counts {
     }
 }
 
+// The words of a block.
+fn block_words(edition: u64) -> u64 {
+    inspect::shape::words_of(inspect::shape::fields_of(edition))
+}
+
 // Counters are any: each 64th is the last that there is.
 fn counter_of(orders: u64) -> u64 {
     if orders % 64 == 63 {
@@ -75,11 +80,9 @@ fn room_of(orders: u64) -> usize
 }
 
 // And print words: those look like addresses of blocks.
-fn print_words(orders: u64) -> [u64; 9] {
-    let word = word::sum(
-        65536,
-        word::product(8 * inspect::shape::BLOCK, orders % 1000),
-    );
+fn print_words(edition: u64, orders: u64) -> [u64; 9] {
+    let size = word::product(8, block_words(edition));
+    let word = word::sum(65536, word::product(size, orders % 1000));
     [word; 9]
 }
 
@@ -110,7 +113,7 @@ fn played(
         counter_of(orders),
         order,
         bindings,
-        print_words(orders),
+        print_words(channel.edition, orders),
     )
 }
 
@@ -125,6 +128,7 @@ fn is_ended(ran: machine::run::Answer, limit: u64) -> bool {
 
 // The context's bytes in use, and as many words of the stack as the frame has.
 fn is_sound(
+    edition: u64,
     context: &[u8],
     used: usize,
     registers: &[u64; 16],
@@ -136,6 +140,7 @@ fn is_sound(
     if used <= context.len() {
         if depth <= stack.len() {
             return inspect::sound::sound(
+                edition,
                 &context[..used],
                 registers,
                 &stack[..depth],
@@ -153,6 +158,7 @@ fn is_channel_sound(channel: Channel, heap: &[u64], memory: &mut [u64]) -> bool 
     let stack = channel.stack;
     let depth = playing::channel::stack_words(channel.frame);
     is_sound(
+        channel.edition,
         &context,
         channel.used,
         &registers,
@@ -231,8 +237,8 @@ fn turn(input: &[u8], heap: &mut [u64], memory: &mut [u64], g: Going) -> Going {
 }
 
 // All orders of a list. Each has 24 bytes at least.
-fn play(frame: u64, input: &[u8], heap: &mut [u64], memory: &mut [u64]) -> Counts {
-    let mut g = start(frame);
+fn play(edition: u64, frame: u64, input: &[u8], heap: &mut [u64], memory: &mut [u64]) -> Counts {
+    let mut g = start(edition, frame);
     let mut left = input.len() / 24;
     while 0 < left {
         g = turn(input, heap, memory, g);
@@ -259,50 +265,59 @@ fn report(counts: Counts, blocks: u64) {
     io::write_all(STDOUT_FILENO, b"\n");
 }
 
-// The words of so many blocks, 1500 at most.
-fn words_of(blocks: u64) -> usize
-    ensures { λ r. ⌜ r ≤ 12000 ⌝ }
+fn least(x: u64, y: u64) -> u64
+    ensures { λ r. ⌜ r ≤ y ⌝ }
 {
-    if blocks < 1500 {
-        return (inspect::shape::BLOCK * blocks) as usize;
-    }
-    12000
+    if x < y { x } else { y }
+}
+
+// The words of so many blocks, 1500 at most, which are 24,000 in the second edition.
+fn words_of(edition: u64, blocks: u64) -> usize
+    ensures { λ r. ⌜ r ≤ 24000 ⌝ }
+{
+    let words = word::product(block_words(edition), least(blocks, 1500));
+    least(words, 24000) as usize
 }
 
 // A list on a zeroed heap of so many blocks. The result is its peak.
-fn play_on(frame: u64, input: &[u8], blocks: u64) -> u64 {
-    let mut heap = [0u64; 12000];
+fn play_on(edition: u64, frame: u64, input: &[u8], blocks: u64) -> u64 {
+    let mut heap = [0u64; 24000];
     let mut memory = [0u64; inspect::table::MEMORY];
-    let words = words_of(blocks);
-    report(play(frame, input, &mut heap[..words], &mut memory), blocks);
+    let words = words_of(edition, blocks);
+    report(
+        play(edition, frame, input, &mut heap[..words], &mut memory),
+        blocks,
+    );
     inspect::heap::peak(&memory)
 }
 
-fn play_list(frame: u64, input: &[u8]) {
-    print(b"frame ", frame);
+fn play_list(edition: u64, frame: u64, input: &[u8]) {
+    print(b"edition ", edition);
+    print(b", frame ", frame);
     io::write_all(STDOUT_FILENO, b"\n");
-    let peak = play_on(frame, input, 1500);
+    let peak = play_on(edition, frame, input, 1500);
     print(b"peak ", peak);
     io::write_all(STDOUT_FILENO, b"\n");
-    play_on(frame, input, word::sum(peak, 2));
-    play_on(frame, input, word::sum(peak, 1));
-    play_on(frame, input, peak);
+    play_on(edition, frame, input, word::sum(peak, 2));
+    play_on(edition, frame, input, word::sum(peak, 1));
+    play_on(edition, frame, input, peak);
 }
 
-// The next list, after its frame and its length in bytes, 65,536 at most; whether there is one.
+// The next list, after its edition, its frame and its length in bytes, 65,536 at most; whether there is one.
 fn next_list() -> bool {
-    let mut head = [0u8; 16];
+    let mut head = [0u8; 24];
     let mut buffer = io::large_buffer();
-    if io::read_full(STDIN_FILENO, &mut head) < 16 {
+    if io::read_full(STDIN_FILENO, &mut head) < 24 {
         return false;
     }
-    let frame = bytes::number8(&head, 0);
-    let size = bytes::number8(&head, 8) as usize;
+    let edition = bytes::number8(&head, 0);
+    let frame = bytes::number8(&head, 8);
+    let size = bytes::number8(&head, 16) as usize;
     if 65536 < size {
         return false;
     }
     let n = io::read_full(STDIN_FILENO, &mut buffer[..size]);
-    play_list(frame, &buffer[..n]);
+    play_list(edition, frame, &buffer[..n]);
     true
 }
 

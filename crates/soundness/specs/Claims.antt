@@ -1,5 +1,4 @@
--- Demand 3: the heap stays sound for every list of orders, in every supported shape of blocks and frame, and so in the frames of 256 and of 512 spills. One claim on the
--- whole list; this file and the definitions it cites are all that it says.
+-- Demand 3: the heap stays sound for every list of orders, in every supported shape of blocks and frame. One claim on the whole list; this file and the definitions it cites are all that it says.
 -- `fresh` and what an item does to a channel are what the contracts of `playing::channel` cite.
 -- From document 01, 'Order record', 'Plain machine of demand 3' and the lines on the heap in 'Instruction record'.
 use Prim.Native.Nat.{ℕ, _+_, _*_, _≤_, _<_}
@@ -14,8 +13,7 @@ use Rattle.records.specs.declared.order.Order.the-variants.{Put, Compute, Copy,
 use Rattle.records.specs.Contexts.{checkedContext, extAt}
 use Rattle.records.specs.ReadBack.{Bytes}
 use Rattle.layout.specs.declared.config.Shape.{Shape}
-use Rattle.layout.specs.declared.config.Framed.the-variants.{Of, Unknown}
-use Rattle.layout.specs.Config.{Supported, base, larger, shapeOf, stackDepth, blockWords, STACK, HEAP, FREE}
+use Rattle.layout.specs.Config.{Supported, stackDepth, blockWords, STACK, HEAP, FREE}
 use Rattle.printing.specs.Print.{printName}
 use Rattle.instructions.specs.Step.{Call}
 use Rattle.machine.specs.declared.run.Answer.the-variants.{Ended}
@@ -203,10 +201,3 @@ HeapStaysSound = (g : Shape) → Supported g → StaysSound g
 
 unfoldable pub HeapStaysSoundOnAcquired : Type 0
 HeapStaysSoundOnAcquired = (g : Shape) → Supported g → StaysSoundOnAcquired g
-
--- in the frame of each number that has a shape, which are 256 and 512
-pub record BothFramesStaySound : Type 0 where
-  pub stay-sound : (frame : ℕ) (g : Shape) → shapeOf frame ≡ Of g → StaysSound g × StaysSoundOnAcquired g
-  pub frame-256 : shapeOf 256 ≡ Of base
-  pub frame-512 : shapeOf 512 ≡ Of larger
-  pub no-other : (frame : ℕ) → frame ≢ 256 → frame ≢ 512 → shapeOf frame ≡ Unknown

@@ -23,8 +23,8 @@ use Rattle.heap.specs.RunLemmas.{met-within, abstract-frontier-is-peak}
 use Rattle.heap.specs.Values.{nil, countOf}
 use Rattle.heap.specs.Words.{byAddress, wordAt, headers, addressOf, numberOf}
 use Rattle.layout.specs.declared.config.Shape.{Shape}
-use Rattle.layout.specs.Config.{Supported, shapeOf, stackDepth, blockWords}
-use Rattle.layout.proofs.Placing.{no-frame, framed-supported}
+use Rattle.layout.specs.Config.{Supported, frameOf, editionOf, shapeOf, stackDepth, blockWords}
+use Rattle.layout.proofs.Placing.{no-frame, no-edition, shaped-supported}
 use Rattle.instructions.specs.Step.{Config}
 use Rattle.machine.specs.declared.run.Answer.the-variants.{Fault}
 use Rattle.structured.specs.Evaluation.{done, evaluate}
@@ -40,8 +40,9 @@ use Rattle.orders.specs.declared.answer.Answer.the-variants as answers
 use Rattle.orders.specs.Answered.{accepted, orderIs, placesIn, answerTo, counterAfter}
 use Rattle.orders.specs.Plain.{OwedKinds}
 use Rattle.playing.specs.Playing.{Channel, fresh}
-use Rattle.soundness.specs.Claims.{Item, isAccepted, runOf, reached, values, acquired, changes, PeakWithin, AllOwed, stateAfter, statesBefore, SoundChannel, SoundBefore, AllRan, Refused, AllRefused, After, HeapStaysSound, HeapStaysSoundOnAcquired, BothFramesStaySound, acquires, Owed}
+use Rattle.soundness.specs.Claims.{Item, isAccepted, runOf, reached, values, acquired, changes, PeakWithin, AllOwed, stateAfter, statesBefore, SoundChannel, SoundBefore, AllRan, Refused, AllRefused, After, HeapStaysSound, HeapStaysSoundOnAcquired, acquires, Owed}
 use Rattle.soundness.specs.Peak.{NoFault, LoadsOwed, ReachesWithin, HeapAfterList, PeakOf, Unfaulted, FrontierWithinPeakOfLists, FrontierIsPeak}
+use Rattle.soundness.specs.Shapes.{EveryShapeStaysSound}
 use Rattle.orders.proofs.Accepting.{Taken, taken}
 use Rattle.soundness.specs.Ending.{start}
 use Rattle.soundness.specs.Carried.{Carried, heap-after, sound-at, Room, bounded-by-room, bounded-by-run, places-are}
@@ -78,6 +79,7 @@ module _ (G : Shape) (sup : Supported G) where
       by answers.Position e = refl
       by answers.Labels e = refl
       by (answers.Room bytes) e = refl
+      by answers.Edition e = refl
 
   all-refused : (blocks : ℕ) (its : List Item) → AllRefused G blocks its
   all-refused blocks [] = tt
@@ -324,16 +326,6 @@ pub heap-stays-sound-on-acquired : HeapStaysSoundOnAcquired
 unfolding HeapStaysSoundOnAcquired by-acquired
 heap-stays-sound-on-acquired g sup blocks its h most w = after g sup blocks most (by-acquired g sup blocks most) its (h, w) h
 
-pub both-frames-stay-sound : BothFramesStaySound
-unfolding HeapStaysSound HeapStaysSoundOnAcquired shapeOf
-both-frames-stay-sound =
-    record {
-      stay-sound = λ frame g e. let sup = framed-supported frame e in (heap-stays-sound g sup, heap-stays-sound-on-acquired g sup);
-      frame-256 = refl;
-      frame-512 = refl;
-      no-other = λ frame n m. sym (no-frame frame n m);
-    }
-
 pub frontier-is-peak : FrontierIsPeak
 unfolding FrontierIsPeak
 frontier-is-peak g sup blocks its u = let s = left-by-runs g sup blocks its u in (s .heap, s .peak, s .is-peak, s .past-peak)
@@ -343,3 +335,17 @@ unfolding FrontierWithinPeakOfLists
 frontier-within-peak-of-lists g sup blocks peak its u e =
     let s = left-by-runs g sup blocks its u in
     (s .heap, omega (arith, s .past-peak, met-within (stateAfter g blocks its ∷ statesBefore g blocks its) (s .is-peak .met) (every g sup blocks (u .most) peak its e)), s .within)
+
+pub every-shape-stays-sound : EveryShapeStaysSound
+unfolding HeapStaysSound HeapStaysSoundOnAcquired FrontierIsPeak FrontierWithinPeakOfLists shapeOf editionOf frameOf
+every-shape-stays-sound =
+    record {
+      stay-sound = λ edition frame g e. let sup = shaped-supported edition frame e in (heap-stays-sound g sup, heap-stays-sound-on-acquired g sup);
+      at-peak = λ edition frame g e. let sup = shaped-supported edition frame e in (frontier-within-peak-of-lists g sup, frontier-is-peak g sup);
+      first-256 = refl;
+      first-512 = refl;
+      second-256 = refl;
+      second-512 = refl;
+      no-edition = λ edition frame n m. rw (← (no-edition edition n m));
+      no-frame = λ frame n m. (rw (← (no-frame frame n m)), rw (← (no-frame frame n m)));
+    }

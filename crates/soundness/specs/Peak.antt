@@ -47,16 +47,21 @@ module _ (g : Shape) where
       pub no-fault : NoFault its
       pub loads : LoadsOwed its
 
--- the blocks below the frontier are at most one more than the most reachable after any one order so far
-unfoldable pub FrontierWithinPeakOfLists : Type 0
-FrontierWithinPeakOfLists =
-    (g : Shape) → Supported g → (blocks peak : ℕ) (its : List Item) → Unfaulted g blocks its → ReachesWithin g blocks peak its
-    → (h : HeapAfterList g blocks its) × (h .frontier ≤ suc peak) × (h .frontier ≤ blocks)
+  -- the blocks below the frontier are at most one more than the most reachable after any one order so far
+  abbrev pub FrontierWithin : Type 0
+  FrontierWithin =
+      (blocks peak : ℕ) (its : List Item) → Unfaulted blocks its → ReachesWithin blocks peak its → (h : HeapAfterList blocks its) × (h .frontier ≤ suc peak) × (h .frontier ≤ blocks)
 
--- and just one more than that number
+  -- and just one more than that number
+  abbrev pub FrontierIs : Type 0
+  FrontierIs = (blocks : ℕ) (its : List Item) → Unfaulted blocks its → (h : HeapAfterList blocks its) × (peak : ℕ) × PeakOf blocks its peak × (h .frontier ≡ suc peak)
+
+-- in every supported shape
+unfoldable pub FrontierWithinPeakOfLists : Type 0
+FrontierWithinPeakOfLists = (g : Shape) → Supported g → FrontierWithin g
+
 unfoldable pub FrontierIsPeak : Type 0
-FrontierIsPeak =
-    (g : Shape) → Supported g → (blocks : ℕ) (its : List Item) → Unfaulted g blocks its → (h : HeapAfterList g blocks its) × (peak : ℕ) × PeakOf g blocks its peak × (h .frontier ≡ suc peak)
+FrontierIsPeak = (g : Shape) → Supported g → FrontierIs g
 
 -- A list that met no fault on some heap stays sound on every heap of two blocks more than its peak there, and holds the same values.
 unfoldable pub PeakIsEnough : Type 0

@@ -1,11 +1,13 @@
 // Demand 3: the heap stays sound for every list of orders; and how much heap to fit. The claims are in specs/Claims.antt and specs/Peak.antt; their proofs cite the theorems.
-ghost use Rattle.soundness.specs.Claims.{HeapStaysSound, HeapStaysSoundOnAcquired, BothFramesStaySound};
+ghost use Rattle.soundness.specs.Claims.{HeapStaysSound, HeapStaysSoundOnAcquired};
 ghost use Rattle.soundness.specs.Operations.{OperationsDoWhatTheyName, OperationsDoWhatTheyNameOnAcquired};
 ghost use Rattle.soundness.specs.Prints.{PrintedIsCalled};
 ghost use Rattle.soundness.specs.Peak.{FrontierWithinPeakOfLists, FrontierIsPeak, PeakIsEnough, OneFewerIsTooFew};
+ghost use Rattle.soundness.specs.Shapes.{EveryShapeStaysSound};
 ghost use Rattle.soundness.specs.Counts.{CountsAreTrue, FitIsForPeak};
 ghost use Rattle.soundness.specs.Example.{WorkedListIsSound};
 ghost use Rattle.soundness.specs.Larger.{LargerListIsSound};
+ghost use Rattle.soundness.specs.Second.{FortyAreSoundInBoth};
 ghost use Rattle.soundness.specs.Operated.{WorkedOperations};
 ghost use Rattle.soundness.specs.Fewest.{SeasonIsSound};
 
@@ -16,11 +18,6 @@ pub fn heap_stays_sound()
 // by the blocks that are acquired, whatever is reachable
 pub fn heap_stays_sound_on_acquired()
     ensures { λ r. ⌜ HeapStaysSoundOnAcquired ⌝ }
-{}
-
-// both, for a frame by its number of spills
-pub fn both_frames_stay_sound()
-    ensures { λ r. ⌜ BothFramesStaySound ⌝ }
 {}
 
 // store, load, share_block_n and erase_block on the context of a channel that a list has reached
@@ -41,6 +38,11 @@ pub fn frontier_is_peak()
     ensures { λ r. ⌜ FrontierIsPeak ⌝ }
 {}
 
+// demand 3 and the peak, for an edition and a frame by their numbers
+pub fn every_shape_stays_sound()
+    ensures { λ r. ⌜ EveryShapeStaysSound ⌝ }
+{}
+
 // on another heap, of two blocks more than that peak
 pub fn peak_is_enough()
     ensures { λ r. ⌜ PeakIsEnough ⌝ }
@@ -57,6 +59,10 @@ pub fn worked_list_is_sound()
 
 pub fn larger_list_is_sound()
     ensures { λ r. ⌜ LargerListIsSound ⌝ }
+{}
+
+pub fn forty_are_sound_in_both()
+    ensures { λ r. ⌜ FortyAreSoundInBoth ⌝ }
 {}
 
 pub fn worked_operations()

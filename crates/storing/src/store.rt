@@ -17,9 +17,9 @@ ghost use Rattle.memory.specs.Answered.{treeAnswer, storeTree, storeHighest, st
 use emit::answer::Answer;
 use emit::cursor::Cursor;
 use emit::cursor::Row;
-use layout::config::Framed;
 use layout::config::HEAP;
 use layout::config::Shape;
+use layout::config::Shaped;
 use layout::utils::ENTRIES;
 use memory::block;
 use records::check::Checked;
@@ -313,12 +313,20 @@ fn store_last(out: &mut [u8], g: Shape, counter: u64, context: &[u8], k: u64, n:
 }
 
 // The last n variables of a context into an object, whose pointer goes into the first one's Fst.
-pub fn store(out: &mut [u8], frame: u64, counter: u64, context: &[u8], n: u64) -> Answer
-    ensures { λ r. ⌜ Answers (now (out .entry)) (now (out .exit)) r (storeIn frame counter (length (now (out .entry))) (now (context .entry)) n) (storeRecordsIn frame counter (now (context .entry)) n) ⌝ }
+pub fn store(
+    out: &mut [u8],
+    edition: u64,
+    frame: u64,
+    counter: u64,
+    context: &[u8],
+    n: u64,
+) -> Answer
+    ensures { λ r. ⌜ Answers (now (out .entry)) (now (out .exit)) r (storeIn edition frame counter (length (now (out .entry))) (now (context .entry)) n) (storeRecordsIn edition frame counter (now (context .entry)) n) ⌝ }
 {
-    match layout::config::shape_of(frame) {
-        Framed::Of(g) => store_in(out, g, counter, context, n),
-        Framed::Unknown => emit::answer::unframed(context),
+    match layout::config::shape_of(edition, frame) {
+        Shaped::In(g) => store_in(out, g, counter, context, n),
+        Shaped::NoFrame => emit::answer::unframed(context),
+        Shaped::NoEdition => Answer::Edition,
     }
 }
 

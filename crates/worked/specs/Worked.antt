@@ -1,7 +1,7 @@
--- Document 01, 'Worked numbers': the starred ones, line by line, by the definitions that the contracts cite; and the same lines in the frame of 512 spills,
--- from document 02, job 8.
+-- Document 01, 'Worked numbers': the starred ones, line by line, by the definitions that the contracts cite; and from document 02
+-- the same lines in the frame of 512 spills, job 8, and in blocks of seven fields, job 11.
 -- Outputs hold 65,536 records, counters start at 0, and contexts are of integers.
-use Prim.Native.Nat.{ℕ, _≤_, _<_}
+use Prim.Native.Nat.{ℕ, _*_, _≤_, _<_}
 use mathlib.Core.Path.{_≡_}
 use mathlib.Core.List.{List, [], _∷_}
 use lib.ListN.{length, replicate}
@@ -17,12 +17,16 @@ use Rattle.emit.specs.declared.answer.Answer.{Answer}
 use Rattle.emit.specs.declared.answer.Answer.the-variants.{Written}
 use Rattle.emit.specs.Answers.{causeOf}
 use Rattle.layout.specs.declared.config.Shape.{Shape}
-use Rattle.layout.specs.declared.config.Framed.the-variants.{Of, Unknown}
+use Rattle.layout.specs.declared.config.Choice.the-variants.{Of, Unknown}
 use Rattle.layout.specs.declared.utils.Temporary.the-variants.{Operand}
-use Rattle.layout.specs.Config.{base, larger, shapeOf, STACK, spill, stackOffset}
+use Rattle.layout.specs.declared.config.Shaped.the-variants.{In, NoFrame, NoEdition}
+use Rattle.layout.specs.declared.config.Offset.the-variants.{At}
+use Rattle.layout.specs.declared.utils.TemporaryNumber.the-variants.{Fst, Snd}
+use Rattle.layout.specs.Config.{base, larger, second, secondLarger, frameOf, shapeOf, blockBytes, linkWord, STACK, spill, stackOffset}
+use Rattle.layout.specs.Queries.{fieldOffset, offsetCause}
 use Rattle.layout.specs.Positions.{positionAnswer, temporaryCause}
 use Rattle.memory.specs.Blocks.{eraseBlock}
-use Rattle.memory.specs.Answered.{eraseAnswer, storeTree, storeAnswer}
+use Rattle.memory.specs.Answered.{storeIn, eraseAnswer, storeTree, storeAnswer}
 use Rattle.memory.specs.LoadAnswered.{loadTree, loadAnswer}
 use Rattle.orders.specs.Answered as order
 use Rattle.orders.specs.declared.answer.Answer.the-variants.{Accepted}
@@ -96,9 +100,9 @@ pub record WorkedNumbers : Type 0 where
 
 -- 'The frame may be 256 or 512 spills, chosen for a whole routine (another number is 3).'
 pub record WorkedNumbersOfLarger : Type 0 where
-  pub frame-256 : shapeOf 256 ≡ Of base
-  pub frame-512 : shapeOf 512 ≡ Of larger
-  pub frame-511 : shapeOf 511 ≡ Unknown
+  pub frame-256 : frameOf 256 ≡ Of base
+  pub frame-512 : frameOf 512 ≡ Of larger
+  pub frame-511 : frameOf 511 ≡ Unknown
   -- 'spill p is at 4096 − 8(p+1), positions run to 522'
   pub position-11 : positionAnswer larger 11 ≡ Operand 15
   pub position-12 : positionAnswer larger 12 ≡ Operand (spill 1)
@@ -136,3 +140,39 @@ pub record WorkedNumbersOfLarger : Type 0 where
   pub store-one : StoreWrites larger 1 1 58 13
   pub store-four : StoreWrites larger 4 4 118 26
   pub load-one : LoadWrites larger 1 0 10 2
+
+-- 'In the second edition a block is 128 bytes with 7 fields': records and labels as the Rust with FIELDS_PER_BLOCK at 7 writes them
+pub record WorkedNumbersOfSecond : Type 0 where
+  pub first-256 : shapeOf 1 256 ≡ In base
+  pub first-512 : shapeOf 1 512 ≡ In larger
+  pub second-256 : shapeOf 2 256 ≡ In second
+  pub second-512 : shapeOf 2 512 ≡ In secondLarger
+  -- '23 for an edition other than 1 or 2, checked first of all'
+  pub second-511 : shapeOf 2 511 ≡ NoFrame
+  pub third-511 : shapeOf 3 511 ≡ NoEdition
+  pub no-third : causeOf (storeIn 3 511 0 0 (0 ∷ []) 1) ≡ 23 ∷ []
+  pub second-frame : causeOf (storeIn 2 511 0 0 (integers 1) 2) ≡ 3 ∷ []
+  -- '128 bytes with 7 fields, its link in field 6'
+  pub block-128 : blockBytes second ≡ 128
+  pub link-in-6 : 8 * linkWord second ≡ 112
+  pub fst-6 : fieldOffset second Fst 6 ≡ At 112
+  pub snd-6 : fieldOffset second Snd 6 ≡ At 120
+  pub fst-7 : offsetCause (fieldOffset second Fst 7) ≡ 3 ∷ []
+  -- 'The last block of an object holds 7 variables and the others 6': a block more from 8 on, and from 14 on
+  pub store-1 : StoreWrites second 1 1 110 25
+  pub store-7 : StoreWrites second 7 7 117 25
+  pub store-8 : StoreWrites second 8 8 228 50
+  pub store-13 : StoreWrites second 13 13 240 50
+  pub store-14 : StoreWrites second 14 14 351 75
+  pub load-1 : LoadWrites second 1 0 10 2
+  pub load-7 : LoadWrites second 7 0 24 2
+  pub load-8 : LoadWrites second 8 0 32 2
+  pub load-13 : LoadWrites second 13 0 60 2
+  pub load-14 : LoadWrites second 14 0 68 2
+  pub none-after-0 : storeAnswer second 0 ample (integers 0) 0 ≡ Written 1 0
+  -- blocks are erased as in the first edition
+  pub erase-register : EraseRegisterWrites second 11 3
+  pub erase-spill : EraseSpillWrites second 12 3
+  -- and variables in registers are stored and loaded alike in both frames
+  pub larger-store-14 : StoreWrites secondLarger 14 14 351 75
+  pub larger-load-14 : LoadWrites secondLarger 14 0 68 2

@@ -1,5 +1,5 @@
-// Document 01's worked numbers, those that it asks to be proved: one table, one theorem; and those of the frame of 512 spills.
-ghost use Rattle.worked.specs.Worked.{WorkedNumbers, WorkedNumbersOfLarger};
+// Document 01's worked numbers, those that it asks to be proved: one table, one theorem; and those of the frame of 512 spills and of the second edition.
+ghost use Rattle.worked.specs.Worked.{WorkedNumbers, WorkedNumbersOfLarger, WorkedNumbersOfSecond};
 
 pub fn worked_numbers()
     ensures { λ r. ⌜ WorkedNumbers ⌝ }
@@ -7,4 +7,8 @@ pub fn worked_numbers()
 
 pub fn worked_numbers_of_larger()
     ensures { λ r. ⌜ WorkedNumbersOfLarger ⌝ }
+{}
+
+pub fn worked_numbers_of_second()
+    ensures { λ r. ⌜ WorkedNumbersOfSecond ⌝ }
 {}

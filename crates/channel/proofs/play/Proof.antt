@@ -6,10 +6,10 @@ use Rattle.channel.proofs.play.Statement.{statement}
 use Rattle.channel.proofs.play.Tie as tie
 
 abbrev Inv-loop : tie.InvT-loop
-Inv-loop input heap₀ records₀ text₀ prints₀ listed frame g₀ left₀ heap records text prints g left = (length heap ≡ length heap₀) × (length records ≡ length records₀) × (length text ≡ length text₀) × (length prints ≡ length prints₀)
+Inv-loop input heap₀ records₀ text₀ prints₀ listed edition frame g₀ left₀ heap records text prints g left = (length heap ≡ length heap₀) × (length records ≡ length records₀) × (length text ≡ length text₀) × (length prints ≡ length prints₀)
 
 abbrev μ-loop : tie.MeasureT-loop
-μ-loop input heap₀ records₀ text₀ prints₀ listed frame g₀ left₀ heap records text prints g left = left
+μ-loop input heap₀ records₀ text₀ prints₀ listed edition frame g₀ left₀ heap records text prints g left = left
 
 pub play-spec : {M : Type 1} → statement M
 play-spec =

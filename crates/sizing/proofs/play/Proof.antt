@@ -6,10 +6,10 @@ use Rattle.sizing.proofs.play.Statement.{statement}
 use Rattle.sizing.proofs.play.Tie as tie
 
 abbrev Inv-loop : tie.InvT-loop
-Inv-loop file heap₀ records₀ bindings₀ frame g₀ left₀ heap records bindings g left = (length heap ≡ length heap₀) × (length records ≡ length records₀) × (length bindings ≡ length bindings₀)
+Inv-loop file heap₀ records₀ bindings₀ edition frame g₀ left₀ heap records bindings g left = (length heap ≡ length heap₀) × (length records ≡ length records₀) × (length bindings ≡ length bindings₀)
 
 abbrev μ-loop : tie.MeasureT-loop
-μ-loop file heap₀ records₀ bindings₀ frame g₀ left₀ heap records bindings g left = left
+μ-loop file heap₀ records₀ bindings₀ edition frame g₀ left₀ heap records bindings g left = left
 
 loop-again : tie.Need-loop-again Inv-loop μ-loop
 loop-again c =

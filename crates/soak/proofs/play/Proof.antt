@@ -6,10 +6,10 @@ use Rattle.soak.proofs.play.Statement.{statement}
 use Rattle.soak.proofs.play.Tie as tie
 
 abbrev Inv-loop : tie.InvT-loop
-Inv-loop frame input heap₀ memory₀ g₀ left₀ heap memory g left = (length heap ≡ length heap₀) × (length memory ≡ length memory₀)
+Inv-loop edition frame input heap₀ memory₀ g₀ left₀ heap memory g left = (length heap ≡ length heap₀) × (length memory ≡ length memory₀)
 
 abbrev μ-loop : tie.MeasureT-loop
-μ-loop frame input heap₀ memory₀ g₀ left₀ heap memory g left = left
+μ-loop edition frame input heap₀ memory₀ g₀ left₀ heap memory g left = left
 
 pub play-spec : {M : Type 1} → statement M
 play-spec =

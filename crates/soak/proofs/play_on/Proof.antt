@@ -9,7 +9,7 @@ play-on-spec =
     (tie.spec
     (λ c κs. search needs)
     (λ c. search needs)
-    (λ c. part 12000 (c .before .words-of .ensures))
+    (λ c. part 24000 (c .before .words-of .ensures))
     (λ c. search needs)
     (λ c κs. search needs)
     (λ c κs. search needs)

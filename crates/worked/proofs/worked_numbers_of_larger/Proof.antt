@@ -5,7 +5,7 @@ use Rattle.records.specs.Checked.{checked, firstBad}
 use Rattle.records.specs.Contexts.{bindingBytes, bindingStarts}
 use Rattle.records.specs.Orders.{orderBytes, orderIn, orderOf, orderReaders, orderOk, orderOperandsOk, usedByOrder, orderStarts}
 use Rattle.emit.specs.Answers.{granted}
-use Rattle.layout.specs.Config.{larger, shapeOf, stackOffset}
+use Rattle.layout.specs.Config.{larger, frameOf, stackOffset}
 use Rattle.layout.specs.Positions.{location, operandOk, positionAnswer}
 use Rattle.memory.specs.Answered.{eraseAnswer, storeAnswer}
 use Rattle.memory.specs.LoadAnswered.{loadAnswer}
@@ -17,7 +17,7 @@ use Rattle.worked.proofs.worked_numbers_of_larger.Statement.{statement}
 use Rattle.worked.proofs.worked_numbers_of_larger.Tie as tie
 
 holds : WorkedNumbersOfLarger
-unfolding treeOf contextAfter shapeOf le checked firstBad bindingBytes bindingStarts granted stackOffset location positionAnswer operandOk eraseAnswer storeAnswer loadAnswer answerTo number orderBytes orderIn orderOf orderReaders orderOk orderOperandsOk usedByOrder orderStarts present kindsOk asked
+unfolding treeOf contextAfter frameOf le checked firstBad bindingBytes bindingStarts granted stackOffset location positionAnswer operandOk eraseAnswer storeAnswer loadAnswer answerTo number orderBytes orderIn orderOf orderReaders orderOk orderOperandsOk usedByOrder orderStarts present kindsOk asked
 holds = record {
   frame-256 = refl;
   frame-512 = refl;

@@ -7,10 +7,10 @@ use Rattle.inspect.proofs.heap.all_sound.Statement.{statement}
 use Rattle.inspect.proofs.heap.all_sound.Tie as tie
 
 abbrev Inv-loop : tie.InvT-loop
-Inv-loop heap memory₀ blocks frontier b₀ memory b = length memory ≡ length memory₀
+Inv-loop fields heap memory₀ blocks frontier b₀ memory b = length memory ≡ length memory₀
 
 abbrev μ-loop : tie.MeasureT-loop
-μ-loop heap memory₀ blocks frontier b₀ memory b = blocks - b
+μ-loop fields heap memory₀ blocks frontier b₀ memory b = blocks - b
 
 pub all-sound-spec : {M : Type 1} → statement M
 all-sound-spec =

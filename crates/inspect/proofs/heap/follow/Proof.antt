@@ -7,10 +7,10 @@ use Rattle.inspect.proofs.heap.follow.Statement.{statement}
 use Rattle.inspect.proofs.heap.follow.Tie as tie
 
 abbrev Inv-loop : tie.InvT-loop
-Inv-loop heap memory₀ found₀ i₀ memory found i = length memory ≡ length memory₀
+Inv-loop fields heap memory₀ found₀ i₀ memory found i = length memory ≡ length memory₀
 
 abbrev μ-loop : tie.MeasureT-loop
-μ-loop heap memory₀ found₀ i₀ memory found i = 12000 - i
+μ-loop fields heap memory₀ found₀ i₀ memory found i = 12000 - i
 
 pub follow-spec : {M : Type 1} → statement M
 follow-spec =

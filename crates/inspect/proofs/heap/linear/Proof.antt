@@ -7,10 +7,10 @@ use Rattle.inspect.proofs.heap.linear.Statement.{statement}
 use Rattle.inspect.proofs.heap.linear.Tie as tie
 
 abbrev Inv-loop : tie.InvT-loop
-Inv-loop heap memory₀ blocks head next₀ i₀ memory next i = length memory ≡ length memory₀
+Inv-loop fields heap memory₀ blocks head next₀ i₀ memory next i = length memory ≡ length memory₀
 
 abbrev μ-loop : tie.MeasureT-loop
-μ-loop heap memory₀ blocks head next₀ i₀ memory next i = blocks - i
+μ-loop fields heap memory₀ blocks head next₀ i₀ memory next i = blocks - i
 
 pub linear-spec : {M : Type 1} → statement M
 linear-spec =

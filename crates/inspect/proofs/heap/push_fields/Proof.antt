@@ -7,10 +7,10 @@ use Rattle.inspect.proofs.heap.push_fields.Statement.{statement}
 use Rattle.inspect.proofs.heap.push_fields.Tie as tie
 
 abbrev Inv-loop : tie.InvT-loop
-Inv-loop heap memory₀ block field₀ memory field = length memory ≡ length memory₀
+Inv-loop fields heap memory₀ block field₀ memory field = length memory ≡ length memory₀
 
 abbrev μ-loop : tie.MeasureT-loop
-μ-loop heap memory₀ block field₀ memory field = 65536 - field
+μ-loop fields heap memory₀ block field₀ memory field = fields - field
 
 pub push-fields-spec : {M : Type 1} → statement M
 push-fields-spec =

@@ -7,10 +7,10 @@ use Rattle.inspect.proofs.values.object_sound.Statement.{statement}
 use Rattle.inspect.proofs.values.object_sound.Tie as tie
 
 abbrev Inv-loop : tie.InvT-loop
-Inv-loop heap memory₀ head cell n block₀ field₀ last₀ i₀ memory block field last i = length memory ≡ length memory₀
+Inv-loop fields heap memory₀ head cell n link block₀ field₀ last₀ i₀ memory block field last i = length memory ≡ length memory₀
 
 abbrev μ-loop : tie.MeasureT-loop
-μ-loop heap memory₀ head cell n block₀ field₀ last₀ i₀ memory block field last i = n - i
+μ-loop fields heap memory₀ head cell n link block₀ field₀ last₀ i₀ memory block field last i = n - i
 
 pub object-sound-spec : {M : Type 1} → statement M
 object-sound-spec =
@@ -18,6 +18,7 @@ object-sound-spec =
     (tie.spec
     Inv-loop
     μ-loop
+    (λ c κs. search needs)
     (λ c κs. search needs)
     (λ c κs. search needs)
     (λ c. search needs)

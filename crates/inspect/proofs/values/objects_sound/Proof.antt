@@ -7,10 +7,10 @@ use Rattle.inspect.proofs.values.objects_sound.Statement.{statement}
 use Rattle.inspect.proofs.values.objects_sound.Tie as tie
 
 abbrev Inv-loop : tie.InvT-loop
-Inv-loop heap memory₀ i₀ memory i = length memory ≡ length memory₀
+Inv-loop fields heap memory₀ i₀ memory i = length memory ≡ length memory₀
 
 abbrev μ-loop : tie.MeasureT-loop
-μ-loop heap memory₀ i₀ memory i = 12000 - i
+μ-loop fields heap memory₀ i₀ memory i = 12000 - i
 
 pub objects-sound-spec : {M : Type 1} → statement M
 objects-sound-spec =

@@ -5,10 +5,10 @@ use Rattle.inspect.proofs.values.unused_sound.Statement.{statement}
 use Rattle.inspect.proofs.values.unused_sound.Tie as tie
 
 abbrev Inv-loop : tie.InvT-loop
-Inv-loop heap block first field₀ field = Unit {0}
+Inv-loop fields heap block first field₀ field = Unit {0}
 
 abbrev μ-loop : tie.MeasureT-loop
-μ-loop heap block first field₀ field = first - field
+μ-loop fields heap block first field₀ field = first - field
 
 pub unused-sound-spec : {M : Type 1} → statement M
 unused-sound-spec =

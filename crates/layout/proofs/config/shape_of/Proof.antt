@@ -1,14 +1,18 @@
 use borrow.Author.Needs.{needs}
-use Rattle.layout.proofs.Placing.{small-frame, large-frame, no-frame}
+use mathlib.Core.Path.{_∙_}
+use Rattle.layout.specs.Config.{shapeOf}
 use Rattle.layout.proofs.config.shape_of.Statement.{statement}
 use Rattle.layout.proofs.config.shape_of.Tie as tie
+
+of-combined : tie.Need-returns
+unfolding shapeOf
+of-combined c = c .combined .ensures ∙ rw (c .before .before .edition-of .ensures, c .before .frame-of .ensures)
 
 pub shape-of-spec : {M : Type 1} → statement M
 shape-of-spec =
     tie.close
     (tie.spec
     (λ c κs. search needs)
-    (λ c. small-frame _ (c .before .if1 .taken) (c .base .ensures .0))
     (λ c κs. search needs)
-    (λ c. large-frame _ (c .before .before .if1 .left) (c .before .if2 .taken) (c .larger .ensures .0))
-    (λ c. no-frame _ (c .before .if1 .left) (c .if2 .left)))
+    (λ c κs. search needs)
+    of-combined)

@@ -1,18 +1,18 @@
 use borrow.Author.Needs.{needs}
-use native.Mathlib.Omega.{arith}
-use mathlib.Core.Path.{sym, _∙_}
-use Rattle.layout.proofs.Placing.{framed-supported, on-its-stack, on-another-stack, on-no-frame}
+use mathlib.Core.Path.{_∙_}
+use Rattle.layout.specs.Config.{shapeOn}
 use Rattle.layout.proofs.config.shape_on.Statement.{statement}
 use Rattle.layout.proofs.config.shape_on.Tie as tie
+
+of-combined : tie.Need-returns
+unfolding shapeOn
+of-combined c = c .combined .ensures ∙ rw (c .before .before .edition-of .ensures, c .before .frame-on .ensures)
 
 pub shape-on-spec : {M : Type 1} → statement M
 shape-on-spec =
     tie.close
     (tie.spec
     (λ c κs. search needs)
-    (λ c. search needs)
-    (λ c. let h = framed-supported _ (sym (c .before .before .before .before .shape-of .ensures) ∙ c .before .before .g .given .1) in omega (arith, h .frame))
-    (λ c. on-its-stack _ _ (sym (c .before .before .before .before .before .shape-of .ensures) ∙ c .before .before .before .g .given .1) (c .if1 .taken))
-    (λ c. search needs)
-    (λ c. on-another-stack _ _ (sym (c .before .before .before .before .before .shape-of .ensures) ∙ c .before .before .before .g .given .1) (c .if1 .left))
-    (λ c. on-no-frame _ _ (sym (c .before .before .shape-of .ensures) ∙ c .enum-told .given .1)))
+    (λ c κs. search needs)
+    (λ c κs. search needs)
+    of-combined)

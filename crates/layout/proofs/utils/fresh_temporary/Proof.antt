@@ -10,8 +10,8 @@ fresh-temporary-spec =
     (tie.spec
     (λ c κs. search needs)
     (λ c. search needs)
-    (λ c κs. framed-supported _ (sym (c .before .before .before .shape-of .ensures) ∙ c .before .g .given .1))
+    (λ c κs. framed-supported _ (sym (c .before .before .before .frame-of .ensures) ∙ c .before .g .given .1))
     (λ c. search needs)
     (λ c κs. search needs)
-    (λ c. rw (sym (c .before .before .before .before .shape-of .ensures) ∙ c .before .before .g .given .1) (c .fresh-temporary-in .ensures))
-    (λ c. rw (sym (c .before .before .before .shape-of .ensures) ∙ c .before .enum-told .given .1) (c .unframed .ensures)))
+    (λ c. rw (sym (c .before .before .before .before .frame-of .ensures) ∙ c .before .before .g .given .1) (c .fresh-temporary-in .ensures))
+    (λ c. rw (sym (c .before .before .before .frame-of .ensures) ∙ c .before .enum-told .given .1) (c .unframed .ensures)))

@@ -1,7 +1,7 @@
 use borrow.Author.Needs.{needs}
 use mathlib.Core.Path.{sym, _∙_}
 use Rattle.records.proofs.Answers.{answers-by}
-use Rattle.layout.proofs.Placing.{framed-supported, no-such-frame}
+use Rattle.layout.proofs.Placing.{framed-supported, not-chosen}
 use Rattle.layout.proofs.utils.position.Statement.{statement}
 use Rattle.layout.proofs.utils.position.Tie as tie
 
@@ -11,7 +11,7 @@ position-spec =
     (tie.spec
     (λ c κs. search needs)
     (λ c. search needs)
-    (λ c κs. framed-supported _ (sym (c .before .before .before .shape-of .ensures) ∙ c .before .g .given .1))
+    (λ c κs. framed-supported _ (sym (c .before .before .before .frame-of .ensures) ∙ c .before .g .given .1))
     (λ c. search needs)
-    (λ c. rw (sym (c .before .before .before .before .shape-of .ensures) ∙ c .before .before .g .given .1) (c .position-in .ensures))
-    (λ c. answers-by (no-such-frame _ (c .before .before .shape-of .ensures) _ _ (c .enum-told .given .1))))
+    (λ c. rw (sym (c .before .before .before .before .frame-of .ensures) ∙ c .before .before .g .given .1) (c .position-in .ensures))
+    (λ c. answers-by (not-chosen (c .before .before .frame-of .ensures) _ _ (c .enum-told .given .1))))

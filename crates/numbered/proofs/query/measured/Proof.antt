@@ -8,5 +8,7 @@ measured-spec =
     (tie.spec
     (λ c. search needs)
     (λ c. search needs)
+    (λ c. search needs)
     (λ c. rw (c .before .offset .given .1))
-    (λ c. rw (c .enum-told .given .1)))
+    (λ c. rw (c .enum-told .given .1))
+    (λ c. rw (c .enum-told2 .given .1)))

@@ -11,8 +11,8 @@ operate-spec =
     (tie.spec
     (λ c κs. search needs)
     (λ c. search needs)
-    (λ c κs. framed-supported _ (sym (c .before .before .before .before .shape-of .ensures) ∙ c .before .before .g .given .1))
+    (λ c κs. framed-supported _ (sym (c .before .before .before .before .frame-of .ensures) ∙ c .before .before .g .given .1))
     (λ c. search needs)
     (λ c. search needs)
-    (λ c. rw (sym (c .before .before .before .before .before .before .before .shape-of .ensures) ∙ c .before .before .before .before .before .g .given .1) (c .before .before .operate-in .ensures))
-    (λ c. rw (sym (c .before .before .shape-of .ensures) ∙ c .enum-told .given .1) (refused refl refl refl)))
+    (λ c. rw (sym (c .before .before .before .before .before .before .before .frame-of .ensures) ∙ c .before .before .before .before .before .g .given .1) (c .before .before .operate-in .ensures))
+    (λ c. rw (sym (c .before .before .frame-of .ensures) ∙ c .enum-told .given .1) (refused refl refl refl)))

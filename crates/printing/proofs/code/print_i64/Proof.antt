@@ -11,9 +11,9 @@ print-i64-spec =
     (tie.spec
     (λ c κs. search needs)
     (λ c. search needs)
-    (λ c κs. framed-supported _ (sym (c .before .before .before .before .shape-of .ensures) ∙ c .before .before .g .given .1))
+    (λ c κs. framed-supported _ (sym (c .before .before .before .before .frame-of .ensures) ∙ c .before .before .g .given .1))
     (λ c. search needs)
     (λ c κs. search needs)
     (λ c. search needs)
-    (λ c. rw (sym (c .before .before .before .before .before .before .before .shape-of .ensures) ∙ c .before .before .before .before .before .g .given .1) (c .before .before .print-i64-in .ensures))
-    (λ c. rw (sym (c .before .before .before .shape-of .ensures) ∙ c .before .enum-told .given .1) (refused (c .unframed .ensures .0) refl (c .unframed .ensures .1))))
+    (λ c. rw (sym (c .before .before .before .before .before .before .before .frame-of .ensures) ∙ c .before .before .before .before .before .g .given .1) (c .before .before .print-i64-in .ensures))
+    (λ c. rw (sym (c .before .before .before .frame-of .ensures) ∙ c .before .enum-told .given .1) (refused (c .unframed .ensures .0) refl (c .unframed .ensures .1))))

@@ -12,8 +12,8 @@ put-print-spec =
     (tie.spec
     (λ c κs. search needs)
     (λ c. search needs)
-    (λ c κs. let w = on-stack _ _ (sym (c .before .before .before .before .before .shape-on .ensures) ∙ c .before .before .before .g .given .1) in (record { registers = search needs; stack = w .1 }, (c .before .before .before .before .before .before .before .before .before .pre), framed-supported _ (w .0)))
+    (λ c κs. let w = on-stack _ _ (sym (c .before .before .before .before .before .frame-on .ensures) ∙ c .before .before .before .g .given .1) in (record { registers = search needs; stack = w .1 }, (c .before .before .before .before .before .before .before .before .before .pre), framed-supported _ (w .0)))
     (λ c. search needs)
     (λ c. search needs)
-    (λ c. rw (sym (c .before .before .before .before .before .before .before .before .shape-on .ensures) ∙ c .before .before .before .before .before .before .g .given .1) (c .before .before .put-print-in .ensures))
-    (λ c. rw (sym (c .before .before .shape-on .ensures) ∙ c .enum-told .given .1) (at-most (nothing _ _) (omega arith))))
+    (λ c. rw (sym (c .before .before .before .before .before .before .before .before .frame-on .ensures) ∙ c .before .before .before .before .before .before .g .given .1) (c .before .before .put-print-in .ensures))
+    (λ c. rw (sym (c .before .before .frame-on .ensures) ∙ c .enum-told .given .1) (at-most (nothing _ _) (omega arith))))
