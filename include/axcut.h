@@ -1,13 +1,16 @@
 /*
  * AxCut's x86-64 back end, proved: the functions of libport.a (`rt staticlib port`), for C99 and C++.
  *
- * Numbers. Every function but axcut_blocks answers 0 (AXCUT_OK) where its input is accepted, else the number of the cause
- * (AXCUT_CONTEXT to AXCUT_LIMIT). Causes are checked in rising order, so the lowest number that holds is answered. A refusal
+ * Numbers. Every function answers 0 (AXCUT_OK) where its input is accepted, else the number of the cause. AXCUT_EDITION is checked
+ * before every other cause, the others in rising order, so that of these the lowest number that holds is answered. A refusal
  * leaves every buffer and the label counter as they were; only the words that tell about it are set (`place`, `value`, `count`,
  * `steps`). The exceptions are AXCUT_FAULT and AXCUT_LIMIT of axcut_run, which leave the state that the steps done reached.
  *
- * Frames. A routine or a channel has a frame of 256 or 512 spills, throughout. What depends on it takes the frame's number first;
- * another number is AXCUT_OPERAND.
+ * Editions. A routine or a channel has blocks of 3 fields (edition 1) or of 7 (edition 2), throughout. What depends on it takes
+ * the edition's number first; another number is AXCUT_EDITION, whatever is asked.
+ *
+ * Frames. A routine or a channel has a frame of 256 or 512 spills, throughout. What depends on it takes the frame's number first,
+ * or after the edition's; another number is AXCUT_OPERAND.
  *
  * Memory. The caller owns every buffer and lends it for the call: nothing is allocated, kept or freed, and there is no global
  * state, so calls on different buffers may go on at the same time. Buffers of one call must not overlap. No pointer may be null,
@@ -32,8 +35,9 @@ enum {
     AXCUT_CONTEXT = 1,    /* context not whole records, bad mark, kind or zero byte, over 4,096 */
     AXCUT_MALFORMED = 2,  /* malformed instruction or order, field not zero, too many; a heap not of 2 to 1,048,576 whole blocks
                              [record place from 1; 0 for the heap] */
-    AXCUT_OPERAND = 3,    /* register not 4..15, spill not 1 to the frame's last (255, 511), field not 0..2, label that no record
-                             may hold; no such frame, operation, query or kind; a stack that is not the frame's */
+    AXCUT_OPERAND = 3,    /* register not 4..15, spill not 1 to the frame's last (255, 511), field not 0 to the edition's last
+                             (2, 6), label that no record may hold; no such frame, operation, query or kind; a stack that is
+                             not the frame's */
     AXCUT_MISSING = 4,    /* id or place not in the context; more to store than there are variables */
     AXCUT_KIND = 5,       /* a variable of the wrong kind for the order */
     AXCUT_ARGUMENTS = 6,  /* more than 5 arguments */
@@ -42,7 +46,8 @@ enum {
     AXCUT_LABELS = 9,     /* counter plus labels needed above 2^31-1 */
     AXCUT_ROOM = 10,      /* output too short; of two, the first that is [bytes needed] */
     AXCUT_FAULT = 11,     /* machine fault within the limit [steps done before it, record place] */
-    AXCUT_LIMIT = 12      /* step limit reached before the end [the limit] */
+    AXCUT_LIMIT = 12,     /* step limit reached before the end [the limit] */
+    AXCUT_EDITION = 23    /* an edition other than 1 or 2; checked before every other cause */
 };
 
 /* Sizes in bytes, and how many there may be. */
@@ -58,6 +63,16 @@ enum {
     AXCUT_ROOM_FOR_TEXT = 162706       /* enough for every listing (proved: listings_fit) */
 };
 
+/* Editions, by number. */
+enum {
+    AXCUT_FIRST_EDITION = 1,
+    AXCUT_SECOND_EDITION = 2
+};
+
+/* What a block has. */
+#define AXCUT_BLOCK_FIELDS(edition) ((edition) == AXCUT_FIRST_EDITION ? 3 : 7)
+#define AXCUT_BLOCK_WORDS(edition) ((edition) == AXCUT_FIRST_EDITION ? 8 : 16)
+
 /* Frames, by the number of their spills. */
 enum {
     AXCUT_FRAME = 256,
@@ -65,18 +80,18 @@ enum {
 };
 
 /*
- * What a frame wants; in brackets for each of the two. Proved (orders_fit): orders from the empty context reach no more variables,
- * and the two rooms are enough for every order of a channel.
+ * What a frame wants; in brackets for each of the two. Proved (orders_fit, rooms_by_shape): orders from the empty context reach no
+ * more variables, and the two rooms are enough for every order of a channel. An order's records need the most in edition 1.
  */
 #define AXCUT_STACK_WORDS(frame) ((frame) + 64)          /* of the machine's stack [320, 576] */
 #define AXCUT_MOST_VARIABLES(frame) (((frame) + 11) / 2) /* [133, 261] */
-#define AXCUT_ROOM_FOR_RECORDS(frame) ((frame) == AXCUT_FRAME ? 102624 : 202464)                 /* bytes for an order's records */
+#define AXCUT_ROOM_FOR_RECORDS(edition, frame) /* bytes for an order's records [102624, 202464; in edition 2 67872, 135648] */ \
+    ((edition) == AXCUT_FIRST_EDITION ? ((frame) == AXCUT_FRAME ? 102624 : 202464) : ((frame) == AXCUT_FRAME ? 67872 : 135648))
 #define AXCUT_ROOM_FOR_CONTEXT(frame) (AXCUT_BINDING_SIZE * AXCUT_MOST_VARIABLES(frame)) /* for the context after it [1064, 2088] */
 
 /* The machine: registers, stack, heap and the words that print calls leave. */
 enum {
     AXCUT_REGISTERS = 16,
-    AXCUT_BLOCK_WORDS = 8,
     AXCUT_FEWEST_BLOCKS = 2,
     AXCUT_MOST_BLOCKS = 1048576,
     AXCUT_PRINT_WORDS = 9,
@@ -186,20 +201,22 @@ uint64_t axcut_list(const uint8_t *records, size_t length, uint8_t *text, size_t
  * AXCUT_OPERAND where there is no such frame or `stack_words` is not AXCUT_STACK_WORDS(frame). The heap beside it is the
  * caller's and starts as zeroes.
  */
-uint64_t axcut_start(uint64_t frame, bool fresh, uint64_t *registers /* 16 */, uint64_t *stack, size_t stack_words);
+uint64_t axcut_start(uint64_t edition, uint64_t frame, bool fresh, uint64_t *registers /* 16 */, uint64_t *stack,
+                     size_t stack_words);
 
 /*
  * Runs records on a lent state and heap of `heap_words` words, for at most `limit` steps. `words` are what a print call leaves in
  * registers 1 and 4..11. `steps` are those done, `place` the place of the bad or faulting record:
  *   AXCUT_OK          the run ended after `steps`; place 0
- *   AXCUT_MALFORMED   nothing was run; steps 0, `place` (0: the heap is not 2 to 1,048,576 whole blocks)
+ *   AXCUT_EDITION     nothing was run; steps 0, place 0
+ *   AXCUT_MALFORMED   nothing was run; steps 0, `place` (0: the heap is not 2 to 1,048,576 whole blocks of the edition's words)
  *   AXCUT_OPERAND     nothing was run: frame or `stack_words` as for axcut_start; steps 0, place 0
  *   AXCUT_FAULT       state and heap are as they were before record `place`, after `steps`
  *   AXCUT_LIMIT       state and heap are as they are after `limit` steps; steps is the limit, place 0
  */
-uint64_t axcut_run(uint64_t frame, const uint8_t *records, size_t length, uint64_t *registers /* 16 */, uint64_t *stack,
-                   size_t stack_words, uint64_t *heap, size_t heap_words, const uint64_t *words /* 9 */, uint64_t limit,
-                   uint64_t *steps, uint64_t *place);
+uint64_t axcut_run(uint64_t edition, uint64_t frame, const uint8_t *records, size_t length, uint64_t *registers /* 16 */,
+                   uint64_t *stack, size_t stack_words, uint64_t *heap, size_t heap_words, const uint64_t *words /* 9 */,
+                   uint64_t limit, uint64_t *steps, uint64_t *place);
 
 /* Counts of axcut_blocks, by their place. */
 enum {
@@ -214,9 +231,10 @@ enum {
 
 /*
  * Counts the blocks of a heap of `heap_words` words between two orders of a channel whose runs all ended. Other words give
- * numbers without that meaning.
+ * numbers without that meaning. Nothing but AXCUT_EDITION is refused.
  */
-void axcut_blocks(const uint64_t *registers /* 16 */, const uint64_t *heap, size_t heap_words, uint64_t *counts /* 5 */);
+uint64_t axcut_blocks(uint64_t edition, const uint64_t *registers /* 16 */, const uint64_t *heap, size_t heap_words,
+                      uint64_t *counts /* 5 */);
 
 /* Operations of axcut_operation, and which of its arguments each takes: x first, y second, z third, l label, i immediate. */
 enum {
@@ -265,11 +283,13 @@ enum {
 };
 
 /*
- * Writes the records of an operation on blocks. `counter` is the last label drawn before; where the answer is 0 it becomes the
- * last one drawn by this operation. `value` is as for axcut_operation.
+ * Writes the records of an operation on blocks; those of erase_block and share_block_n are the same in both editions. `counter` is
+ * the last label drawn before; where the answer is 0 it becomes the last one drawn by this operation. `value` is as for
+ * axcut_operation.
  */
-uint64_t axcut_memory(uint64_t frame, uint64_t operation, uint64_t operand, uint64_t n, const uint8_t *context, size_t length,
-                      const uint8_t *loaded, size_t loaded_length, uint64_t *counter, uint8_t *out, size_t room, uint64_t *value);
+uint64_t axcut_memory(uint64_t edition, uint64_t frame, uint64_t operation, uint64_t operand, uint64_t n, const uint8_t *context,
+                      size_t length, const uint8_t *loaded, size_t loaded_length, uint64_t *counter, uint8_t *out, size_t room,
+                      uint64_t *value);
 
 /* Writes the records of print_i64 of an operand, which keep the variables of the context. `value` is as for axcut_operation. */
 uint64_t axcut_print(uint64_t frame, bool newline, uint64_t source, const uint8_t *context, size_t length, uint8_t *out,
@@ -279,8 +299,8 @@ uint64_t axcut_print(uint64_t frame, bool newline, uint64_t source, const uint8_
  * Writes a routine: setup, the body's records, cleanup. `value` is the number of records written, the place of the body's first
  * bad or surplus record (AXCUT_MALFORMED) or the bytes needed (AXCUT_ROOM), else 0.
  */
-uint64_t axcut_routine(uint64_t frame, const uint8_t *body, size_t length, size_t arguments, uint8_t *out, size_t room,
-                       uint64_t *value);
+uint64_t axcut_routine(uint64_t edition, uint64_t frame, const uint8_t *body, size_t length, size_t arguments, uint8_t *out,
+                       size_t room, uint64_t *value);
 
 /* Queries, what each takes, and what its value is. `second` asks for Snd, else Fst. */
 enum {
@@ -288,12 +308,15 @@ enum {
     AXCUT_QUERY_FRESH_TEMPORARY = 2,    /* second, context: the operand of the next variable's half */
     AXCUT_QUERY_VARIABLE_TEMPORARY = 3, /* second, id, context: the operand of that variable's half */
     AXCUT_QUERY_STACK_OFFSET = 4,       /* at, a spill's word: its offset from STACK */
-    AXCUT_QUERY_FIELD_OFFSET = 5        /* second, at, a field 0..2: its offset in a block; in any frame */
+    AXCUT_QUERY_FIELD_OFFSET = 5        /* second, at, a field 0 to the edition's last (2, 6): its offset in a block */
 };
 
-/* Where a variable or field stands. What a query does not take is not read. `value` is 0 on a refusal. */
-uint64_t axcut_query(uint64_t frame, uint64_t query, bool second, uint64_t at, uint32_t id, const uint8_t *context,
-                     size_t length, uint64_t *value);
+/*
+ * Where a variable or field stands: a field by the edition, all else by the frame, and a field's offset does not ask whether there
+ * is such a frame. What else a query does not take is not read. `value` is 0 on a refusal.
+ */
+uint64_t axcut_query(uint64_t edition, uint64_t frame, uint64_t query, bool second, uint64_t at, uint32_t id,
+                     const uint8_t *context, size_t length, uint64_t *value);
 
 /* Codes of orders, and the fields each uses; the others are zero. */
 enum {
@@ -325,9 +348,10 @@ enum {
  * The records are then run by axcut_run with `value` as the limit, on the state and the heap that the last run left; the next
  * order goes in with the context answered here.
  */
-uint64_t axcut_order(uint64_t frame, const uint8_t *context, size_t length, const uint8_t *order, size_t order_length,
-                     const uint8_t *bindings, size_t bindings_length, uint64_t *counter, uint8_t *records_out,
-                     size_t records_room, uint8_t *context_out, size_t context_room, uint64_t *value, uint64_t *count);
+uint64_t axcut_order(uint64_t edition, uint64_t frame, const uint8_t *context, size_t length, const uint8_t *order,
+                     size_t order_length, const uint8_t *bindings, size_t bindings_length, uint64_t *counter,
+                     uint8_t *records_out, size_t records_room, uint8_t *context_out, size_t context_room, uint64_t *value,
+                     uint64_t *count);
 
 /* Writes `size` bytes of a number, the lowest first. */
 static inline void axcut_write_number(uint8_t *at, uint64_t number, size_t size)
@@ -364,8 +388,8 @@ static inline void axcut_write_order(uint8_t *at, uint8_t code, uint8_t flag, ui
 /*
  * The word that a variable holds between two runs: its Snd (an Ext's integer, a linked variable's tag) or its Fst. The stack has
  * AXCUT_STACK_WORDS(frame) words. 0 where the place has no position in the frame, or STACK is not in the stack. A print order's
- * integer is read so before its run. Between the orders of a sound channel STACK is where the setup left it (proved:
- * heap_stays_sound).
+ * integer is read so before its run. It is the same in both editions. Between the orders of a sound channel STACK is where the
+ * setup left it (proved: heap_stays_sound).
  */
 static inline uint64_t axcut_word(uint64_t frame, const uint64_t *registers, const uint64_t *stack, uint32_t place, bool second)
 {
@@ -373,13 +397,13 @@ static inline uint64_t axcut_word(uint64_t frame, const uint64_t *registers, con
     const uint64_t words = AXCUT_STACK_WORDS(frame);
     const uint64_t position = 2 * (uint64_t)place + (second ? 1 : 0);
     uint64_t operand, offset, index;
-    if (axcut_query(frame, AXCUT_QUERY_POSITION, false, position, 0, &none, 0, &operand) != AXCUT_OK) {
+    if (axcut_query(AXCUT_FIRST_EDITION, frame, AXCUT_QUERY_POSITION, false, position, 0, &none, 0, &operand) != AXCUT_OK) {
         return 0;
     }
     if (operand < AXCUT_REGISTERS) {
         return registers[operand];
     }
-    if (axcut_query(frame, AXCUT_QUERY_STACK_OFFSET, false, operand, 0, &none, 0, &offset) != AXCUT_OK) {
+    if (axcut_query(AXCUT_FIRST_EDITION, frame, AXCUT_QUERY_STACK_OFFSET, false, operand, 0, &none, 0, &offset) != AXCUT_OK) {
         return 0;
     }
     index = (registers[AXCUT_STACK] + offset - (AXCUT_STACK_END - 8 * words)) / 8;

@@ -1,7 +1,8 @@
 /*
  * A piezometer's channel: its limit is kept as an object, loaded for each reading and compared by subtraction. Each order's records
- * are emitted and run. Then the list of orders in the file named, in both frames. With examples/long.orders the text is
- * examples/expected.txt, as examples/rust/channel.rs prints it too. Compiles as C99 and as C++.
+ * are emitted and run. Then the list of orders in the first file named, in both frames, and that in the second, in both editions.
+ * With examples/long.orders and examples/forty.orders the text is examples/expected.txt, as examples/rust/channel.rs prints it too.
+ * Compiles as C99 and as C++.
  */
 #include "axcut.h"
 
@@ -10,20 +11,29 @@
 #include <stdlib.h>
 #include <string.h>
 
-/* Two more than are reachable at once: one, and 132 in the list. */
+/* Two more than are reachable at once: one, and 132 in the list that reaches most. */
 enum { BLOCKS = 3, LIST_BLOCKS = 134 };
 
-/* All that a channel has: the caller owns it, the library is lent it. The arrays are large enough for either frame. */
+/* What the orders of one code came to. */
+struct work {
+    uint64_t records, steps;
+};
+
+/*
+ * All that a channel has: the caller owns it, the library is lent it. The arrays are large enough for either frame and edition. The
+ * work is by the order's code.
+ */
 struct channel {
-    uint64_t frame;
+    uint64_t edition, frame;
     uint64_t registers[AXCUT_REGISTERS];
     uint64_t stack[AXCUT_STACK_WORDS(AXCUT_LARGER_FRAME)];
-    uint64_t heap[LIST_BLOCKS * AXCUT_BLOCK_WORDS];
+    uint64_t heap[LIST_BLOCKS * AXCUT_BLOCK_WORDS(AXCUT_SECOND_EDITION)];
     size_t blocks;
     uint64_t counter;
     uint8_t context[AXCUT_ROOM_FOR_CONTEXT(AXCUT_LARGER_FRAME)];
     size_t variables;
-    uint8_t records[AXCUT_ROOM_FOR_RECORDS(AXCUT_LARGER_FRAME)];
+    uint8_t records[AXCUT_ROOM_FOR_RECORDS(AXCUT_FIRST_EDITION, AXCUT_LARGER_FRAME)];
+    struct work work[AXCUT_ORDER_PRINT + 1];
 };
 
 /* An order's fields, and what it is for. A load's n fields are all integers here. */
@@ -107,14 +117,20 @@ static void name_order(char name[32], const struct order *order)
 }
 
 /* A channel before its first order. The heap and the context start as zeroes. */
-static void start(struct channel *channel, uint64_t frame, size_t blocks)
+static void start(struct channel *channel, uint64_t edition, uint64_t frame, size_t blocks)
 {
     memset(channel, 0, sizeof *channel);
+    channel->edition = edition;
     channel->frame = frame;
     channel->blocks = blocks;
-    if (axcut_start(frame, true, channel->registers, channel->stack, AXCUT_STACK_WORDS(frame)) != AXCUT_OK) {
+    if (axcut_start(edition, frame, true, channel->registers, channel->stack, AXCUT_STACK_WORDS(frame)) != AXCUT_OK) {
         exit(EXIT_FAILURE);
     }
+}
+
+static size_t heap_words(const struct channel *channel)
+{
+    return channel->blocks * AXCUT_BLOCK_WORDS(channel->edition);
 }
 
 /* An order's records, and the context after it in place of the one before. `follow` bindings come with it. */
@@ -122,9 +138,9 @@ static uint64_t emit(struct channel *channel, const uint8_t *order, const uint8_
 {
     uint8_t after[sizeof channel->context];
     uint64_t count;
-    uint64_t number = axcut_order(channel->frame, channel->context, channel->variables * AXCUT_BINDING_SIZE, order,
-                                  AXCUT_ORDER_SIZE, bindings, follow * AXCUT_BINDING_SIZE, &channel->counter, channel->records,
-                                  sizeof channel->records, after, sizeof after, records, &count);
+    uint64_t number = axcut_order(channel->edition, channel->frame, channel->context, channel->variables * AXCUT_BINDING_SIZE,
+                                  order, AXCUT_ORDER_SIZE, bindings, follow * AXCUT_BINDING_SIZE, &channel->counter,
+                                  channel->records, sizeof channel->records, after, sizeof after, records, &count);
     if (number == AXCUT_OK) {
         memcpy(channel->context, after, count * AXCUT_BINDING_SIZE);
         channel->variables = count;
@@ -132,18 +148,20 @@ static uint64_t emit(struct channel *channel, const uint8_t *order, const uint8_
     return number;
 }
 
-/* A fault cannot happen to these orders: the channel is at its end if one does. */
-static void run(struct channel *channel, uint64_t records)
+/* Runs an accepted order's records. A fault cannot happen to these orders: the channel is at its end if one does. */
+static void run(struct channel *channel, uint8_t code, uint64_t records)
 {
     static const uint64_t words[AXCUT_PRINT_WORDS] = {0};
     uint64_t steps, place;
-    uint64_t number = axcut_run(channel->frame, channel->records, records * AXCUT_RECORD_SIZE, channel->registers, channel->stack,
-                                AXCUT_STACK_WORDS(channel->frame), channel->heap, channel->blocks * AXCUT_BLOCK_WORDS, words,
-                                records, &steps, &place);
+    uint64_t number = axcut_run(channel->edition, channel->frame, channel->records, records * AXCUT_RECORD_SIZE,
+                                channel->registers, channel->stack, AXCUT_STACK_WORDS(channel->frame), channel->heap,
+                                heap_words(channel), words, records, &steps, &place);
     if (number != AXCUT_OK) {
         printf("run refused with %" PRIu64 " at record %" PRIu64 "\n", number, place);
         exit(EXIT_FAILURE);
     }
+    channel->work[code].records += records;
+    channel->work[code].steps += steps;
 }
 
 /* What a print order prints, read before its run. */
@@ -176,7 +194,7 @@ static void play(struct channel *channel, const struct order *order)
     if (order->code == AXCUT_ORDER_PRINT) {
         print(channel, order->a);
     }
-    run(channel, records);
+    run(channel, order->code, records);
 }
 
 static void show_variables(const struct channel *channel)
@@ -192,13 +210,22 @@ static void show_variables(const struct channel *channel)
     }
 }
 
+/* The most blocks that were reachable at once. */
+static uint64_t peak(const struct channel *channel)
+{
+    uint64_t counts[AXCUT_BLOCKS_COUNTS];
+    if (axcut_blocks(channel->edition, channel->registers, channel->heap, heap_words(channel), counts) != AXCUT_OK) {
+        exit(EXIT_FAILURE);
+    }
+    return counts[AXCUT_BLOCKS_PEAK];
+}
+
 /* The heap that these orders want. */
 static void show_heap(const struct channel *channel)
 {
-    uint64_t counts[AXCUT_BLOCKS_COUNTS];
-    axcut_blocks(channel->registers, channel->heap, channel->blocks * AXCUT_BLOCK_WORDS, counts);
-    printf("heap: %zu blocks, %" PRIu64 " reachable at once, %" PRIu64 " to fit\n", channel->blocks, counts[AXCUT_BLOCKS_PEAK],
-           counts[AXCUT_BLOCKS_PEAK] + AXCUT_SPARE_BLOCKS);
+    uint64_t reachable = peak(channel);
+    printf("heap: %zu blocks, %" PRIu64 " reachable at once, %" PRIu64 " to fit\n", channel->blocks, reachable,
+           reachable + AXCUT_SPARE_BLOCKS);
 }
 
 /* A number of 32 bits in a record. */
@@ -211,7 +238,7 @@ static uint32_t read_field(const uint8_t *at)
 static void play_list(struct channel *channel, const uint8_t *bytes, size_t length)
 {
     size_t accepted = 0, most = 0;
-    printf("a list in a frame of %" PRIu64 " spills\n", channel->frame);
+    printf("a list in edition %" PRIu64 ", in a frame of %" PRIu64 " spills\n", channel->edition, channel->frame);
     while (length >= AXCUT_ORDER_SIZE) {
         size_t follow = bytes[1] == AXCUT_ORDER_LOAD ? read_field(bytes + 12) : 0;
         size_t size = AXCUT_ORDER_SIZE + follow * AXCUT_BINDING_SIZE;
@@ -227,13 +254,37 @@ static void play_list(struct channel *channel, const uint8_t *bytes, size_t leng
         if (bytes[1] == AXCUT_ORDER_PRINT) {
             print(channel, read_field(bytes + 4));
         }
-        run(channel, records);
+        run(channel, bytes[1], records);
         accepted++;
         most = channel->variables > most ? channel->variables : most;
         bytes += size;
         length -= size;
     }
     printf("%zu orders accepted, %zu variables at most\n", accepted, most);
+    show_heap(channel);
+}
+
+static void show_row(const char *what, uint64_t first, uint64_t second)
+{
+    printf("%-16s%11" PRIu64 "%11" PRIu64 "\n", what, first, second);
+}
+
+static uint64_t bytes_to_fit(const struct channel *channel)
+{
+    return (peak(channel) + AXCUT_SPARE_BLOCKS) * AXCUT_BLOCK_WORDS(channel->edition) * sizeof channel->heap[0];
+}
+
+/* What the same list came to in each edition. */
+static void show_editions(const struct channel *first, const struct channel *second)
+{
+    const struct work *a = first->work, *b = second->work;
+    printf("%-16s%11s%11s\n", "", "edition 1", "edition 2");
+    show_row("blocks at once", peak(first), peak(second));
+    show_row("bytes to fit", bytes_to_fit(first), bytes_to_fit(second));
+    show_row("store, records", a[AXCUT_ORDER_STORE].records, b[AXCUT_ORDER_STORE].records);
+    show_row("store, steps", a[AXCUT_ORDER_STORE].steps, b[AXCUT_ORDER_STORE].steps);
+    show_row("load, records", a[AXCUT_ORDER_LOAD].records, b[AXCUT_ORDER_LOAD].records);
+    show_row("load, steps", a[AXCUT_ORDER_LOAD].steps, b[AXCUT_ORDER_LOAD].steps);
 }
 
 /* The bytes of a file, as many as there is room for. */
@@ -252,15 +303,15 @@ static size_t read_file(const char *name, uint8_t *bytes, size_t room)
 
 int main(int argc, char **argv)
 {
-    static struct channel channel;
+    static struct channel channel, second;
     static uint8_t list[65536];
     static const uint64_t frames[] = {AXCUT_FRAME, AXCUT_LARGER_FRAME};
     size_t i, length;
-    if (argc != 2) {
-        fputs("which list of orders?\n", stderr);
+    if (argc != 3) {
+        fputs("which two lists of orders?\n", stderr);
         return EXIT_FAILURE;
     }
-    start(&channel, AXCUT_FRAME, BLOCKS);
+    start(&channel, AXCUT_FIRST_EDITION, AXCUT_FRAME, BLOCKS);
     for (i = 0; i < sizeof orders / sizeof orders[0]; i++) {
         play(&channel, &orders[i]);
     }
@@ -268,9 +319,14 @@ int main(int argc, char **argv)
     show_heap(&channel);
     length = read_file(argv[1], list, sizeof list);
     for (i = 0; i < sizeof frames / sizeof frames[0]; i++) {
-        start(&channel, frames[i], LIST_BLOCKS);
+        start(&channel, AXCUT_FIRST_EDITION, frames[i], LIST_BLOCKS);
         play_list(&channel, list, length);
-        show_heap(&channel);
     }
+    length = read_file(argv[2], list, sizeof list);
+    start(&channel, AXCUT_FIRST_EDITION, AXCUT_FRAME, LIST_BLOCKS);
+    play_list(&channel, list, length);
+    start(&second, AXCUT_SECOND_EDITION, AXCUT_FRAME, LIST_BLOCKS);
+    play_list(&second, list, length);
+    show_editions(&channel, &second);
     return EXIT_SUCCESS;
 }

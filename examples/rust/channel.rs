@@ -1,17 +1,22 @@
 //! A piezometer's channel: its limit is kept as an object, loaded for each reading and compared by
-//! subtraction. Each order's records are emitted and run. Then the list of orders in the file named,
-//! in both frames. With `examples/long.orders` the text is `examples/expected.txt`, as
-//! `examples/c/channel.c` prints it too.
+//! subtraction. Each order's records are emitted and run. Then the list of orders in the first file
+//! named, in both frames, and that in the second, in both editions. With `examples/long.orders` and
+//! `examples/forty.orders` the text is `examples/expected.txt`, as `examples/c/channel.c` prints it
+//! too.
 
 use axcut::{
-    Arithmetic, Channel, Frame, Kind, Order, Refusal, Variable, BINDING_SIZE, BLOCK_WORDS,
+    Accepted, Arithmetic, Channel, Edition, Frame, Kind, Order, Refusal, Variable, BINDING_SIZE,
     ORDER_SIZE, RECORD_SIZE,
 };
 use std::error::Error;
 
-/// Two more than are reachable at once: one, and 132 in the list.
+/// Two more than are reachable at once: one, and 132 in the list that reaches most.
 const BLOCKS: usize = 3;
 const LIST_BLOCKS: usize = 134;
+
+/// Codes of order records.
+const STORE: u8 = 5;
+const LOAD: u8 = 6;
 
 /// The orders, and what each is for.
 fn orders() -> Vec<(Order, &'static str)> {
@@ -84,22 +89,54 @@ fn play(channel: &mut Channel, order: &Order, why: &str) -> Result<(), Refusal> 
 /// The bytes of the first order of a list, and of the bindings that follow it if it is a load.
 fn first(list: &[u8]) -> Option<(&[u8], &[u8])> {
     let order = list.get(..ORDER_SIZE)?;
-    let count = match order {
-        [_, 6, ..] => u32::from_le_bytes(order[12..16].try_into().ok()?),
+    let count = match order[1] {
+        LOAD => u32::from_le_bytes(order[12..16].try_into().ok()?),
         _ => 0,
     };
     let bindings = list[ORDER_SIZE..].get(..count as usize * BINDING_SIZE)?;
     Some((order, bindings))
 }
 
+/// What the orders of one code came to.
+#[derive(Default)]
+struct Work {
+    records: u64,
+    steps: u64,
+}
+
+/// What a list came to.
+#[derive(Default)]
+struct Figures {
+    peak: u64,
+    bytes_to_fit: u64,
+    store: Work,
+    load: Work,
+}
+
+impl Figures {
+    /// Takes in an accepted order.
+    fn add(&mut self, code: u8, done: &Accepted) {
+        let work = match code {
+            STORE => &mut self.store,
+            LOAD => &mut self.load,
+            _ => return,
+        };
+        work.records += (done.records.len() / RECORD_SIZE) as u64;
+        work.steps += done.steps;
+    }
+}
+
 /// Plays a list of order records up to its end or the first refusal.
-fn play_list(frame: Frame, mut list: &[u8]) -> Result<(), Refusal> {
-    println!("a list in a frame of {} spills", frame.spills());
-    let mut channel = Channel::in_frame(frame, LIST_BLOCKS)?;
+fn play_list(edition: Edition, frame: Frame, mut list: &[u8]) -> Result<Figures, Refusal> {
+    let (number, spills) = (edition.number(), frame.spills());
+    println!("a list in edition {number}, in a frame of {spills} spills");
+    let mut channel = Channel::in_edition(edition, frame, LIST_BLOCKS)?;
+    let mut figures = Figures::default();
     let (mut accepted, mut most) = (0, 0);
     while let Some((order, bindings)) = first(list) {
         match channel.order_bytes(order, bindings) {
             Ok(done) => {
+                figures.add(order[1], &done);
                 for print in done.prints {
                     println!("{}", print.integer);
                 }
@@ -115,19 +152,40 @@ fn play_list(frame: Frame, mut list: &[u8]) -> Result<(), Refusal> {
     }
     println!("{accepted} orders accepted, {most} variables at most");
     show_heap(&channel);
-    Ok(())
+    if let Some(counted) = channel.blocks() {
+        figures.peak = counted.peak;
+        figures.bytes_to_fit = counted.to_fit() * edition.block_bytes() as u64;
+    }
+    Ok(figures)
 }
 
 fn show_heap(channel: &Channel) {
     if let Some(counted) = channel.blocks() {
-        let blocks = channel.heap().len() / BLOCK_WORDS;
+        let blocks = channel.heap().len() / channel.edition().block_words();
         let (peak, fit) = (counted.peak, counted.to_fit());
         println!("heap: {blocks} blocks, {peak} reachable at once, {fit} to fit");
     }
 }
 
+/// What the same list came to in each edition.
+fn show_editions(first: &Figures, second: &Figures) {
+    let row = |what, of: fn(&Figures) -> u64| {
+        println!("{what:16}{:11}{:11}", of(first), of(second));
+    };
+    println!("{:16}{:>11}{:>11}", "", "edition 1", "edition 2");
+    row("blocks at once", |figures| figures.peak);
+    row("bytes to fit", |figures| figures.bytes_to_fit);
+    row("store, records", |figures| figures.store.records);
+    row("store, steps", |figures| figures.store.steps);
+    row("load, records", |figures| figures.load.records);
+    row("load, steps", |figures| figures.load.steps);
+}
+
 fn main() -> Result<(), Box<dyn Error>> {
-    let name = std::env::args().nth(1).ok_or("which list of orders?")?;
+    let names: Vec<String> = std::env::args().skip(1).collect();
+    let [long, forty] = names.as_slice() else {
+        return Err("which two lists of orders?".into());
+    };
     let mut channel = Channel::new(BLOCKS)?;
     for (order, why) in orders() {
         play(&mut channel, &order, why)?;
@@ -139,9 +197,13 @@ fn main() -> Result<(), Box<dyn Error>> {
         }
     }
     show_heap(&channel);
-    let list = std::fs::read(name)?;
+    let list = std::fs::read(long)?;
     for frame in [Frame::Of256, Frame::Of512] {
-        play_list(frame, &list)?;
+        play_list(Edition::First, frame, &list)?;
     }
+    let list = std::fs::read(forty)?;
+    let first = play_list(Edition::First, Frame::Of256, &list)?;
+    let second = play_list(Edition::Second, Frame::Of256, &list)?;
+    show_editions(&first, &second);
     Ok(())
 }

@@ -1,8 +1,9 @@
 //! A channel: orders go in, their records run on a state and heap of its own.
 
+use crate::edition::Edition;
 use crate::ffi;
 use crate::frame::Frame;
-use crate::machine::{State, BLOCK_WORDS, MOST_BLOCKS};
+use crate::machine::{State, MOST_BLOCKS};
 use crate::order::{Binding, Kind, Order, BINDING_SIZE};
 use crate::refusal::{Cause, Refusal};
 use crate::RECORD_SIZE;
@@ -77,24 +78,32 @@ pub struct Channel {
 }
 
 impl Channel {
-    /// A fresh channel in the frame of 256 spills, beside a heap of 2 to 1,048,576 blocks; 2 more than
-    /// are reachable at once are enough ([`Channel::blocks`] tells after a trial on a large heap), so
-    /// 2 more than its stores acquire are too.
+    /// A fresh channel in the first edition and the frame of 256 spills, beside a heap of 2 to
+    /// 1,048,576 blocks; 2 more than are reachable at once are enough ([`Channel::blocks`] tells
+    /// after a trial on a large heap), so 2 more than its stores acquire are too.
     pub fn new(blocks: usize) -> Result<Channel, Refusal> {
         Channel::in_frame(Frame::default(), blocks)
     }
 
     /// The same in either frame: the larger one has room for 261 variables.
     pub fn in_frame(frame: Frame, blocks: usize) -> Result<Channel, Refusal> {
+        Channel::in_edition(Edition::default(), frame, blocks)
+    }
+
+    /// The same in either edition and frame: a block of the second edition has 7 fields.
+    pub fn in_edition(edition: Edition, frame: Frame, blocks: usize) -> Result<Channel, Refusal> {
         if !(2..=MOST_BLOCKS).contains(&blocks) {
             return Err(Refusal::new(Cause::Malformed, 0, 0));
         }
         Ok(Channel {
             context: Vec::new(),
             counter: 0,
-            state: State::fresh(frame),
-            heap: vec![0; blocks * BLOCK_WORDS],
-            rooms: (vec![0; frame.records_room()], vec![0; frame.context_room()]),
+            state: State::fresh(edition, frame),
+            heap: vec![0; blocks * edition.block_words()],
+            rooms: (
+                vec![0; frame.records_room(edition)],
+                vec![0; frame.context_room()],
+            ),
             failed: None,
         })
     }
@@ -133,15 +142,13 @@ impl Channel {
     fn emit(&mut self, order: &[u8], bindings: &[u8]) -> Result<(Vec<u8>, Vec<u8>, u64), Refusal> {
         let (records, context) = &mut self.rooms;
         let mut counter = self.counter;
-        let told = ffi::order(
-            self.state.frame,
-            &self.context,
+        let asked = ffi::Order {
+            context: &self.context,
             order,
             bindings,
-            &mut counter,
-            records,
-            context,
-        );
+        };
+        let State { edition, frame, .. } = self.state;
+        let told = ffi::order(edition, frame, &asked, &mut counter, records, context);
         if told.number != 0 {
             return Err(Refusal::told(told.number, told.value));
         }
@@ -200,6 +207,11 @@ impl Channel {
         self.counter = 0;
     }
 
+    /// The edition that the channel was made with.
+    pub fn edition(&self) -> Edition {
+        self.state.edition
+    }
+
     /// The frame that the channel was made with.
     pub fn frame(&self) -> Frame {
         self.state.frame
@@ -210,7 +222,7 @@ impl Channel {
         &self.state
     }
 
-    /// The heap's words, eight to a block.
+    /// The heap's words, [`Edition::block_words`] to a block.
     pub fn heap(&self) -> &[u64] {
         &self.heap
     }
@@ -221,7 +233,8 @@ impl Channel {
         if self.failed.is_some() {
             return None;
         }
-        let [linear, lazy, held, untouched, peak] = ffi::blocks(&self.state.registers, &self.heap);
+        let [linear, lazy, held, untouched, peak] =
+            ffi::blocks(self.edition(), &self.state.registers, &self.heap);
         Some(Blocks {
             linear,
             lazy,
@@ -235,16 +248,17 @@ impl Channel {
 #[cfg(test)]
 mod tests {
     use super::{Channel, Print, Variable};
-    use crate::{list, Arithmetic, Frame, Kind, Order, RECORD_SIZE};
+    use crate::{list, Arithmetic, Edition, Frame, Kind, Order, RECORD_SIZE};
 
+    const EDITIONS: [Edition; 2] = [Edition::First, Edition::Second];
     const FRAMES: [Frame; 2] = [Frame::Of256, Frame::Of512];
 
     fn played(blocks: usize, orders: &[Order]) -> Channel {
-        played_in(Frame::default(), blocks, orders)
+        played_in(Edition::default(), Frame::default(), blocks, orders)
     }
 
-    fn played_in(frame: Frame, blocks: usize, orders: &[Order]) -> Channel {
-        let mut channel = Channel::in_frame(frame, blocks).unwrap();
+    fn played_in(edition: Edition, frame: Frame, blocks: usize, orders: &[Order]) -> Channel {
+        let mut channel = Channel::in_edition(edition, frame, blocks).unwrap();
         for order in orders {
             channel.order(order).unwrap();
         }
@@ -293,10 +307,22 @@ mod tests {
     }
 
     #[test]
+    fn labels_and_records_of_the_second_edition() {
+        let orders = [Order::Put(5)];
+        let mut channel = played_in(Edition::Second, Frame::Of256, 3, &orders);
+        let store = channel.order(&Order::Store(1, 9)).unwrap();
+        let records = store.records.len() / RECORD_SIZE;
+        assert_eq!((records, store.labels), (111, 1..=25));
+        let load = channel.order(&Order::Load(vec![Kind::Ext])).unwrap();
+        let records = load.records.len() / RECORD_SIZE;
+        assert_eq!((records, load.labels), (10, 26..=27));
+    }
+
+    #[test]
     fn a_print_gives_the_integer_from_register_and_spill() {
         for (frame, most) in FRAMES.into_iter().zip([133, 261]) {
             let puts: Vec<Order> = (0..i64::from(most)).map(|i| Order::Put(i - 50)).collect();
-            let mut channel = played_in(frame, 2, &puts);
+            let mut channel = played_in(Edition::First, frame, 2, &puts);
             for place in [0, 5, 6, 132, most - 1] {
                 let accepted = channel.order(&Order::Print(place, place == 6)).unwrap();
                 let print = Print {
@@ -314,19 +340,52 @@ mod tests {
         }
     }
 
-    /// As many variables as the frame has room for become one object and come back.
+    /// So many integers become one object, which takes so many blocks, and come back.
+    fn stored_and_loaded(edition: Edition, frame: Frame, n: u32, blocks: usize) {
+        let mut orders: Vec<Order> = (0..i64::from(n)).map(Order::Put).collect();
+        orders.push(Order::Store(n, 9));
+        let mut channel = played_in(edition, frame, blocks + 2, &orders);
+        assert_eq!(channel.variables(), [Variable::Object(9)]);
+        assert_eq!(channel.heap().len(), (blocks + 2) * edition.block_words());
+        let counted = channel.blocks().unwrap();
+        assert_eq!(
+            (counted.held, counted.peak),
+            (blocks as u64, blocks as u64),
+            "{edition:?} {n}"
+        );
+        let kinds = vec![Kind::Ext; n as usize];
+        channel.order(&Order::Load(kinds)).unwrap();
+        let integers = (0..i64::from(n)).map(Variable::Integer);
+        assert!(channel.variables().into_iter().eq(integers));
+    }
+
+    /// As many variables as the frame has room for.
     #[test]
     fn a_full_frame_is_stored_and_loaded() {
-        for (frame, most, blocks) in [(Frame::Of256, 133, 66), (Frame::Of512, 261, 130)] {
-            let mut orders: Vec<Order> = (0..i64::from(most)).map(Order::Put).collect();
-            orders.push(Order::Store(most, 9));
-            let mut channel = played_in(frame, blocks + 2, &orders);
-            assert_eq!(channel.variables(), [Variable::Object(9)]);
-            assert_eq!(channel.blocks().unwrap().peak, blocks as u64);
-            let kinds = vec![Kind::Ext; most as usize];
-            channel.order(&Order::Load(kinds)).unwrap();
-            let integers = (0..i64::from(most)).map(Variable::Integer);
-            assert!(channel.variables().into_iter().eq(integers));
+        let blocks = [[66, 130], [22, 44]];
+        for (edition, blocks) in EDITIONS.into_iter().zip(blocks) {
+            for (frame, blocks) in FRAMES.into_iter().zip(blocks) {
+                stored_and_loaded(edition, frame, frame.most_variables() as u32, blocks);
+            }
+        }
+    }
+
+    /// The last block of an object holds as many variables as a block has fields, the others one
+    /// fewer.
+    #[test]
+    fn an_object_takes_the_editions_blocks() {
+        let sizes = [1, 3, 4, 7, 8, 13, 14, 40];
+        let blocks = [[1, 1, 2, 3, 4, 6, 7, 20], [1, 1, 1, 1, 2, 2, 3, 7]];
+        for (edition, blocks) in EDITIONS.into_iter().zip(blocks) {
+            for (n, blocks) in sizes.into_iter().zip(blocks) {
+                stored_and_loaded(edition, Frame::Of256, n, blocks);
+            }
+            assert_eq!(
+                Channel::in_edition(edition, Frame::Of256, 2)
+                    .unwrap()
+                    .edition(),
+                edition
+            );
         }
     }
 
@@ -428,24 +487,34 @@ mod tests {
     /// channels lend, and one needs all of it.
     #[test]
     fn the_largest_order_fits_and_fills() {
-        for frame in FRAMES {
-            let most_variables = frame.most_variables() as u32;
-            let mut most = 0;
-            for linked in [false, true] {
-                for last in 1..=most_variables {
-                    let mut channel = Channel::in_frame(frame, 2).unwrap();
-                    channel.context = context(linked, last);
-                    for order in orders(last, linked, most_variables) {
-                        let bindings = order.bindings(channel.bindings());
-                        if let Ok((records, after, _)) = channel.emit(&order.bytes(), &bindings) {
+        for edition in EDITIONS {
+            for frame in FRAMES {
+                assert_eq!(most_written(edition, frame), frame.records_room(edition));
+            }
+        }
+    }
+
+    /// The bytes of the longest records.
+    fn most_written(edition: Edition, frame: Frame) -> usize {
+        let most_variables = frame.most_variables() as u32;
+        let mut most = 0;
+        for linked in [false, true] {
+            for last in 1..=most_variables {
+                let mut channel = Channel::in_edition(edition, frame, 2).unwrap();
+                channel.context = context(linked, last);
+                for order in orders(last, linked, most_variables) {
+                    let bindings = order.bindings(channel.bindings());
+                    match channel.emit(&order.bytes(), &bindings) {
+                        Ok((records, after, _)) => {
                             most = most.max(records.len());
                             assert!(after.len() <= frame.context_room());
                         }
+                        Err(refusal) => assert_ne!(refusal.number, 10),
                     }
                 }
             }
-            assert_eq!(most, frame.records_room());
         }
+        most
     }
 
     fn context(linked: bool, variables: u32) -> Vec<u8> {

@@ -40,7 +40,7 @@ pub fn list(records: &[u8]) -> Result<String, Refusal> {
 mod tests {
     use super::{check, list, Form};
     use crate::emit::{memory, Memory, Operand};
-    use crate::Frame;
+    use crate::{Edition, Frame};
 
     #[test]
     fn bad_bytes_are_refused_with_their_place() {
@@ -57,7 +57,7 @@ mod tests {
     fn a_share_is_listed_as_document_01_has_it() {
         let mut counter = 0;
         let share = Memory::ShareBlockN(Operand::Register(4), 1);
-        let records = memory(Frame::Of256, share, &mut counter).unwrap();
+        let records = memory(Edition::First, Frame::Of256, share, &mut counter).unwrap();
         let lines =
             "4 records\n1 CMPI 4 0 0 0 0\n2 JEL 0 0 1 0 0\n3 ADDIM 4 0 0 0 1\n4 LAB 0 0 1 0 0\n";
         assert_eq!(list(&records).unwrap(), lines);

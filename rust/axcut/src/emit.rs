@@ -1,5 +1,6 @@
 //! Records of operations and routines.
 
+use crate::edition::Edition;
 use crate::ffi::{self, Told};
 use crate::frame::Frame;
 use crate::order::{context_bytes, Arithmetic, Binding};
@@ -136,8 +137,14 @@ pub fn operation(frame: Frame, operation: Operation) -> Result<Vec<u8>, Refusal>
     written(|out| ffi::operation(frame, &operation, out))
 }
 
-/// The records of an operation on blocks. The counter is the last label drawn; a refusal keeps it.
-pub fn memory(frame: Frame, memory: Memory, counter: &mut u64) -> Result<Vec<u8>, Refusal> {
+/// The records of an operation on blocks; those of a store or a load are the edition's. The counter
+/// is the last label drawn; a refusal keeps it.
+pub fn memory(
+    edition: Edition,
+    frame: Frame,
+    memory: Memory,
+    counter: &mut u64,
+) -> Result<Vec<u8>, Refusal> {
     let (context, loaded) = match memory {
         Memory::Store(context, _) => (context_bytes(context), Vec::new()),
         Memory::Load(context, loaded) => (context_bytes(context), context_bytes(loaded)),
@@ -156,7 +163,7 @@ pub fn memory(frame: Frame, memory: Memory, counter: &mut u64) -> Result<Vec<u8>
         context: &context,
         loaded: &loaded,
     };
-    written(|out| ffi::memory(frame, &asked, counter, out))
+    written(|out| ffi::memory(edition, frame, &asked, counter, out))
 }
 
 /// The records of a print of an operand, which keep the variables of a context.
@@ -171,8 +178,13 @@ pub fn print(
 }
 
 /// The records of a routine around a body.
-pub fn routine(frame: Frame, body: &[u8], arguments: usize) -> Result<Vec<u8>, Refusal> {
-    written(|out| ffi::routine(frame, body, arguments, out))
+pub fn routine(
+    edition: Edition,
+    frame: Frame,
+    body: &[u8],
+    arguments: usize,
+) -> Result<Vec<u8>, Refusal> {
+    written(|out| ffi::routine(edition, frame, body, arguments, out))
 }
 
 /// The operand of a variable of a context by its id: its Snd or its Fst.
@@ -190,7 +202,7 @@ pub fn variable(
 
 #[cfg(test)]
 mod tests {
-    use super::{Condition, Frame, Memory, Operand, Operation};
+    use super::{Condition, Edition, Frame, Memory, Operand, Operation};
     use crate::{list, Arithmetic, Binding, Kind, Refusal, RECORD_SIZE};
 
     const R5: Operand = Operand::Register(5);
@@ -205,6 +217,9 @@ mod tests {
         Condition::GreaterOrEqual,
     ];
 
+    const FIRST: Edition = Edition::First;
+    const SECOND: Edition = Edition::Second;
+
     const SMALLER: Frame = Frame::Of256;
     const LARGER: Frame = Frame::Of512;
 
@@ -215,11 +230,11 @@ mod tests {
     }
 
     fn memory(memory: Memory, counter: &mut u64) -> Written {
-        super::memory(SMALLER, memory, counter)
+        super::memory(FIRST, SMALLER, memory, counter)
     }
 
     fn routine(body: &[u8], arguments: usize) -> Written {
-        super::routine(SMALLER, body, arguments)
+        super::routine(FIRST, SMALLER, body, arguments)
     }
 
     fn codes(records: &[u8]) -> Vec<u8> {
@@ -309,6 +324,28 @@ mod tests {
         assert_eq!(routine(&[], 5).unwrap().len() / RECORD_SIZE, 30);
     }
 
+    /// The records and labels of an operation on blocks.
+    fn size(edition: Edition, frame: Frame, memory: Memory) -> Result<(usize, u64), u64> {
+        let mut counter = 0;
+        match super::memory(edition, frame, memory, &mut counter) {
+            Ok(records) => Ok((records.len() / RECORD_SIZE, counter)),
+            Err(refusal) => Err(refusal.number),
+        }
+    }
+
+    #[test]
+    fn worked_numbers_of_the_second_edition() {
+        let ext = context(&[Kind::Ext; 8]);
+        let stored = |n| size(SECOND, SMALLER, Memory::Store(&ext[..n], n as u64));
+        let stores = [1, 4, 7, 8].map(|n| stored(n).unwrap());
+        assert_eq!(stores, [(110, 25), (113, 25), (117, 25), (228, 50)]);
+        let load = size(SECOND, SMALLER, Memory::Load(&[], &ext[..1]));
+        assert_eq!(load, Ok((10, 2)));
+        for memory in [Memory::EraseBlock(R5), Memory::ShareBlockN(R5, 3)] {
+            assert_eq!(size(SECOND, SMALLER, memory), size(FIRST, SMALLER, memory));
+        }
+    }
+
     #[test]
     fn a_refusal_keeps_the_counter() {
         let mut counter = u64::from(u32::MAX >> 1);
@@ -344,35 +381,36 @@ mod tests {
     }
 
     #[test]
-    fn stores_and_loads_by_frame() {
-        for (frame, most, stored, loaded) in [
-            (SMALLER, 133, (4_275, 858), (2_096, 135)),
-            (LARGER, 261, (8_435, 1_690), (4_144, 263)),
+    fn stores_and_loads_by_edition_and_frame() {
+        for (edition, frame, stored, loaded) in [
+            (FIRST, SMALLER, (4_275, 858), (2_096, 135)),
+            (FIRST, LARGER, (8_435, 1_690), (4_144, 263)),
+            (SECOND, SMALLER, (2_827, 550), (1_752, 135)),
+            (SECOND, LARGER, (5_651, 1_100), (3_460, 263)),
         ] {
+            let most = frame.most_variables();
             let linked = context(&vec![Kind::Linked; most + 1]);
-            let size = |memory| {
-                let mut counter = 0;
-                let written = super::memory(frame, memory, &mut counter);
-                written.map(|records| (records.len() / RECORD_SIZE, counter))
-            };
+            let size = |memory| size(edition, frame, memory);
             let store = size(Memory::Store(&linked[..most], most as u64));
             let load = size(Memory::Load(&[], &linked[..most]));
             assert_eq!((store, load), (Ok(stored), Ok(loaded)));
-            let more = size(Memory::Store(&linked, 1)).unwrap_err();
-            assert_eq!(more.number, 8);
-            let more = size(Memory::Load(&linked[..most], &linked[..1])).unwrap_err();
-            assert_eq!(more.number, 8);
+            assert_eq!(size(Memory::Store(&linked, 1)), Err(8));
+            assert_eq!(size(Memory::Load(&linked[..most], &linked[..1])), Err(8));
             assert!(size(Memory::Store(&linked[..most], 0)).is_ok());
         }
     }
 
+    /// The setup leaves FREE one block past HEAP, and STACK below the frame.
     #[test]
-    fn a_routine_has_its_frame() {
-        for (frame, bytes) in [(SMALLER, 2_048), (LARGER, 4_096)] {
-            let records = super::routine(frame, &[], 0).unwrap();
-            let listing = list(&records).unwrap();
-            assert!(listing.contains(&format!("SUBI 0 0 0 0 {bytes}\n")));
-            assert!(listing.contains(&format!("ADDI 0 0 0 0 {bytes}\n")));
+    fn a_routine_has_its_edition_and_frame() {
+        for (edition, block) in [(FIRST, 64), (SECOND, 128)] {
+            for (frame, bytes) in [(SMALLER, 2_048), (LARGER, 4_096)] {
+                let records = super::routine(edition, frame, &[], 0).unwrap();
+                let listing = list(&records).unwrap();
+                assert!(listing.contains(&format!("ADDI 3 0 0 0 {block}\n")));
+                assert!(listing.contains(&format!("SUBI 0 0 0 0 {bytes}\n")));
+                assert!(listing.contains(&format!("ADDI 0 0 0 0 {bytes}\n")));
+            }
         }
     }
 }

@@ -1,8 +1,9 @@
 //! The exported functions, and safe ones over them: slices give pointer and length, and every
 //! output word is set by the call.
 
+use crate::edition::Edition;
 use crate::frame::Frame;
-use crate::machine::REGISTERS;
+use crate::machine::{State, REGISTERS};
 
 /// The archive's functions, as `include/axcut.h` has them. Arrays go as pointers to their first
 /// word.
@@ -17,6 +18,7 @@ mod exported {
             value: *mut u64,
         ) -> u64;
         pub fn axcut_start(
+            edition: u64,
             frame: u64,
             fresh: bool,
             registers: *mut u64,
@@ -24,6 +26,7 @@ mod exported {
             stack_words: usize,
         ) -> u64;
         pub fn axcut_run(
+            edition: u64,
             frame: u64,
             records: *const u8,
             length: usize,
@@ -38,11 +41,12 @@ mod exported {
             place: *mut u64,
         ) -> u64;
         pub fn axcut_blocks(
+            edition: u64,
             registers: *const u64,
             heap: *const u64,
             heap_words: usize,
             counts: *mut u64,
-        );
+        ) -> u64;
         pub fn axcut_operation(
             frame: u64,
             operation: u64,
@@ -56,6 +60,7 @@ mod exported {
             value: *mut u64,
         ) -> u64;
         pub fn axcut_memory(
+            edition: u64,
             frame: u64,
             operation: u64,
             operand: u64,
@@ -80,6 +85,7 @@ mod exported {
             value: *mut u64,
         ) -> u64;
         pub fn axcut_routine(
+            edition: u64,
             frame: u64,
             body: *const u8,
             length: usize,
@@ -89,6 +95,7 @@ mod exported {
             value: *mut u64,
         ) -> u64;
         pub fn axcut_query(
+            edition: u64,
             frame: u64,
             query: u64,
             second: bool,
@@ -99,6 +106,7 @@ mod exported {
             value: *mut u64,
         ) -> u64;
         pub fn axcut_order(
+            edition: u64,
             frame: u64,
             context: *const u8,
             length: usize,
@@ -144,20 +152,17 @@ pub fn list(records: &[u8], text: &mut [u8]) -> Told {
     Told { number, value }
 }
 
-/// 0, or 3 where the stack has not the frame's words.
-pub fn start(
-    frame: Frame,
-    fresh: bool,
-    registers: &mut [u64; REGISTERS],
-    stack: &mut [u64],
-) -> u64 {
+/// Sets registers and stack, by the state's edition and frame: 0, or 3 where the stack has not the
+/// frame's words.
+pub fn start(state: &mut State, fresh: bool) -> u64 {
     unsafe {
         exported::axcut_start(
-            frame.number(),
+            state.edition.number(),
+            state.frame.number(),
             fresh,
-            registers.as_mut_ptr(),
-            stack.as_mut_ptr(),
-            stack.len(),
+            state.registers.as_mut_ptr(),
+            state.stack.as_mut_ptr(),
+            state.stack.len(),
         )
     }
 }
@@ -171,10 +176,8 @@ pub struct Ran {
 }
 
 pub fn run(
-    frame: Frame,
+    state: &mut State,
     records: &[u8],
-    registers: &mut [u64; REGISTERS],
-    stack: &mut [u64],
     heap: &mut [u64],
     words: &[u64; 9],
     limit: u64,
@@ -182,12 +185,13 @@ pub fn run(
     let (mut steps, mut place) = (0, 0);
     let number = unsafe {
         exported::axcut_run(
-            frame.number(),
+            state.edition.number(),
+            state.frame.number(),
             records.as_ptr(),
             records.len(),
-            registers.as_mut_ptr(),
-            stack.as_mut_ptr(),
-            stack.len(),
+            state.registers.as_mut_ptr(),
+            state.stack.as_mut_ptr(),
+            state.stack.len(),
             heap.as_mut_ptr(),
             heap.len(),
             words.as_ptr(),
@@ -207,16 +211,18 @@ pub fn run(
 pub const COUNTS: usize = 5;
 
 /// The blocks on HEAP's list, lazily freed, held and never used, and the most reachable at once.
-pub fn blocks(registers: &[u64; REGISTERS], heap: &[u64]) -> [u64; COUNTS] {
+pub fn blocks(edition: Edition, registers: &[u64; REGISTERS], heap: &[u64]) -> [u64; COUNTS] {
     let mut counts = [0; COUNTS];
-    unsafe {
+    let number = unsafe {
         exported::axcut_blocks(
+            edition.number(),
             registers.as_ptr(),
             heap.as_ptr(),
             heap.len(),
             counts.as_mut_ptr(),
         )
     };
+    debug_assert_eq!(number, 0, "the library has the edition");
     counts
 }
 
@@ -259,10 +265,17 @@ pub struct Memory<'a> {
     pub loaded: &'a [u8],
 }
 
-pub fn memory(frame: Frame, memory: &Memory, counter: &mut u64, out: &mut [u8]) -> Told {
+pub fn memory(
+    edition: Edition,
+    frame: Frame,
+    memory: &Memory,
+    counter: &mut u64,
+    out: &mut [u8],
+) -> Told {
     let mut value = 0;
     let number = unsafe {
         exported::axcut_memory(
+            edition.number(),
             frame.number(),
             memory.number,
             memory.operand,
@@ -297,10 +310,17 @@ pub fn print(frame: Frame, newline: bool, source: u64, context: &[u8], out: &mut
     Told { number, value }
 }
 
-pub fn routine(frame: Frame, body: &[u8], arguments: usize, out: &mut [u8]) -> Told {
+pub fn routine(
+    edition: Edition,
+    frame: Frame,
+    body: &[u8],
+    arguments: usize,
+    out: &mut [u8],
+) -> Told {
     let mut value = 0;
     let number = unsafe {
         exported::axcut_routine(
+            edition.number(),
             frame.number(),
             body.as_ptr(),
             body.len(),
@@ -313,10 +333,12 @@ pub fn routine(frame: Frame, body: &[u8], arguments: usize, out: &mut [u8]) -> T
     Told { number, value }
 }
 
+/// A query about variables, which does not read the edition.
 pub fn query(frame: Frame, query: u64, second: bool, at: u64, id: u32, context: &[u8]) -> Told {
     let mut value = 0;
     let number = unsafe {
         exported::axcut_query(
+            Edition::First.number(),
             frame.number(),
             query,
             second,
@@ -330,6 +352,14 @@ pub fn query(frame: Frame, query: u64, second: bool, at: u64, id: u32, context: 
     Told { number, value }
 }
 
+/// What axcut_order takes beside its counter and outputs.
+#[derive(Debug, Clone, Copy, Default)]
+pub struct Order<'a> {
+    pub context: &'a [u8],
+    pub order: &'a [u8],
+    pub bindings: &'a [u8],
+}
+
 /// What axcut_order answered.
 #[derive(Debug, Clone, Copy, PartialEq, Eq)]
 pub struct Ordered {
@@ -339,10 +369,9 @@ pub struct Ordered {
 }
 
 pub fn order(
+    edition: Edition,
     frame: Frame,
-    context: &[u8],
-    order: &[u8],
-    bindings: &[u8],
+    order: &Order,
     counter: &mut u64,
     records_out: &mut [u8],
     context_out: &mut [u8],
@@ -350,13 +379,14 @@ pub fn order(
     let (mut value, mut count) = (0, 0);
     let number = unsafe {
         exported::axcut_order(
+            edition.number(),
             frame.number(),
-            context.as_ptr(),
-            context.len(),
-            order.as_ptr(),
-            order.len(),
-            bindings.as_ptr(),
-            bindings.len(),
+            order.context.as_ptr(),
+            order.context.len(),
+            order.order.as_ptr(),
+            order.order.len(),
+            order.bindings.as_ptr(),
+            order.bindings.len(),
             counter,
             records_out.as_mut_ptr(),
             records_out.len(),

@@ -1,5 +1,6 @@
 //! How many spills a routine or a channel has.
 
+use crate::edition::Edition;
 use crate::order::BINDING_SIZE;
 
 /// The frame of a routine or a channel, throughout. The default has 256 spills.
@@ -37,11 +38,13 @@ impl Frame {
     }
 
     /// Bytes that are enough for the records of every order on a context that orders reach: proved,
-    /// `orders_fit`.
-    pub(crate) const fn records_room(self) -> usize {
-        match self {
-            Frame::Of256 => 102_624,
-            Frame::Of512 => 202_464,
+    /// `orders_fit` and `rooms_by_shape`.
+    pub(crate) const fn records_room(self, edition: Edition) -> usize {
+        match (edition, self) {
+            (Edition::First, Frame::Of256) => 102_624,
+            (Edition::First, Frame::Of512) => 202_464,
+            (Edition::Second, Frame::Of256) => 67_872,
+            (Edition::Second, Frame::Of512) => 135_648,
         }
     }
 
@@ -53,7 +56,7 @@ impl Frame {
 
 #[cfg(test)]
 mod tests {
-    use super::Frame;
+    use super::{Edition, Frame};
 
     #[test]
     fn sizes_are_the_headers() {
@@ -61,12 +64,13 @@ mod tests {
             [
                 frame.stack_words(),
                 frame.most_variables(),
-                frame.records_room(),
+                frame.records_room(Edition::First),
+                frame.records_room(Edition::Second),
                 frame.context_room(),
             ]
         };
         assert_eq!(Frame::default(), Frame::Of256);
-        assert_eq!(sizes(Frame::Of256), [320, 133, 102_624, 1_064]);
-        assert_eq!(sizes(Frame::Of512), [576, 261, 202_464, 2_088]);
+        assert_eq!(sizes(Frame::Of256), [320, 133, 102_624, 67_872, 1_064]);
+        assert_eq!(sizes(Frame::Of512), [576, 261, 202_464, 135_648, 2_088]);
     }
 }

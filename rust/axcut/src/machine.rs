@@ -1,13 +1,11 @@
 //! The machine's state, and where variables stand in it.
 
+use crate::edition::Edition;
 use crate::ffi;
 use crate::frame::Frame;
 use crate::refusal::Refusal;
 
 pub(crate) const REGISTERS: usize = 16;
-
-/// Words of a block.
-pub const BLOCK_WORDS: usize = 8;
 
 /// Blocks of the largest heap; the smallest has 2.
 pub const MOST_BLOCKS: usize = 1 << 20;
@@ -18,6 +16,8 @@ const STACK_END: u64 = 1 << 40;
 /// Registers and stack.
 #[derive(Debug, Clone, PartialEq, Eq)]
 pub struct State {
+    /// Whose blocks the heap beside it has.
+    pub edition: Edition,
     /// Whose words the stack has.
     pub frame: Frame,
     /// In the sequence rsp, rcx, rbx, rbp, rax, rdx, rsi, rdi, r8 to r15.
@@ -28,30 +28,31 @@ pub struct State {
 
 impl State {
     /// The state that a list of orders starts from.
-    pub fn fresh(frame: Frame) -> State {
-        State::start(frame, true)
+    pub fn fresh(edition: Edition, frame: Frame) -> State {
+        State::start(edition, frame, true)
     }
 
     /// The state with which a routine is entered.
-    pub fn entry(frame: Frame) -> State {
-        State::start(frame, false)
+    pub fn entry(edition: Edition, frame: Frame) -> State {
+        State::start(edition, frame, false)
     }
 
-    fn start(frame: Frame, fresh: bool) -> State {
+    fn start(edition: Edition, frame: Frame, fresh: bool) -> State {
         let mut state = State {
+            edition,
             frame,
             registers: [0; REGISTERS],
             stack: vec![0; frame.stack_words()],
         };
-        let number = ffi::start(frame, fresh, &mut state.registers, &mut state.stack);
+        let number = ffi::start(&mut state, fresh);
         debug_assert_eq!(number, 0, "the stack has the frame's words");
         state
     }
 
-    /// Runs records beside a heap of whole blocks, for at most `limit` steps; a print call leaves
-    /// `words` in registers 1 and 4 to 11. The steps of a run that ended. Refused with 11 or 12,
-    /// state and heap are as the steps done left them; a stack that has not the frame's words is
-    /// refused with 3.
+    /// Runs records beside a heap of whole blocks, [`Edition::block_words`] to each, for at most
+    /// `limit` steps; a print call leaves `words` in registers 1 and 4 to 11. The steps of a run that
+    /// ended. Refused with 11 or 12, state and heap are as the steps done left them; a stack that has
+    /// not the frame's words is refused with 3.
     pub fn run(
         &mut self,
         records: &[u8],
@@ -59,15 +60,7 @@ impl State {
         words: &[u64; 9],
         limit: u64,
     ) -> Result<u64, Refusal> {
-        let ran = ffi::run(
-            self.frame,
-            records,
-            &mut self.registers,
-            &mut self.stack,
-            heap,
-            words,
-            limit,
-        );
+        let ran = ffi::run(self, records, heap, words, limit);
         match ran.number {
             0 => Ok(ran.steps),
             number => Err(Refusal {
@@ -104,14 +97,15 @@ fn answered(told: ffi::Told) -> Option<u64> {
 
 #[cfg(test)]
 mod tests {
-    use super::{State, BLOCK_WORDS};
+    use super::{Edition, Frame, State};
     use crate::emit::{operation, Operand, Operation};
-    use crate::frame::Frame;
+
+    const EDITIONS: [Edition; 2] = [Edition::First, Edition::Second];
 
     #[test]
     fn a_variable_is_read_from_register_or_spill() {
         for (frame, last) in [(Frame::Of256, 133), (Frame::Of512, 261)] {
-            let mut state = State::fresh(frame);
+            let mut state = State::fresh(Edition::First, frame);
             state.registers[15] = 5;
             state.stack[57 + frame.spills() - 2] = 6;
             state.stack[57] = 7;
@@ -129,8 +123,8 @@ mod tests {
         let frame = Frame::Of256;
         let operation = |asked| operation(frame, asked).unwrap();
         let put = operation(Operation::LoadImmediate(Operand::Register(5), -3));
-        let mut heap = [0; 2 * BLOCK_WORDS];
-        let mut state = State::entry(frame);
+        let mut heap = [0; 2 * Edition::First.block_words()];
+        let mut state = State::entry(Edition::First, frame);
         assert_eq!(state.run(&put, &mut heap, &[0; 9], 1), Ok(1));
         assert_eq!(state.registers[5] as i64, -3);
         assert_eq!(
@@ -149,6 +143,39 @@ mod tests {
         assert_eq!((fault.number, fault.value, fault.place), (11, 0, 1));
     }
 
+    /// 24 words are three blocks in the first edition, and one and a half in the second.
+    #[test]
+    fn a_heap_has_whole_blocks_of_the_edition() {
+        let runs = |edition, words: usize| {
+            let mut state = State::fresh(edition, Frame::Of256);
+            let ran = state.run(&[], &mut vec![0; words], &[0; 9], 0);
+            ran.map_err(|refusal| (refusal.number, refusal.place))
+        };
+        for edition in EDITIONS {
+            let block = edition.block_words();
+            assert_eq!(runs(edition, block), Err((2, 0)));
+            assert_eq!(runs(edition, 2 * block), Ok(0));
+            assert_eq!(runs(edition, 3 * block - 1), Err((2, 0)));
+            assert_eq!(runs(edition, 3 * block), Ok(0));
+        }
+        assert_eq!(runs(Edition::First, 24), Ok(0));
+        assert_eq!(runs(Edition::Second, 24), Err((2, 0)));
+    }
+
+    /// HEAP at the heap's first block, FREE at the second.
+    #[test]
+    fn a_fresh_state_has_the_editions_first_blocks() {
+        for frame in [Frame::Of256, Frame::Of512] {
+            for edition in EDITIONS {
+                let registers = State::fresh(edition, frame).registers;
+                let second = 65_536 + edition.block_bytes() as u64;
+                assert_eq!(registers[2..4], [65_536, second]);
+            }
+            let entered = EDITIONS.map(|edition| State::entry(edition, frame).registers);
+            assert_eq!(entered[0], entered[1]);
+        }
+    }
+
     #[test]
     fn a_stack_of_other_words_is_refused() {
         for frame in [Frame::Of256, Frame::Of512] {
@@ -156,7 +183,7 @@ mod tests {
                 frame,
                 Operation::LoadImmediate(Operand::Spill(frame.spills() as u16 - 1), 4),
             );
-            let mut state = State::fresh(frame);
+            let mut state = State::fresh(Edition::First, frame);
             let run = |state: &mut State| {
                 let ran = state.run(put.as_ref().unwrap(), &mut [0; 16], &[0; 9], 9);
                 ran.map_err(|refusal| (refusal.number, refusal.place))

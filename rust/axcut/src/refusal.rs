@@ -30,9 +30,11 @@ pub enum Cause {
     Fault = 11,
     /// Step limit reached before the end.
     Limit = 12,
+    /// An edition other than 1 or 2; checked before every other cause.
+    Edition = 23,
 }
 
-const CAUSES: [(Cause, &str); 12] = [
+const CAUSES: [(Cause, &str); 13] = [
     (Cause::Context, "malformed context"),
     (
         Cause::Malformed,
@@ -51,12 +53,13 @@ const CAUSES: [(Cause, &str); 12] = [
     (Cause::Room, "output too short"),
     (Cause::Fault, "machine fault"),
     (Cause::Limit, "step limit reached"),
+    (Cause::Edition, "no such edition"),
 ];
 
 /// A refusal: nothing was written, and no label was drawn.
 #[derive(Debug, Clone, Copy, PartialEq, Eq)]
 pub struct Refusal {
-    /// 1 to 12.
+    /// 1 to 12, or 23.
     pub number: u64,
     /// The bytes needed (10), the steps done (11) or the limit (12); else 0.
     pub value: u64,
@@ -125,6 +128,9 @@ mod tests {
         assert_eq!((refusal.value, refusal.place), (48, 0));
         assert_eq!(refusal.to_string(), "refused with 10: output too short");
         assert_eq!(Refusal::told(2, 3).place, 3);
+        let refusal = Refusal::told(23, 0);
+        assert_eq!(refusal.cause(), Some(Cause::Edition));
+        assert_eq!(refusal.to_string(), "refused with 23: no such edition");
         assert_eq!(Refusal::told(13, 0).cause(), None);
     }
 }
