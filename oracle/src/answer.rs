@@ -88,7 +88,7 @@ impl fmt::Display for Ran {
         match number {
             0 => write!(f, "ended {steps}"),
             2 => write!(f, "refused 2 {place}"),
-            3 => write!(f, "refused 3"),
+            3 | 23 => write!(f, "refused {number}"),
             12 => write!(f, "refused 12 {steps}"),
             _ => write!(f, "refused {number} {steps} {place}"),
         }

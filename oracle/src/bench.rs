@@ -6,19 +6,19 @@ mod emission;
 pub use emission::emission;
 
 use crate::answer::Answer;
-use crate::frame::Frame;
-use crate::interpreter::{self, BLOCK_WORDS, HEAP_START, Outcome, State};
+use crate::interpreter::{self, HEAP_START, Outcome, State};
 use crate::parse;
 use crate::port;
 use crate::random::Random;
 use crate::record::SIZE;
 use crate::rust_side;
+use crate::shape::Shape;
 use std::hint::black_box;
 use std::time::{Duration, Instant};
 
-/// The machine is timed in the smaller frame.
-const FRAME: Frame = Frame::Base;
-const BLOCKS: usize = 80;
+/// The machine is timed in the first edition and the smaller frame.
+const SHAPE: Shape = Shape::BASE;
+const HEAP_WORDS: usize = 80 * SHAPE.edition.block_words();
 const WORDS: [u64; 9] = [0; 9];
 
 /// How many times each side runs a program, in turns. The least time counts.
@@ -46,7 +46,7 @@ pub fn machine() -> bool {
 /// The bytes of the records that the published Rust emits for a request.
 fn emitted(request: &str) -> Vec<u8> {
     let line = parse::line(request).expect("a request");
-    match rust_side::answer(line.frame, &line.request) {
+    match rust_side::answer(line.chosen, &line.request) {
         Answer::Records(records, _) => records.iter().flat_map(|r| r.to_bytes()).collect(),
         answer => unreachable!("the Rust emits records, not {answer}"),
     }
@@ -55,8 +55,8 @@ fn emitted(request: &str) -> Vec<u8> {
 /// A store of 133 variables, of both kinds, into 66 new blocks.
 fn store() -> Program {
     let setup = emitted("routine 0");
-    let mut state = interpreter::entry(FRAME);
-    let mut heap = vec![0; BLOCKS * BLOCK_WORDS];
+    let mut state = interpreter::entry(SHAPE.frame);
+    let mut heap = vec![0; HEAP_WORDS];
     by_rust(&setup[..16 * SIZE], &mut state, &mut heap, 16);
     assert_eq!(state.registers[2], HEAP_START);
     Program {
@@ -112,8 +112,8 @@ fn routine(name: &'static str, body: &str) -> Program {
     Program {
         name,
         records: emitted(&format!("{body}routine 5")),
-        state: interpreter::entry(FRAME),
-        heap: vec![0; BLOCKS * BLOCK_WORDS],
+        state: interpreter::entry(SHAPE.frame),
+        heap: vec![0; HEAP_WORDS],
     }
 }
 
@@ -174,13 +174,13 @@ type Side = fn(&[u8], &mut State, &mut [u64], u64) -> u64;
 const SIDES: [Side; 2] = [by_port, by_rust];
 
 fn by_port(records: &[u8], state: &mut State, heap: &mut [u64], limit: u64) -> u64 {
-    let ran = port::run(FRAME.number(), records, state, heap, &WORDS, limit);
+    let ran = port::run(SHAPE.chosen(), records, state, heap, &WORDS, limit);
     assert!(matches!(ran.number, 0 | 12), "{ran}");
     ran.steps
 }
 
 fn by_rust(records: &[u8], state: &mut State, heap: &mut [u64], limit: u64) -> u64 {
-    match interpreter::run(FRAME.number(), records, state, heap, &WORDS, limit) {
+    match interpreter::run(SHAPE.chosen(), records, state, heap, &WORDS, limit) {
         Outcome::Ended { steps, .. } => steps,
         Outcome::Limit { limit } => limit,
         outcome => unreachable!("{outcome:?}"),

@@ -1,13 +1,13 @@
 //! A channel on the port: the context answered last, and the state and heap that the last run
 //! left. An order goes in, and its records run.
 
-use crate::frame::Frame;
 use crate::interpreter::{self, State};
 use crate::lent::Lent;
 use crate::orders::BINDING;
 use crate::orders::answer::Asked;
 use crate::port::{self, Damaged, Ran};
 use crate::record;
+use crate::shape::{Chosen, Shape};
 
 /// More bytes than any order's records or context need.
 const AMPLE: usize = 1 << 18;
@@ -42,14 +42,19 @@ impl Rooms {
     }
 }
 
-/// Puts an order to the port, in the frame of so many spills. Bytes past what is written must
-/// stay, on a refusal all and the counter too.
-pub fn ask(frame: u64, context: &[u8], asked: &Asked, rooms: Rooms) -> Result<Answered, Damaged> {
+/// Puts an order to the port. Bytes past what is written must stay, on a refusal all and the
+/// counter too.
+pub fn ask(
+    chosen: Chosen,
+    context: &[u8],
+    asked: &Asked,
+    rooms: Rooms,
+) -> Result<Answered, Damaged> {
     let mut records_out = Lent::new(rooms.records);
     let mut context_out = Lent::new(rooms.context);
     let mut counter = asked.counter;
     let answer = port::order(
-        frame,
+        chosen,
         context,
         &asked.order,
         &asked.bindings,
@@ -92,7 +97,7 @@ pub enum Side {
 #[derive(Clone)]
 pub struct Channel {
     pub side: Side,
-    pub frame: Frame,
+    pub shape: Shape,
     pub context: Vec<u8>,
     pub state: Box<State>,
     pub heap: Vec<u64>,
@@ -100,14 +105,14 @@ pub struct Channel {
 
 impl Channel {
     /// The fresh routine's state beside a zeroed heap, and the empty context.
-    pub fn fresh(side: Side, frame: Frame, words: usize) -> Channel {
+    pub fn fresh(side: Side, shape: Shape, words: usize) -> Channel {
         Channel {
             side,
-            frame,
+            shape,
             context: Vec::new(),
             state: Box::new(match side {
-                Side::Port => port::fresh(frame),
-                Side::Reading => interpreter::fresh(frame),
+                Side::Port => port::fresh(shape),
+                Side::Reading => interpreter::fresh(shape),
             }),
             heap: vec![0; words],
         }
@@ -115,11 +120,11 @@ impl Channel {
 
     /// Runs records on the state and the heap.
     pub fn run(&mut self, records: &[u8], words: &[u64; 9], limit: u64) -> Ran {
-        let frame = self.frame.number();
+        let chosen = self.shape.chosen();
         let Channel { state, heap, .. } = self;
         match self.side {
-            Side::Port => port::run(frame, records, state, heap, words, limit),
-            Side::Reading => interpreter::run(frame, records, state, heap, words, limit).numbers(),
+            Side::Port => port::run(chosen, records, state, heap, words, limit),
+            Side::Reading => interpreter::run(chosen, records, state, heap, words, limit).numbers(),
         }
     }
 }

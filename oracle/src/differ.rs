@@ -1,9 +1,9 @@
 //! Puts one list of requests to both sides and counts the answers that differ.
 
 use crate::answer::Answer;
-use crate::frame::Frame;
 use crate::record;
 use crate::request::{Emission, Line, Operation, Query, Request};
+use crate::shape::Chosen;
 use crate::{parse, port_side, rust_side};
 use std::io::Result;
 
@@ -59,7 +59,7 @@ impl Tally {
             self.same += 1;
             return;
         };
-        let rust = by_rust(line.frame, &line.request);
+        let rust = by_rust(line.chosen, &line.request);
         let port = port_side::answer(&line, &mut None);
         match outcome(&line, &rust, &port) {
             Outcome::Same => self.same += 1,
@@ -75,10 +75,9 @@ impl Tally {
     }
 }
 
-/// What the Rust answers, in a frame that there is not as in that of 256 spills.
-fn by_rust(frame: u64, request: &Request) -> Answer {
-    let frame = Frame::of(frame).unwrap_or(Frame::Base);
-    rust_side::answer(frame.number(), request)
+/// What the Rust answers, in a shape that there is not as in the nearest.
+fn by_rust(chosen: Chosen, request: &Request) -> Answer {
+    rust_side::answer(chosen.nearest().chosen(), request)
 }
 
 fn outcome(line: &Line, rust: &Answer, port: &Answer) -> Outcome {
@@ -88,11 +87,15 @@ fn outcome(line: &Line, rust: &Answer, port: &Answer) -> Outcome {
     if matches!(rust, Answer::Malformed(_)) && rust != port {
         return Outcome::PortAlone;
     }
-    if unframed(line) {
-        return match port {
-            Answer::Refused(3, None) => Outcome::Matched,
-            _ => Outcome::Different,
-        };
+    if let Some(begun) = before_edition(line) {
+        let rust = by_rust(begun.chosen, &begun.request);
+        if refused(&begun, &rust) {
+            return outcome(&begun, &rust, port);
+        }
+        return must_be(23, port);
+    }
+    if let Some(number) = must_refuse(line) {
+        return must_be(number, port);
     }
     match (&line.request, rust, port) {
         _ if rust == port => Outcome::Same,
@@ -101,7 +104,7 @@ fn outcome(line: &Line, rust: &Answer, port: &Answer) -> Outcome {
         }
         (_, Answer::Exceeded(_), Answer::Refused(9, None)) => Outcome::Matched,
         (Request::Emission(emission), Answer::Records(..), Answer::Refused(10, bytes))
-            if bytes.is_some() && *bytes == lacking(line.frame, emission) =>
+            if bytes.is_some() && *bytes == lacking(line.chosen, emission) =>
         {
             Outcome::Matched
         }
@@ -109,30 +112,72 @@ fn outcome(line: &Line, rust: &Answer, port: &Answer) -> Outcome {
     }
 }
 
-/// Whether the port must refuse with 3: the frame is none that there is, and the request has an
-/// operation or a query that goes by it.
-fn unframed(line: &Line) -> bool {
-    let goes_by_frame = match &line.request {
-        Request::Query(query) => !matches!(query, Query::FieldOffset(..)),
-        Request::Emission(emission) => {
-            let given = |operation: &Operation| matches!(operation, Operation::Raw(..));
-            !emission.operations.iter().all(given)
-        }
+/// A refusal with a number and nothing else.
+fn must_be(number: u64, port: &Answer) -> Outcome {
+    match port {
+        Answer::Refused(found, None) if *found == number => Outcome::Matched,
+        _ => Outcome::Different,
+    }
+}
+
+/// In an edition that there is not, the operations before the first that takes one: if none of them
+/// refuses, that one does.
+fn before_edition(line: &Line) -> Option<Line> {
+    let Request::Emission(emission) = &line.request else {
+        return None;
+    };
+    let mut operations = emission.operations.iter();
+    let first = operations.position(Operation::takes_edition)?;
+    line.chosen.edition().is_none().then(|| Line {
+        chosen: line.chosen,
+        request: begun(emission, first),
+    })
+}
+
+/// So many operations of a list.
+fn begun(emission: &Emission, count: usize) -> Request {
+    Request::Emission(Emission {
+        operations: emission.operations[..count].to_vec(),
+        ..*emission
+    })
+}
+
+/// Whether the port refuses a list, to which the Rust answers this.
+fn refused(line: &Line, rust: &Answer) -> bool {
+    let short = match &line.request {
+        Request::Emission(emission) => lacking(line.chosen, emission).is_some(),
         _ => false,
     };
-    goes_by_frame && Frame::of(line.frame).is_none()
+    short || must_refuse(line).is_some() || !matches!(rust, Answer::Records(..))
+}
+
+/// The number with which the port must refuse whatever the Rust answers, if there is one: 3 where
+/// the frame is none that there is or a field is past a block's last, and to a query 23 before it
+/// where the edition is none.
+fn must_refuse(line: &Line) -> Option<u64> {
+    let no_frame = line.chosen.frame().is_none().then_some(3);
+    match &line.request {
+        Request::Query(query) => match (line.chosen.edition(), query) {
+            (None, _) => Some(23),
+            (Some(edition), Query::FieldOffset(_, field)) => {
+                (*field >= edition.fields() as u64).then_some(3)
+            }
+            _ => no_frame,
+        },
+        Request::Emission(emission) => {
+            let given = |operation: &Operation| matches!(operation, Operation::Raw(..));
+            no_frame.filter(|_| !emission.operations.iter().all(given))
+        }
+        _ => None,
+    }
 }
 
 /// The bytes that the Rust's records need up to the first operation for which the request gives too
 /// little room, if there is one.
-fn lacking(frame: u64, emission: &Emission) -> Option<u64> {
+fn lacking(chosen: Chosen, emission: &Emission) -> Option<u64> {
     let room = emission.room?;
     (1..=emission.operations.len()).find_map(|count| {
-        let begun = Emission {
-            operations: emission.operations[..count].to_vec(),
-            ..*emission
-        };
-        match by_rust(frame, &Request::Emission(begun)) {
+        match by_rust(chosen, &begun(emission, count)) {
             Answer::Records(records, _) => Some((records.len() * record::SIZE) as u64),
             _ => None,
         }
@@ -165,7 +210,7 @@ mod tests {
 
     fn rust(line: &str) -> Answer {
         let line = parse::line(line).unwrap();
-        by_rust(line.frame, &line.request)
+        by_rust(line.chosen, &line.request)
     }
 
     #[test]
@@ -240,6 +285,68 @@ mod tests {
         let field = "frame 255 field_offset fst 0";
         assert_eq!(outcome_of(field, rust(field), rust(field)), Outcome::Same);
         assert_eq!(refused(field, 3), Outcome::Different);
+    }
+
+    #[test]
+    fn another_edition_matches_a_refusal_with_23_alone() {
+        let refused = |line, number| outcome_of(line, rust(line), Answer::Refused(number, None));
+        let expected = |line, expected| {
+            for number in [1, 3, 4, 6, 8, 9, 23] {
+                let same = refused(line, number) == Outcome::Matched;
+                assert_eq!(same, number == expected, "{line} refused with {number}");
+            }
+        };
+        for line in [
+            "edition 0 store e -",
+            "edition 3 frame 300 room 0 load e -",
+            "edition 3 @2147483647 store_last l 1",
+            "edition 18446744073709551615 store - e600",
+            "edition 4 routine 6",
+            "edition 3 mov r4 r5; erase_block r4; store e -",
+            "edition 3 frame 300 raw a92407000000000000000000000000000000000000000000; routine 0",
+            "edition 3 frame 300 field_offset fst 0",
+            "edition 3 field_offset snd 7",
+            "edition 3 frame 300 @2147483647 erase_block p267",
+            "edition 3 share_block_n s256 4294967296",
+            "edition 3 @2147483647 erase_block r4; routine 0",
+            "edition 3 frame 300 position 267",
+            "edition 3 stack_offset 0",
+            "edition 3 fresh_temporary snd 134",
+            "edition 3 frame 300 variable_temporary fst 4294967296 4294967296",
+        ] {
+            expected(line, 23);
+            assert_eq!(outcome_of(line, rust(line), rust(line)), Outcome::Different);
+        }
+        // what comes before and refuses
+        expected("edition 3 frame 300 mov r4 r5; store e -", 3);
+        expected("edition 3 mov p267 r5; store e -", 8);
+        let short = "edition 3 room 24 mov r4 r5; mov s1 s2; store e -";
+        let bytes = |bytes| Answer::Refused(10, Some(bytes));
+        assert_eq!(outcome_of(short, rust(short), bytes(72)), Outcome::Matched);
+        assert_eq!(
+            outcome_of(short, rust(short), bytes(24)),
+            Outcome::Different
+        );
+        assert_eq!(refused(short, 23), Outcome::Different);
+        // what takes no edition
+        let moved = "edition 3 mov r4 r5";
+        assert_eq!(outcome_of(moved, rust(moved), rust(moved)), Outcome::Same);
+        assert_eq!(refused(moved, 23), Outcome::Different);
+    }
+
+    #[test]
+    fn a_field_past_the_last_matches_a_refusal_with_3_alone() {
+        for (line, past) in [
+            ("field_offset fst 2", false),
+            ("field_offset fst 3", true),
+            ("edition 2 field_offset snd 6", false),
+            ("edition 2 field_offset snd 7", true),
+        ] {
+            let matched = outcome_of(line, rust(line), Answer::Refused(3, None));
+            let same = outcome_of(line, rust(line), rust(line));
+            assert_eq!(matched == Outcome::Matched, past, "{line}");
+            assert_eq!(same == Outcome::Same, !past, "{line}");
+        }
     }
 
     #[test]

@@ -3,16 +3,16 @@
 mod emission;
 mod requests;
 
-use crate::frame::{FRAMES, Frame};
 use crate::inputs;
 use crate::random::Random;
+use crate::shape::{SHAPES, Shape};
 
 /// The contexts of a sample: short ones, with more variables than registers hold, and one in so
 /// many up to the longest.
 const SHORT: usize = 10;
 const LONG_IN: usize = 50;
 
-/// A list of the kind named, if it is one; `larger` has no random ones.
+/// A list of the kind named, if it is one; `larger` and `second` have no random ones.
 pub fn list(kind: &str, count: u64, seed: u64) -> Option<Vec<String>> {
     let random = &mut Random::new(seed);
     let mut list = Vec::new();
@@ -20,24 +20,25 @@ pub fn list(kind: &str, count: u64, seed: u64) -> Option<Vec<String>> {
         "emission" => {
             emission::limits(random, &mut list);
             list.extend((0..count).map(|_| {
-                let frame = random.pick(&FRAMES);
-                requests::random(frame, emission::longest(frame), random)
+                let shape = random.pick(&SHAPES);
+                requests::random(shape, emission::longest(shape.frame), random)
             }));
         }
         "sample" => {
             list.extend(emission::WORKED.map(str::to_string));
             list.extend((0..count).map(|_| {
-                let frame = Frame::Base;
+                let shape = Shape::BASE;
                 let long = random.once_in(LONG_IN);
                 let longest = if long {
-                    emission::longest(frame)
+                    emission::longest(shape.frame)
                 } else {
                     SHORT
                 };
-                requests::random(frame, longest, random)
+                requests::random(shape, longest, random)
             }));
         }
         "larger" => list.extend(emission::larger()),
+        "second" => list.extend(emission::second()),
         "checks" => {
             let limits = inputs::limits(random);
             list.extend(limits.iter().map(inputs::Input::request));

@@ -3,10 +3,10 @@
 //! It is plain Rust on mutable words, so it also serves to time the port's machine.
 
 use crate::codes::{CODES, Code};
-use crate::frame::Frame;
 use crate::port::Ran;
 use crate::reading;
 use crate::record::{PRINT_I64, PRINTLN_I64, SIZE};
+use crate::shape::{Chosen, Edition, Frame, Shape};
 
 pub const STACK: usize = 0;
 pub const RETURN1: usize = 4;
@@ -22,9 +22,8 @@ pub fn stack_start(words: usize) -> u64 {
     STACK_END - 8 * words as u64
 }
 
-/// "The lent heap is 2 to 1,048,576 blocks from address 65,536." A block is eight words.
+/// "The lent heap is 2 to 1,048,576 blocks from address 65,536."
 pub const HEAP_START: u64 = 65_536;
-pub const BLOCK_WORDS: usize = 8;
 pub const MOST_BLOCKS: usize = 1_048_576;
 
 /// "A print CALL puts nine lent words in registers 1 and 4..11, in that order."
@@ -55,11 +54,11 @@ pub fn stack_in_body(frame: Frame) -> u64 {
 
 /// "The first state follows the 16 records before the body of a 0-argument routine": six pushes of
 /// zeros, room for the spills, the heap's first block in HEAP and the second in FREE.
-pub fn fresh(frame: Frame) -> State {
-    let mut state = entry(frame);
-    state.registers[STACK] = stack_in_body(frame);
+pub fn fresh(shape: Shape) -> State {
+    let mut state = entry(shape.frame);
+    state.registers[STACK] = stack_in_body(shape.frame);
     state.registers[2] = HEAP_START;
-    state.registers[3] = HEAP_START + 8 * BLOCK_WORDS as u64;
+    state.registers[3] = HEAP_START + shape.edition.block_bytes();
     state
 }
 
@@ -89,11 +88,13 @@ pub enum Outcome {
         steps: u64,
         at_return: bool,
     },
+    /// No such edition, which comes before all else.
+    NoEdition,
     Malformed {
         place: u64,
     },
     /// No such frame, or another number of words on the stack than it has.
-    Unframed,
+    NoFrame,
     Fault {
         steps: u64,
         place: u64,
@@ -109,8 +110,9 @@ impl Outcome {
     pub fn numbers(&self) -> Ran {
         let (number, steps, place) = match *self {
             Outcome::Ended { steps, .. } => (0, steps, 0),
+            Outcome::NoEdition => (23, 0, 0),
             Outcome::Malformed { place } => (2, 0, place),
-            Outcome::Unframed => (3, 0, 0),
+            Outcome::NoFrame => (3, 0, 0),
             Outcome::Fault { steps, place, .. } => (11, steps, place),
             Outcome::Limit { limit } => (12, limit, 0),
         };
@@ -140,19 +142,19 @@ struct Machine<'a> {
 }
 
 pub fn run(
-    frame: u64,
+    chosen: Chosen,
     bytes: &[u8],
     state: &mut State,
     heap: &mut [u64],
     words: &[u64; 9],
     limit: u64,
 ) -> Outcome {
-    run_watched(frame, bytes, state, heap, words, limit, |_| ())
+    run_watched(chosen, bytes, state, heap, words, limit, |_| ())
 }
 
 /// The run, with a look at each code whose record was performed.
 pub fn run_watched(
-    frame: u64,
+    chosen: Chosen,
     bytes: &[u8],
     state: &mut State,
     heap: &mut [u64],
@@ -160,15 +162,19 @@ pub fn run_watched(
     limit: u64,
     mut performed: impl FnMut(Code),
 ) -> Outcome {
-    if !heap_allowed(heap.len()) {
+    let Some(edition) = chosen.edition() else {
+        return Outcome::NoEdition;
+    };
+    if !heap_allowed(edition, heap.len()) {
         return Outcome::Malformed { place: 0 };
     }
     if let Err(refusal) = reading::check_records(bytes) {
         let place = refusal.value.expect("a bad record has a place");
         return Outcome::Malformed { place };
     }
-    if Frame::of(frame).is_none_or(|frame| frame.stack_words() != state.stack.len()) {
-        return Outcome::Unframed;
+    let frame = chosen.frame();
+    if frame.is_none_or(|frame| frame.stack_words() != state.stack.len()) {
+        return Outcome::NoFrame;
     }
     let (records, _) = bytes.as_chunks::<SIZE>();
     let mut machine = Machine {
@@ -217,8 +223,9 @@ pub fn run_watched(
 }
 
 /// "Heap not 2 to 1,048,576 whole blocks" is malformed.
-fn heap_allowed(words: usize) -> bool {
-    words.is_multiple_of(BLOCK_WORDS) && (2..=MOST_BLOCKS).contains(&(words / BLOCK_WORDS))
+fn heap_allowed(edition: Edition, words: usize) -> bool {
+    let block = edition.block_words();
+    words.is_multiple_of(block) && (2..=MOST_BLOCKS).contains(&(words / block))
 }
 
 fn code(record: &[u8; SIZE]) -> Code {
@@ -432,13 +439,13 @@ fn extension(word: u64) -> u64 {
 mod tests {
     use super::*;
     use crate::answer::Answer;
-    use crate::frame::FRAMES;
     use crate::programs::{self, Program};
+    use crate::shape::SHAPES;
     use crate::{parse, rust_side};
 
-    fn routine(frame: Frame, request: &str) -> Vec<u8> {
+    fn routine(shape: Shape, request: &str) -> Vec<u8> {
         let line = parse::line(request).unwrap();
-        match rust_side::answer(frame.number(), &line.request) {
+        match rust_side::answer(shape.chosen(), &line.request) {
             Answer::Records(records, _) => records.iter().flat_map(|r| r.to_bytes()).collect(),
             answer => panic!("{answer}"),
         }
@@ -446,23 +453,24 @@ mod tests {
 
     fn ran(program: &mut Program) -> Outcome {
         let Program {
-            frame,
+            chosen,
             records,
             state,
             heap,
             words,
             limit,
         } = program;
-        run(*frame, records, state, heap, words, *limit)
+        run(*chosen, records, state, heap, words, *limit)
     }
 
     /// "The first state follows the 16 records before the body of a 0-argument routine."
     #[test]
     fn where_a_body_starts() {
-        for (frame, spill_bytes) in FRAMES.into_iter().zip([2_048, 4_096]) {
-            let records = &routine(frame, "routine 0")[..16 * SIZE];
-            let (mut state, mut heap) = (entry(frame), vec![0; 16]);
-            let outcome = run(frame.number(), records, &mut state, &mut heap, &[0; 9], 16);
+        let bytes = [(2_048, 64), (4_096, 64), (2_048, 128), (4_096, 128)];
+        for (shape, (spill_bytes, block_bytes)) in SHAPES.into_iter().zip(bytes) {
+            let records = &routine(shape, "routine 0")[..16 * SIZE];
+            let (mut state, mut heap) = (entry(shape.frame), vec![0; 32]);
+            let outcome = run(shape.chosen(), records, &mut state, &mut heap, &[0; 9], 16);
             let at_return = false;
             assert_eq!(
                 outcome,
@@ -473,25 +481,25 @@ mod tests {
             );
             let [stack, _, heap, free, ..] = state.registers;
             assert_eq!(stack, STACK_AT_ENTRY - 6 * 8 - spill_bytes);
-            assert_eq!([heap, free], [HEAP_START, HEAP_START + 64]);
-            assert_eq!(state, fresh(frame));
+            assert_eq!([heap, free], [HEAP_START, HEAP_START + block_bytes]);
+            assert_eq!(state, fresh(shape));
         }
     }
 
     /// A routine gives back what it saved and returns.
     #[test]
     fn a_routine_returns() {
-        for frame in FRAMES {
-            let last = frame.positions() - 1;
+        for shape in SHAPES {
+            let last = shape.frame.positions() - 1;
             let body = format!("load_immediate p1 7; add p{last} p1 p1; routine 0");
-            let records = routine(frame, &body);
-            let mut state = entry(frame);
+            let records = routine(shape, &body);
+            let mut state = entry(shape.frame);
             state.registers[12..].copy_from_slice(&[5, 6, 7, 8]);
             let outcome = run(
-                frame.number(),
+                shape.chosen(),
                 &records,
                 &mut state,
-                &mut [0; 16],
+                &mut [0; 32],
                 &[0; 9],
                 u64::MAX,
             );
@@ -510,8 +518,8 @@ mod tests {
 
     #[test]
     fn each_fault_has_its_place_and_cause() {
-        for frame in FRAMES {
-            for (mut program, place, why) in programs::faults(frame) {
+        for shape in SHAPES {
+            for (mut program, place, why) in programs::faults(shape) {
                 let steps = place - 1;
                 assert_eq!(ran(&mut program), Outcome::Fault { steps, place, why });
             }
@@ -520,12 +528,38 @@ mod tests {
 
     #[test]
     fn a_stack_is_its_frames() {
-        for mut program in programs::frames() {
+        for mut program in programs::other_shapes() {
+            let Program { chosen, state, .. } = &program;
+            let known_edition = matches!(chosen.edition, 1 | 2);
             let its_own = [(256, 320), (512, 576)];
-            let known = its_own.contains(&(program.frame, program.state.stack.len()));
-            let framed = !matches!(ran(&mut program), Outcome::Unframed);
+            let known_frame = its_own.contains(&(chosen.frame, state.stack.len()));
             let malformed = program.heap.is_empty() || program.records[0] == 0;
-            assert_eq!(framed, known || malformed);
+            let number = match ran(&mut program) {
+                Outcome::NoEdition => 23,
+                Outcome::Malformed { .. } => 2,
+                Outcome::NoFrame => 3,
+                _ => 0,
+            };
+            let expected = match (known_edition, malformed, known_frame) {
+                (false, ..) => 23,
+                (_, true, _) => 2,
+                (.., false) => 3,
+                _ => 0,
+            };
+            assert_eq!(number, expected, "{:?}", program.chosen);
+        }
+    }
+
+    /// A heap of 24 words is three blocks of the first edition, and no whole blocks of the second.
+    #[test]
+    fn a_heap_is_of_its_editions_blocks() {
+        let allowed = |edition| move |words: &usize| heap_allowed(edition, *words);
+        let up_to = |edition| (0..=48).filter(allowed(edition)).collect::<Vec<_>>();
+        assert_eq!(up_to(Edition::First), [16, 24, 32, 40, 48]);
+        assert_eq!(up_to(Edition::Second), [32, 48]);
+        for (edition, most) in [(Edition::First, 8 << 20), (Edition::Second, 16 << 20)] {
+            assert!(heap_allowed(edition, most));
+            assert!(!heap_allowed(edition, most + edition.block_words()));
         }
     }
 }

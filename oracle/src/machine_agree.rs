@@ -2,12 +2,12 @@
 //! steps, the place, every register, every word of the stack and of the heap.
 
 use crate::codes::FORMS;
-use crate::frame::{FRAMES, Frame};
 use crate::hex;
 use crate::interpreter::{self, Fault, Outcome, State};
 use crate::port::{self, Ran};
 use crate::programs::{self, Program};
 use crate::random::Random;
+use crate::shape::SHAPES;
 use std::collections::BTreeMap;
 
 /// How many differences are shown.
@@ -33,13 +33,13 @@ pub fn run(count: u64, seed: u64) -> bool {
         performed: vec![0; FORMS.len()],
         ..Tally::default()
     };
-    for frame in FRAMES {
-        let starts = [port::entry(frame), port::fresh(frame)];
-        if starts != [interpreter::entry(frame), interpreter::fresh(frame)] {
-            println!("{frame:?}: the entry or the fresh state differs");
+    for shape in SHAPES {
+        let starts = [port::entry(shape), port::fresh(shape)];
+        if starts != [interpreter::entry(shape.frame), interpreter::fresh(shape)] {
+            println!("{shape:?}: the entry or the fresh state differs");
             tally.different += 1;
         }
-        for (program, place, why) in programs::faults(frame) {
+        for (program, place, why) in programs::faults(shape) {
             let outcome = tally.compare(&program);
             let steps = place - 1;
             if outcome != (Outcome::Fault { steps, place, why }) {
@@ -48,7 +48,7 @@ pub fn run(count: u64, seed: u64) -> bool {
             }
         }
     }
-    for program in programs::frames() {
+    for program in programs::other_shapes() {
         tally.compare(&program);
         tally.compare_start(&program);
     }
@@ -69,7 +69,7 @@ impl Tally {
     fn compare(&mut self, program: &Program) -> Outcome {
         self.programs += 1;
         let Program {
-            frame,
+            chosen,
             records,
             words,
             limit,
@@ -82,7 +82,7 @@ impl Tally {
         let mut found = (program.state.clone(), lent);
         let performed = &mut self.performed;
         let outcome = interpreter::run_watched(
-            *frame,
+            *chosen,
             records,
             &mut expected.0,
             &mut expected.1[inside.clone()],
@@ -91,7 +91,7 @@ impl Tally {
             |code| performed[usize::from(code.number()) - 1] += 1,
         );
         let (state, heap) = (&mut found.0, &mut found.1[inside]);
-        let ran = port::run(*frame, records, state, heap, words, *limit);
+        let ran = port::run(*chosen, records, state, heap, words, *limit);
         *self.outcomes.entry(name(&outcome)).or_default() += 1;
         if outcome.numbers() != ran || expected != found {
             self.different += 1;
@@ -102,21 +102,28 @@ impl Tally {
         outcome
     }
 
-    /// A start on a program's stack: a state of the frame, or refused with 3 and nothing written.
+    /// A start on a program's stack: a state of the shape, or refused with 23 for the edition, then
+    /// with 3 for the frame, and nothing written.
     fn compare_start(&mut self, program: &Program) {
-        let State { stack, .. } = &program.state;
-        let known = Frame::of(program.frame).filter(|frame| frame.stack_words() == stack.len());
+        let Program { chosen, state, .. } = program;
+        let stack_words = state.stack.len();
+        let known = chosen.shape();
+        let known = known.filter(|shape| shape.frame.stack_words() == stack_words);
+        let number = match known {
+            Some(_) => 0,
+            None if chosen.edition().is_none() => 23,
+            None => 3,
+        };
         for (fresh, started) in [
-            (false, known.map(interpreter::entry)),
+            (false, known.map(|shape| interpreter::entry(shape.frame))),
             (true, known.map(interpreter::fresh)),
         ] {
-            let number = if started.is_some() { 0 } else { 3 };
-            let expected = (number, started.unwrap_or_else(|| program.state.clone()));
-            let mut state = program.state.clone();
-            let found = (port::start(program.frame, fresh, &mut state), state);
+            let expected = (number, started.unwrap_or_else(|| state.clone()));
+            let mut state = state.clone();
+            let found = (port::start(*chosen, fresh, &mut state), state);
             if expected != found {
                 self.different += 1;
-                println!("a start in frame {} differs", program.frame);
+                println!("a start in {chosen:?} differs");
             }
         }
     }
@@ -155,9 +162,10 @@ fn name(outcome: &Outcome) -> &'static str {
         Outcome::Ended {
             at_return: true, ..
         } => "ended at RET",
+        Outcome::NoEdition => "refused: no such edition",
         Outcome::Malformed { place: 0 } => "refused: the heap",
         Outcome::Malformed { .. } => "refused: a record",
-        Outcome::Unframed => "refused: no such frame",
+        Outcome::NoFrame => "refused: no such frame",
         Outcome::Limit { .. } => "step limit reached",
         Outcome::Fault { why, .. } => match why {
             Fault::AddressOutside => "fault: address outside",
@@ -187,8 +195,8 @@ fn show(
 ) {
     let records: String = hex::write(&program.records).chars().take(2_400).collect();
     println!(
-        "frame {}, limit {}, records {records}",
-        program.frame, program.limit
+        "{:?}, limit {}, records {records}",
+        program.chosen, program.limit
     );
     println!("    registers {:?}", program.state.registers);
     println!("    document 01: {outcome:?}, port: {ran}");

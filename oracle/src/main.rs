@@ -7,7 +7,6 @@ mod channel;
 mod codes;
 mod context;
 mod differ;
-mod frame;
 mod generate;
 mod hex;
 mod inputs;
@@ -27,6 +26,7 @@ mod record;
 mod replay_file;
 mod request;
 mod rust_side;
+mod shape;
 mod soak;
 mod well_formed;
 
@@ -40,6 +40,7 @@ oracle compare rust|port                           answers requests on standard 
 oracle differ                                      puts them to both and counts differences
 oracle generate emission|sample|checks [OPTIONS]   writes requests (--count 1000, --seed 1)
 oracle generate larger                             writes some at the limits of 512 spills
+oracle generate second                             writes some of the second edition
 oracle replay-file                                 writes requests with the Rust's answers for the program replay
 oracle agree [OPTIONS]                             holds the port against document 01
                                                    (--count 100000, --seed 1)
@@ -82,7 +83,7 @@ fn run(words: &[&str]) -> Result<bool, Failure> {
     let input = std::io::stdin().lock();
     match words {
         ["compare", "rust"] => {
-            let side = |line: &Line| rust_side::answer(line.frame, &line.request);
+            let side = |line: &Line| rust_side::answer(line.chosen, &line.request);
             answer_all(input, side).map_err(Failure::Files)?;
         }
         ["compare", "port"] => {

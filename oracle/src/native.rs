@@ -4,14 +4,12 @@
 
 use crate::codes::Code::{self, *};
 use crate::codes::{CODES, FORMS};
-use crate::frame::FRAMES;
-use crate::interpreter::{
-    self, BLOCK_WORDS, HEAP_START, STACK, STACK_AT_ENTRY, STACK_END, State, stack_start,
-};
+use crate::interpreter::{self, HEAP_START, STACK, STACK_AT_ENTRY, STACK_END, State, stack_start};
 use crate::port;
 use crate::programs::{Program, record};
 use crate::random::Random;
 use crate::record::{PRINT_I64, Record};
+use crate::shape::SHAPES;
 use crate::well_formed::immediate;
 use std::ffi::c_void;
 use std::io::{Error, ErrorKind, Result};
@@ -39,7 +37,8 @@ const WORDS: usize = HOST + 8;
 const TABLE: usize = 0x400;
 
 const LIMIT: u64 = 1_000;
-const HEAP_BLOCKS: usize = 8;
+/// Whole blocks of either edition.
+const HEAP_WORDS: usize = 64;
 
 /// How many differences are shown.
 const SHOWN: u64 = 5;
@@ -94,7 +93,7 @@ pub fn run(count: u64, seed: u64, folder: &Path) -> Result<bool> {
 fn on_port(program: &Program) -> (port::Ran, State, Vec<u64>) {
     let (mut state, mut heap) = (program.state.clone(), program.heap.clone());
     let ran = port::run(
-        program.frame,
+        program.chosen,
         &program.records,
         &mut state,
         &mut heap,
@@ -107,7 +106,7 @@ fn on_port(program: &Program) -> (port::Ran, State, Vec<u64>) {
 fn count_performed(program: &Program, performed: &mut [u64]) {
     let (mut state, mut heap) = (program.state.clone(), program.heap.clone());
     interpreter::run_watched(
-        program.frame,
+        program.chosen,
         &program.records,
         &mut state,
         &mut heap,
@@ -156,10 +155,10 @@ fn differences(
     Ok(return_addresses)
 }
 
-/// A program in either frame whose jumps go forward and whose addresses stay inside.
+/// A program in any shape whose jumps go forward and whose addresses stay inside.
 fn program(random: &mut Random) -> (Program, Vec<Record>) {
-    let frame = random.pick(&FRAMES);
-    let mut state = interpreter::entry(frame);
+    let shape = random.pick(&SHAPES);
+    let mut state = interpreter::entry(shape.frame);
     let word = |random: &mut Random| match random.below(3) {
         0 => random.below(16) as u64,
         _ => immediate(random) as u64,
@@ -173,16 +172,14 @@ fn program(random: &mut Random) -> (Program, Vec<Record>) {
     let depth = state.stack.len();
     state.stack[depth - 1] = CODE_START;
     state.registers[STACK] = stack_start(depth) + 16 * (40 + random.below(depth / 4)) as u64;
-    let heap: Vec<u64> = (0..HEAP_BLOCKS * BLOCK_WORDS)
-        .map(|_| word(random))
-        .collect();
+    let heap: Vec<u64> = (0..HEAP_WORDS).map(|_| word(random)).collect();
     for base in BASES {
         state.registers[base] = HEAP_START + 8 * (16 + random.below(heap.len() - 32)) as u64;
     }
     let words = std::array::from_fn(|_| word(random));
     let records = records(random);
     let program = Program {
-        frame: frame.number(),
+        chosen: shape.chosen(),
         records: records.iter().flat_map(|r| r.to_bytes()).collect(),
         state,
         heap,
@@ -402,7 +399,7 @@ impl Processor {
     fn new(code: &[u8]) -> Result<Processor> {
         map(CODE_START, code.len())?;
         map(STACK_END - (1 << 16), 1 << 16)?;
-        map(HEAP_START, 8 * HEAP_BLOCKS * BLOCK_WORDS)?;
+        map(HEAP_START, 8 * HEAP_WORDS)?;
         write(CODE_START, code);
         Ok(Processor)
     }

@@ -9,6 +9,7 @@ pub mod sound;
 use crate::context::Kind;
 use crate::reading;
 use crate::request::Arithmetic;
+use crate::shape::Edition;
 
 /// Variables go by place in the context, from 0.
 #[derive(Debug, Clone, Copy, PartialEq, Eq)]
@@ -100,12 +101,10 @@ impl Order {
         }
     }
 
-    /// "A store of n acquires the fewest blocks that hold n fields as above, none for 0": three
-    /// in the last block, two in each other.
-    pub fn acquires(self) -> usize {
+    /// "A store of n acquires the fewest blocks that hold n fields as above, none for 0."
+    pub fn acquires(self, edition: Edition) -> usize {
         match self {
-            Order::Store { n: 0, .. } => 0,
-            Order::Store { n, .. } => 1 + n.saturating_sub(3).div_ceil(2),
+            Order::Store { n, .. } => edition.blocks_of(n),
             _ => 0,
         }
     }
@@ -157,9 +156,11 @@ mod tests {
 
     #[test]
     fn blocks_acquired() {
-        let blocks = |n| Order::Store { n, tag: 0 }.acquires();
-        let some: Vec<_> = (0..9).map(blocks).collect();
+        let blocks = |edition| move |n| Order::Store { n, tag: 0 }.acquires(edition);
+        let some: Vec<_> = (0..9).map(blocks(Edition::First)).collect();
         assert_eq!(some, [0, 1, 1, 1, 2, 2, 3, 3, 4]);
-        assert_eq!(blocks(133), 66);
+        assert_eq!(blocks(Edition::First)(133), 66);
+        let some = [0, 1, 7, 8, 13, 14, 19, 20, 133, 261].map(blocks(Edition::Second));
+        assert_eq!(some, [0, 1, 1, 2, 2, 3, 3, 4, 22, 44]);
     }
 }

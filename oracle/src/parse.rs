@@ -2,7 +2,6 @@
 
 use crate::channel::Rooms;
 use crate::context::{read_ids, read_kinds};
-use crate::frame::Frame;
 use crate::hex;
 use crate::orders::answer::Asked;
 use crate::record;
@@ -10,25 +9,29 @@ use crate::request::{
     Arithmetic, Condition, Emission, Form, Line, Number, Operand, Operation, Ordering, Query,
     Request, Run,
 };
+use crate::shape::{Chosen, Shape};
 
 type Read<T> = Result<T, String>;
 
 /// Reads one line, which is neither blank nor a comment. The error is the reason why it is no
 /// request.
 pub fn line(text: &str) -> Read<Line> {
-    let (frame, rest) = prefix("frame", text.trim())?;
+    let (edition, rest) = prefix("edition", text.trim())?;
+    let (frame, rest) = prefix("frame", rest)?;
     let request = request(rest)?;
     let on_channel = matches!(
         request,
         Request::Order(Ordering::Play { .. } | Ordering::Show)
     );
-    if frame.is_some() && on_channel {
-        return Err("a channel keeps the frame of its fresh".to_string());
+    if edition.or(frame).is_some() && on_channel {
+        return Err("a channel keeps the edition and the frame of its fresh".to_string());
     }
-    Ok(Line {
-        frame: frame.unwrap_or(Frame::Base.number()),
-        request,
-    })
+    let base = Shape::BASE.chosen();
+    let chosen = Chosen {
+        edition: edition.unwrap_or(base.edition),
+        frame: frame.unwrap_or(base.frame),
+    };
+    Ok(Line { chosen, request })
 }
 
 /// The number after a prefix, if the text begins with it, and the rest.

@@ -1,10 +1,10 @@
 //! The port's library: its functions as they are exported for C, and safe functions over them.
 
-use crate::frame::Frame;
 use crate::interpreter::State;
 use crate::lent::Lent;
 use crate::record::SIZE;
 use crate::request::{Form, Number};
+use crate::shape::{Chosen, Shape};
 
 /// Whether the port was linked. If not, none of the functions below may be called.
 pub const LINKED: bool = cfg!(port);
@@ -47,6 +47,7 @@ exported! {
         value: *mut u64
     ) -> u64;
     fn axcut_memory(
+        edition: u64,
         frame: u64,
         operation: u64,
         operand: u64,
@@ -71,6 +72,7 @@ exported! {
         value: *mut u64
     ) -> u64;
     fn axcut_routine(
+        edition: u64,
         frame: u64,
         body: *const u8,
         body_len: usize,
@@ -80,6 +82,7 @@ exported! {
         value: *mut u64
     ) -> u64;
     fn axcut_query(
+        edition: u64,
         frame: u64,
         query: u64,
         second: bool,
@@ -90,6 +93,7 @@ exported! {
         value: *mut u64
     ) -> u64;
     fn axcut_order(
+        edition: u64,
         frame: u64,
         context: *const u8,
         context_len: usize,
@@ -106,6 +110,7 @@ exported! {
         count: *mut u64
     ) -> u64;
     fn axcut_start(
+        edition: u64,
         frame: u64,
         fresh: bool,
         registers: *mut [u64; 16],
@@ -113,6 +118,7 @@ exported! {
         stack_len: usize
     ) -> u64;
     fn axcut_run(
+        edition: u64,
         frame: u64,
         records: *const u8,
         len: usize,
@@ -125,6 +131,13 @@ exported! {
         limit: u64,
         steps: *mut u64,
         place: *mut u64
+    ) -> u64;
+    fn axcut_blocks(
+        edition: u64,
+        registers: *const [u64; 16],
+        heap: *const u64,
+        heap_len: usize,
+        counts: *mut [u64; 5]
     ) -> u64;
 }
 
@@ -224,7 +237,7 @@ pub fn operation(frame: u64, operation: &Operation, out: &mut [u8]) -> Returned 
 }
 
 /// The same for an operation that draws labels: the counter goes in and comes back.
-pub fn memory(frame: u64, operation: &Memory, counter: &mut u64, out: &mut [u8]) -> Returned {
+pub fn memory(chosen: Chosen, operation: &Memory, counter: &mut u64, out: &mut [u8]) -> Returned {
     let (number, operand, n, context, loaded): (u64, u64, u64, &[u8], &[u8]) = match *operation {
         Memory::EraseBlock(operand) => (1, operand, 0, &[], &[]),
         Memory::ShareBlockN(operand, n) => (2, operand, n, &[], &[]),
@@ -234,7 +247,8 @@ pub fn memory(frame: u64, operation: &Memory, counter: &mut u64, out: &mut [u8])
     let mut value = u64::MAX;
     let number = unsafe {
         axcut_memory(
-            frame,
+            chosen.edition,
+            chosen.frame,
             number,
             operand,
             n,
@@ -268,11 +282,12 @@ pub fn print(frame: u64, newline: bool, source: u64, context: &[u8], out: &mut [
     Returned { number, value }
 }
 
-pub fn routine(frame: u64, body: &[u8], arguments: usize, out: &mut [u8]) -> Returned {
+pub fn routine(chosen: Chosen, body: &[u8], arguments: usize, out: &mut [u8]) -> Returned {
     let mut value = u64::MAX;
     let number = unsafe {
         axcut_routine(
-            frame,
+            chosen.edition,
+            chosen.frame,
             body.as_ptr(),
             body.len(),
             arguments,
@@ -296,7 +311,7 @@ pub enum Query<'a> {
 }
 
 /// The value is an operand's word or an offset.
-pub fn query(frame: u64, query: &Query) -> Returned {
+pub fn query(chosen: Chosen, query: &Query) -> Returned {
     let (number, half, at, id, context): (u64, Number, u64, u32, &[u8]) = match *query {
         Query::Position(position) => (1, Number::Fst, position, 0, &[]),
         Query::FreshTemporary(half, context) => (2, half, 0, 0, context),
@@ -308,7 +323,8 @@ pub fn query(frame: u64, query: &Query) -> Returned {
     let mut value = u64::MAX;
     let number = unsafe {
         axcut_query(
-            frame,
+            chosen.edition,
+            chosen.frame,
             number,
             second,
             at,
@@ -332,7 +348,7 @@ pub struct Ordered {
 
 /// An order's bytes on a context: its records into one output, the context after it into another.
 pub fn order(
-    frame: u64,
+    chosen: Chosen,
     context: &[u8],
     order: &[u8],
     bindings: &[u8],
@@ -343,7 +359,8 @@ pub fn order(
     let (mut value, mut count) = (u64::MAX, u64::MAX);
     let number = unsafe {
         axcut_order(
-            frame,
+            chosen.edition,
+            chosen.frame,
             context.as_ptr(),
             context.len(),
             order.as_ptr(),
@@ -375,34 +392,36 @@ pub struct Ran {
 }
 
 /// The state with which a routine is entered.
-pub fn entry(frame: Frame) -> State {
-    started(frame, false)
+pub fn entry(shape: Shape) -> State {
+    started(shape, false)
 }
 
 /// The state from which a list of orders starts.
-pub fn fresh(frame: Frame) -> State {
-    started(frame, true)
+pub fn fresh(shape: Shape) -> State {
+    started(shape, true)
 }
 
-fn started(frame: Frame, fresh: bool) -> State {
+fn started(shape: Shape, fresh: bool) -> State {
     let mut state = State {
         registers: [1; 16],
-        stack: vec![1; frame.stack_words()],
+        stack: vec![1; shape.frame.stack_words()],
     };
-    let number = start(frame.number(), fresh, &mut state);
-    assert_eq!(number, 0, "{frame:?} is a frame");
+    let number = start(shape.chosen(), fresh, &mut state);
+    assert_eq!(number, 0, "{shape:?} is a shape");
     state
 }
 
-/// Sets a state; 0, or 3 and it is as it was.
-pub fn start(frame: u64, fresh: bool, state: &mut State) -> u64 {
+/// Sets a state; 0, or the number of a refusal and it is as it was.
+pub fn start(chosen: Chosen, fresh: bool, state: &mut State) -> u64 {
     let State { registers, stack } = state;
-    unsafe { axcut_start(frame, fresh, registers, stack.as_mut_ptr(), stack.len()) }
+    let Chosen { edition, frame } = chosen;
+    let (words, length) = (stack.as_mut_ptr(), stack.len());
+    unsafe { axcut_start(edition, frame, fresh, registers, words, length) }
 }
 
 /// Runs records on a state, beside a heap given as words.
 pub fn run(
-    frame: u64,
+    chosen: Chosen,
     records: &[u8],
     state: &mut State,
     heap: &mut [u64],
@@ -412,7 +431,8 @@ pub fn run(
     let (mut steps, mut place) = (u64::MAX, u64::MAX);
     let number = unsafe {
         axcut_run(
-            frame,
+            chosen.edition,
+            chosen.frame,
             records.as_ptr(),
             records.len(),
             &mut state.registers,
@@ -431,4 +451,10 @@ pub fn run(
         steps,
         place,
     }
+}
+
+/// Counts the blocks of a heap given as words, between two orders: on the linear list, on the lazy
+/// one, held, untouched, and the peak. 0, or the number of a refusal and the counts are as they were.
+pub fn blocks(edition: u64, registers: &[u64; 16], heap: &[u64], counts: &mut [u64; 5]) -> u64 {
+    unsafe { axcut_blocks(edition, registers, heap.as_ptr(), heap.len(), counts) }
 }

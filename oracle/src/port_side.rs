@@ -7,22 +7,22 @@ mod queries;
 use crate::answer::Answer;
 use crate::channel::Channel;
 use crate::context::{Kind, Runs};
-use crate::frame::Frame;
-use crate::interpreter::{BLOCK_WORDS, MOST_BLOCKS};
+use crate::interpreter::MOST_BLOCKS;
 use crate::orders::binding;
 use crate::port::{self, Damaged, Ran, Returned};
 use crate::request::{Form, Line, Request, Run};
+use crate::shape::{Chosen, Edition};
 
 /// Answers a request; `fresh` makes the channel that `play` and `show` go on with.
 pub fn answer(line: &Line, channel: &mut Option<Channel>) -> Answer {
-    let frame = line.frame;
+    let chosen = line.chosen;
     match &line.request {
         Request::Check(form, bytes) => check(*form, bytes),
         Request::List(bytes) => list(bytes),
-        Request::Run(request) => run(frame, request),
-        Request::Emission(request) => emission::answer(frame, request),
-        Request::Query(query) => queries::answer(frame, query),
-        Request::Order(request) => orders::answer(frame, request, channel),
+        Request::Run(request) => run(chosen, request),
+        Request::Emission(request) => emission::answer(chosen, request),
+        Request::Query(query) => queries::answer(chosen, query),
+        Request::Order(request) => orders::answer(chosen, request, channel),
     }
 }
 
@@ -45,24 +45,26 @@ fn list(bytes: &[u8]) -> Answer {
     }
 }
 
-/// A run from the entry state, in a frame that there is not from that of 256 spills. A heap too
-/// large to be lent is refused as the port refuses one block more than it takes.
-fn run(frame: u64, request: &Run) -> Answer {
-    let mut state = Box::new(port::entry(Frame::of(frame).unwrap_or(Frame::Base)));
-    let mut heap = vec![0; lent_words(request.blocks)];
+/// A run from the entry state, in a shape that there is not from that of the nearest, whose blocks
+/// the heap has. A heap too large to be lent is refused as the port refuses one block more than it
+/// takes.
+fn run(chosen: Chosen, request: &Run) -> Answer {
+    let shape = chosen.nearest();
+    let mut state = Box::new(port::entry(shape));
+    let mut heap = vec![0; lent_words(shape.edition, request.blocks)];
     let Run {
         limit,
         words,
         records,
         ..
     } = request;
-    let ran: Ran = port::run(frame, records, &mut state, &mut heap, words, *limit);
+    let ran: Ran = port::run(chosen, records, &mut state, &mut heap, words, *limit);
     Answer::Ran(ran, state, heap)
 }
 
 /// The words of a heap of so many blocks, or of one block more than a heap may have.
-fn lent_words(blocks: u64) -> usize {
-    blocks.min(MOST_BLOCKS as u64 + 1) as usize * BLOCK_WORDS
+fn lent_words(edition: Edition, blocks: u64) -> usize {
+    blocks.min(MOST_BLOCKS as u64 + 1) as usize * edition.block_words()
 }
 
 /// One binding more than a context may have: longer contexts are refused as this one is.

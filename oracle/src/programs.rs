@@ -4,19 +4,18 @@
 
 use crate::codes::Code::{self, *};
 use crate::codes::{CODES, FORMS};
-use crate::frame::{FRAMES, Frame};
 use crate::interpreter::{
-    self, BLOCK_WORDS, Fault, HEAP_START, MOST_BLOCKS, RETURN1, RETURN2, STACK, STACK_AT_ENTRY,
-    STACK_END, State, stack_start,
+    self, Fault, HEAP_START, MOST_BLOCKS, RETURN1, RETURN2, STACK, STACK_AT_ENTRY, STACK_END,
+    State, stack_start,
 };
 use crate::random::Random;
 use crate::record::{self, PRINT_I64, PRINTLN_I64, Record};
+use crate::shape::{Chosen, EDITIONS, Edition, OTHER_EDITIONS, OTHER_FRAMES, SHAPES, Shape};
 use crate::well_formed::{self, immediate};
 
 #[derive(Debug, Clone)]
 pub struct Program {
-    /// How many spills the frame has; any number.
-    pub frame: u64,
+    pub chosen: Chosen,
     pub records: Vec<u8>,
     pub state: State,
     pub heap: Vec<u64>,
@@ -61,24 +60,24 @@ fn bytes_of(records: &[Record]) -> Vec<u8> {
 }
 
 /// From the entry state, beside two zeroed blocks.
-fn entered(frame: Frame, records: &[Record]) -> Program {
+fn entered(shape: Shape, records: &[Record]) -> Program {
     Program {
-        frame: frame.number(),
+        chosen: shape.chosen(),
         records: bytes_of(records),
-        state: interpreter::entry(frame),
-        heap: vec![0; 2 * BLOCK_WORDS],
+        state: interpreter::entry(shape.frame),
+        heap: vec![0; 2 * shape.edition.block_words()],
         words: [11, 12, 13, 14, 15, 16, 17, 18, 19],
         limit: 1_000,
     }
 }
 
 /// Each fault of document 01's list, with the place and the cause that it must have.
-pub fn faults(frame: Frame) -> Vec<(Program, u64, Fault)> {
+pub fn faults(shape: Shape) -> Vec<(Program, u64, Fault)> {
     let mut list = Vec::new();
     let mut fault = |why: Fault, place: u64, records: &[Record]| {
-        list.push((entered(frame, records), place, why));
+        list.push((entered(shape, records), place, why));
     };
-    addresses(frame.stack_words(), &mut fault);
+    addresses(shape, &mut fault);
     jumps(&mut fault);
     calls(&mut fault);
     divisions(&mut fault);
@@ -86,11 +85,12 @@ pub fn faults(frame: Frame) -> Vec<(Program, u64, Fault)> {
 }
 
 /// Every memory form at every end of the stack and the heap, and unaligned.
-fn addresses(stack_words: usize, fault: &mut impl FnMut(Fault, u64, &[Record])) {
+fn addresses(shape: Shape, fault: &mut impl FnMut(Fault, u64, &[Record])) {
     // the base register of each form
     const AT_A: [Code; 8] = [ADDMR, ADDIM, SUBMR, IMULMR, IDIVM, MOVIM, CMPMR, CMPIM];
     const AT_B: [Code; 6] = [ADDRM, SUBRM, IMULRM, MOVS, MOVL, CMPRM];
-    let heap_end = 2 * 64;
+    let stack_words = shape.frame.stack_words();
+    let heap_end = 2 * shape.edition.block_bytes() as i64;
     let ends = [
         (7, -8, Fault::AddressOutside),
         (7, heap_end, Fault::AddressOutside),
@@ -225,70 +225,73 @@ fn divisions(fault: &mut impl FnMut(Fault, u64, &[Record])) {
     }
 }
 
-/// Heaps and lists at and beside their limits.
-pub fn limits() -> Vec<Program> {
-    let mut programs = Vec::new();
-    let bare = entered(Frame::Base, &[plain(MOV, 1, 2)]);
-    for words in (0..=24).chain([
-        MOST_BLOCKS * BLOCK_WORDS - 8,
-        MOST_BLOCKS * BLOCK_WORDS - 1,
-        MOST_BLOCKS * BLOCK_WORDS,
-        MOST_BLOCKS * BLOCK_WORDS + 1,
-        MOST_BLOCKS * BLOCK_WORDS + 8,
-    ]) {
-        let heap = vec![3; words];
-        // the last word of the heap, and the one after it
-        for offset in [8 * words as i64 - 8, 8 * words as i64] {
-            let records = bytes_of(&[at_offset(MOVL, 4, 7, offset)]);
-            programs.push(Program {
-                records,
-                heap: heap.clone(),
-                ..bare.clone()
-            });
-        }
-        // the heap comes before the records
-        programs.push(Program {
-            records: vec![0; 24],
-            heap,
-            ..bare.clone()
-        });
-    }
-    for count in [0, 1, 65_535, 65_536, 65_537, 65_538] {
-        for part in [0, 1, 23] {
-            let mut records = plain(MOV, 1, 2).to_bytes().repeat(count);
-            records.extend(vec![0xA9; part]);
-            for limit in [0, 1, count as u64, count as u64 + 1, u64::MAX] {
-                programs.push(Program {
-                    records: records.clone(),
-                    limit,
-                    ..bare.clone()
-                });
-            }
-        }
-    }
-    programs
+/// Heaps and lists at and beside their limits. They come one by one: the largest heaps have 128
+/// megabytes.
+pub fn limits() -> impl Iterator<Item = Program> {
+    let heaps = EDITIONS.into_iter().flat_map(heaps);
+    heaps.chain(lists())
 }
 
-/// Frames that there are and others, each with stacks of its own number of words and of others; a
-/// malformed record and heap come before.
-pub fn frames() -> Vec<Program> {
+/// Heaps of every few words, and about the most.
+fn heaps(edition: Edition) -> impl Iterator<Item = Program> {
+    let shape = Shape {
+        edition,
+        ..Shape::BASE
+    };
+    let (block, few) = (edition.block_words(), 3 * edition.block_words());
+    let most = MOST_BLOCKS * block;
+    let words = (0..=few).chain([most - block, most - 1, most, most + 1, most + block]);
+    words.flat_map(move |words| {
+        // the last word of the heap, and the one after it; the heap comes before the records
+        let read = |at: usize| bytes_of(&[at_offset(MOVL, 4, 7, 8 * at as i64)]);
+        let programs = [read(words.wrapping_sub(1)), read(words), vec![0; 24]];
+        programs.into_iter().map(move |records| Program {
+            records,
+            heap: vec![3; words],
+            ..entered(shape, &[])
+        })
+    })
+}
+
+fn lists() -> impl Iterator<Item = Program> {
+    [0, 1, 65_535, 65_536, 65_537, 65_538]
+        .into_iter()
+        .flat_map(|count| {
+            [0, 1, 23].into_iter().flat_map(move |part| {
+                let mut records = plain(MOV, 1, 2).to_bytes().repeat(count);
+                records.extend(vec![0xA9; part]);
+                let limits = [0, 1, count as u64, count as u64 + 1, u64::MAX];
+                limits.map(|limit| Program {
+                    records: records.clone(),
+                    limit,
+                    ..entered(Shape::BASE, &[])
+                })
+            })
+        })
+}
+
+/// Editions and frames that there are and others, the frames each with stacks of its own number of
+/// words and of others; a malformed record and heap come between the two.
+pub fn other_shapes() -> Vec<Program> {
     let mut programs = Vec::new();
     let store = at_offset(MOVS, 7, STACK, 0);
-    for frame in [0, 1, 255, 256, 257, 511, 512, 513, 1 << 32 | 256, u64::MAX] {
-        for words in [0, 1, 64, 319, 320, 321, 575, 576, 577] {
-            let mut program = entered(Frame::Base, &[store]);
-            program.frame = frame;
-            program.state.stack = vec![5; words];
-            let records = vec![0; 24];
-            programs.push(Program {
-                records,
-                ..program.clone()
-            });
-            programs.push(Program {
-                heap: Vec::new(),
-                ..program.clone()
-            });
-            programs.push(program);
+    for edition in OTHER_EDITIONS.into_iter().chain([1, 2]) {
+        for frame in OTHER_FRAMES.into_iter().chain([256, 512]) {
+            for words in [0, 1, 64, 319, 320, 321, 575, 576, 577] {
+                let mut program = entered(SHAPES[3], &[store]);
+                program.chosen = Chosen { edition, frame };
+                program.state.stack = vec![5; words];
+                let records = vec![0; 24];
+                programs.push(Program {
+                    records,
+                    ..program.clone()
+                });
+                programs.push(Program {
+                    heap: Vec::new(),
+                    ..program.clone()
+                });
+                programs.push(program);
+            }
         }
     }
     programs
@@ -305,20 +308,20 @@ struct Maker<'a> {
     heap_bytes: u64,
 }
 
-/// A random program in either frame.
+/// A random program in any shape.
 pub fn random(random: &mut Random) -> Program {
-    let frame = random.pick(&FRAMES);
+    let shape = random.pick(&SHAPES);
     let heap_words = match random.below(60) {
-        0 => random.below(40),
-        _ => BLOCK_WORDS * (2 + random.below(4)),
+        0 => random.below(80),
+        _ => shape.edition.block_words() * (2 + random.below(4)),
     };
     let mut maker = Maker {
         random,
         bases: Vec::new(),
-        stack_words: frame.stack_words(),
+        stack_words: shape.frame.stack_words(),
         heap_bytes: 8 * heap_words as u64,
     };
-    let state = maker.state(frame);
+    let state = maker.state(shape);
     let heap = (0..heap_words).map(|_| maker.word()).collect();
     let mut records = bytes_of(&maker.list());
     if maker.random.once_in(40) {
@@ -331,7 +334,7 @@ pub fn random(random: &mut Random) -> Program {
         _ => 300,
     };
     Program {
-        frame: frame.number(),
+        chosen: shape.chosen(),
         records,
         state,
         heap,
@@ -342,8 +345,8 @@ pub fn random(random: &mut Random) -> Program {
 
 impl Maker<'_> {
     /// The entry state, or one with addresses in some registers.
-    fn state(&mut self, frame: Frame) -> State {
-        let mut state = interpreter::entry(frame);
+    fn state(&mut self, shape: Shape) -> State {
+        let mut state = interpreter::entry(shape.frame);
         if self.random.once_in(10) {
             self.bases = vec![STACK, 7];
             return state;

@@ -3,16 +3,15 @@
 
 use crate::answer::Answer;
 use crate::context::{Kind, Kinds};
-use crate::frame::Frame;
 use crate::record::{self, Record};
 use crate::request::{Arithmetic, Condition, Emission, Number, Operand, Operation, Query, Request};
+use crate::shape::{Frame, Shape};
 use crate::{parse, rust_side};
 use std::io::{Result, Write};
 
-/// The longest context, the most bytes of a body, and the last field that the port is asked about.
+/// The longest context and the most bytes of a body that the port is asked about.
 const LONGEST: u64 = 4096;
 const LONGEST_BODY: usize = 65536;
-const LAST_FIELD: u64 = 2;
 /// The highest count that document 01 lets be shared.
 const MOST_SHARED: u64 = (1 << 31) - 1;
 
@@ -27,6 +26,7 @@ const PRIME: u64 = (1 << 56) - 5;
 struct Asked {
     operation: u8,
     kind: u8,
+    edition: u8,
     label: u32,
     x: u32,
     y: u32,
@@ -35,6 +35,17 @@ struct Asked {
     frame: u32,
     first: Vec<u8>,
     second: Vec<u8>,
+}
+
+impl Asked {
+    fn of(shape: Shape, operation: u8) -> Asked {
+        Asked {
+            operation,
+            edition: shape.edition.number() as u8,
+            frame: shape.frame.number() as u32,
+            ..Asked::default()
+        }
+    }
 }
 
 /// The Rust's answer.
@@ -70,17 +81,17 @@ pub fn write(
 /// The operations or the query of a line, each with its answer.
 fn pairs(line: &str) -> Vec<Option<(Asked, Answered)>> {
     let line = parse::line(line).ok();
-    let Some((frame, request)) = line.and_then(|line| Some((Frame::of(line.frame)?, line.request)))
-    else {
+    let line = line.and_then(|line| Some((line.chosen.shape()?, line.request)));
+    let Some((shape, request)) = line else {
         return vec![None];
     };
     match request {
         Request::Query(query) => {
-            let asked = query_of(frame, &query);
-            let answer = rust_side::answer(frame.number(), &Request::Query(query));
+            let asked = query_of(shape, &query);
+            let answer = rust_side::answer(shape.chosen(), &Request::Query(query));
             vec![asked.zip(answered(&answer, false))]
         }
-        Request::Emission(_) => operations_of(frame, request),
+        Request::Emission(_) => operations_of(shape, request),
         Request::Check(..) | Request::List(_) | Request::Run(_) | Request::Order(_) => {
             vec![None]
         }
@@ -89,8 +100,8 @@ fn pairs(line: &str) -> Vec<Option<(Asked, Answered)>> {
 
 /// The operations of a request one by one, each from the counter that the last one left; the
 /// records so far are the body of a routine. They end with the first that the Rust does not answer.
-fn operations_of(frame: Frame, request: Request) -> Vec<Option<(Asked, Answered)>> {
-    let whole = rust_side::answer(frame.number(), &request);
+fn operations_of(shape: Shape, request: Request) -> Vec<Option<(Asked, Answered)>> {
+    let whole = rust_side::answer(shape.chosen(), &request);
     let Request::Emission(emission) = request else {
         unreachable!("the caller has an emission");
     };
@@ -102,7 +113,7 @@ fn operations_of(frame: Frame, request: Request) -> Vec<Option<(Asked, Answered)
             matches!(operation, Operation::Raw(..)),
         );
         let is_routine = matches!(operation, Operation::Routine(_));
-        let asked = operation_of(frame, &operation, counter, &records);
+        let asked = operation_of(shape, &operation, counter, &records);
         let mut alone: Vec<Operation> = Vec::new();
         if is_routine {
             alone.extend(
@@ -117,7 +128,7 @@ fn operations_of(frame: Frame, request: Request) -> Vec<Option<(Asked, Answered)
             room: None,
             operations: alone,
         };
-        let answer = rust_side::answer(frame.number(), &Request::Emission(alone));
+        let answer = rust_side::answer(shape.chosen(), &Request::Emission(alone));
         if !is_raw {
             pairs.push(asked.zip(answered(&answer, takes_counter)));
         }
@@ -140,17 +151,13 @@ fn operations_of(frame: Frame, request: Request) -> Vec<Option<(Asked, Answered)
 
 /// An operation as the port is asked, if it can be.
 fn operation_of(
-    frame: Frame,
+    shape: Shape,
     operation: &Operation,
     counter: u64,
     records: &[Record],
 ) -> Option<Asked> {
-    let asked = |operation| Asked {
-        operation,
-        frame: frame.number() as u32,
-        ..Asked::default()
-    };
-    let word = |operand| word(frame, operand);
+    let asked = |operation| Asked::of(shape, operation);
+    let word = |operand| word(shape.frame, operand);
     let counter = u32::try_from(counter).ok()?;
     Some(match operation {
         Operation::Label(l) => Asked {
@@ -273,12 +280,9 @@ fn operation_of(
     })
 }
 
-fn query_of(frame: Frame, query: &Query) -> Option<Asked> {
-    let asked = |operation| Asked {
-        operation,
-        frame: frame.number() as u32,
-        ..Asked::default()
-    };
+fn query_of(shape: Shape, query: &Query) -> Option<Asked> {
+    let Shape { edition, frame } = shape;
+    let asked = |operation| Asked::of(shape, operation);
     Some(match query {
         Query::Position(position) => Asked {
             x: u32::try_from(*position).ok()?,
@@ -304,7 +308,7 @@ fn query_of(frame: Frame, query: &Query) -> Option<Asked> {
             x: *spill as u32,
             ..asked(23)
         },
-        Query::FieldOffset(which, field) if *field <= LAST_FIELD => Asked {
+        Query::FieldOffset(which, field) if *field < edition.fields() as u64 => Asked {
             kind: half(*which),
             x: *field as u32,
             ..asked(24)
@@ -404,7 +408,7 @@ fn checksum(records: &[Record]) -> u64 {
 }
 
 fn bytes_of(asked: &Asked, answered: &Answered) -> Vec<u8> {
-    let mut bytes = vec![asked.operation, asked.kind, answered.number, 0];
+    let mut bytes = vec![asked.operation, asked.kind, answered.number, asked.edition];
     bytes.extend(asked.label.to_le_bytes());
     bytes.extend(asked.x.to_le_bytes());
     bytes.extend(asked.y.to_le_bytes());

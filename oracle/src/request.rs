@@ -4,12 +4,12 @@ use crate::channel::Rooms;
 use crate::context::{Ids, Kinds};
 use crate::orders::answer::Asked;
 use crate::record;
+use crate::shape::Chosen;
 
 /// A request, and what its prefixes choose.
 #[derive(Debug)]
 pub struct Line {
-    /// How many spills the frame has; any number.
-    pub frame: u64,
+    pub chosen: Chosen,
     pub request: Request,
 }
 
@@ -25,6 +25,17 @@ pub enum Request {
     Run(Run),
     /// An order, alone or on a channel.
     Order(Ordering),
+}
+
+impl Request {
+    /// Whether the port is asked in an edition.
+    pub fn takes_edition(&self) -> bool {
+        match self {
+            Request::Emission(emission) => emission.operations.iter().any(Operation::takes_edition),
+            Request::Check(..) | Request::List(_) => false,
+            Request::Query(_) | Request::Run(_) | Request::Order(_) => true,
+        }
+    }
 }
 
 #[derive(Debug)]
@@ -143,6 +154,19 @@ pub enum Operation {
 }
 
 impl Operation {
+    /// Whether the port is asked for the operation in an edition.
+    pub fn takes_edition(&self) -> bool {
+        matches!(
+            self,
+            Operation::EraseBlock(_)
+                | Operation::ShareBlockN(..)
+                | Operation::Store { .. }
+                | Operation::StoreLast { .. }
+                | Operation::Load { .. }
+                | Operation::Routine(_)
+        )
+    }
+
     /// Whether the operation takes the label counter, even if it draws no label. One that does
     /// not leaves a counter above the limit alone.
     pub fn takes_counter(&self) -> bool {

@@ -1,19 +1,20 @@
-//! Answers requests by the published Rust: in the frame of 256 spills by the files as they are, in
-//! that of 512 by the same files with SPILL_NUM changed. One driver is compiled for each of the
-//! two crates.
+//! Answers requests by the published Rust: with 3 fields and 256 spills by the files as they are, in
+//! the other shapes by the same files with FIELDS_PER_BLOCK or SPILL_NUM changed. One driver is
+//! compiled for each of the four crates.
 
 use crate::answer::Answer;
 use crate::context::{Ids, Kind, Kinds};
-use crate::frame::Frame;
 use crate::request::{Number, Request};
+use crate::shape::Chosen;
 use axcut::syntax::{Chirality, ContextBinding, Identifier, TypingContext};
 use axcut2backend::config::TemporaryNumber;
 use std::any::Any;
 use std::panic::{AssertUnwindSafe, catch_unwind};
 use std::sync::atomic::{AtomicBool, Ordering};
+use std::sync::{Mutex, PoisonError};
 
 #[path = "rust_side"]
-pub mod spills_256 {
+pub mod shape_3_256 {
     use axcut2x86_64 as published;
     mod conversion;
     pub mod driver;
@@ -21,11 +22,56 @@ pub mod spills_256 {
 
 #[path = "rust_side"]
 #[allow(clippy::duplicate_mod)]
-pub mod spills_512 {
-    use axcut2x86_64_512 as published;
+pub mod shape_3_512 {
+    use axcut2x86_64_3_512 as published;
     mod conversion;
     pub mod driver;
 }
+
+#[path = "rust_side"]
+#[allow(clippy::duplicate_mod)]
+pub mod shape_7_256 {
+    use axcut2x86_64_7_256 as published;
+    mod conversion;
+    pub mod driver;
+}
+
+#[path = "rust_side"]
+#[allow(clippy::duplicate_mod)]
+pub mod shape_7_512 {
+    use axcut2x86_64_7_512 as published;
+    mod conversion;
+    pub mod driver;
+}
+
+/// What an expression over the driver of a shape gives.
+macro_rules! by_driver {
+    ($shape:expr, $driver:ident => $expression:expr) => {{
+        use crate::rust_side::{shape_3_256, shape_3_512, shape_7_256, shape_7_512};
+        use crate::shape::{Edition, Frame, Shape};
+        let Shape { edition, frame } = $shape;
+        match (edition, frame) {
+            (Edition::First, Frame::Base) => {
+                use shape_3_256::driver as $driver;
+                $expression
+            }
+            (Edition::First, Frame::Larger) => {
+                use shape_3_512::driver as $driver;
+                $expression
+            }
+            (Edition::Second, Frame::Base) => {
+                use shape_7_256::driver as $driver;
+                $expression
+            }
+            (Edition::Second, Frame::Larger) => {
+                use shape_7_512::driver as $driver;
+                $expression
+            }
+        }
+    }};
+}
+
+pub(crate) use by_driver;
 
 /// The longest context and the most records that this driver builds. The Rust has no such limits,
 /// but memory has.
@@ -47,6 +93,9 @@ type Result<T> = std::result::Result<T, Failure>;
 /// Whether a piece of the Rust runs, whose panics are answers.
 static RUNNING: AtomicBool = AtomicBool::new(false);
 
+/// Held while a request is answered: the Rust's label counter is one for all threads.
+static ANSWERING: Mutex<()> = Mutex::new(());
+
 /// Keeps the messages of the Rust's panics off the standard error; the driver's own are shown.
 pub fn silence_panics() {
     let show = std::panic::take_hook();
@@ -57,12 +106,11 @@ pub fn silence_panics() {
     }));
 }
 
-/// Answers a request in the frame of so many spills.
-pub fn answer(frame: u64, request: &Request) -> Answer {
-    let answer = match Frame::of(frame) {
-        Some(Frame::Base) => spills_256::driver::answer(request),
-        Some(Frame::Larger) => spills_512::driver::answer(request),
-        None => malformed("the Rust has frames of 256 and 512 spills alone"),
+pub fn answer(chosen: Chosen, request: &Request) -> Answer {
+    let _answering = ANSWERING.lock().unwrap_or_else(PoisonError::into_inner);
+    let answer = match chosen.shape() {
+        Some(shape) => by_driver!(shape, driver => driver::answer(request)),
+        None => malformed("the Rust has editions 1 and 2 and frames of 256 and 512 spills alone"),
     };
     answer.unwrap_or_else(|failure| match failure {
         Failure::Malformed(reason) => Answer::Malformed(reason),

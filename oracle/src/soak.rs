@@ -6,17 +6,17 @@ mod stored;
 
 use crate::channel::{self, Answered, Channel, Rooms, Side};
 use crate::codes::Code;
-use crate::frame::{FRAMES, Frame};
 use crate::hex;
-use crate::interpreter::{BLOCK_WORDS, MOST_BLOCKS};
+use crate::interpreter::MOST_BLOCKS;
 use crate::orders::answer::{self, Asked, Given};
 use crate::orders::plain::{self, Value};
-use crate::orders::sound::{History, Shape, sound};
+use crate::orders::sound::{BlockCounts, History, sound};
 use crate::orders::{Order, kinds};
-use crate::port::Ran;
+use crate::port::{self, Ran};
 use crate::random::Random;
 use crate::reading::Refusal;
 use crate::record::{LAST_FRESH, PRINT_I64, PRINTLN_I64, Record, SIZE};
+use crate::shape::{Chosen, FRAMES, OTHER_EDITIONS, OTHER_FRAMES, SHAPES, Shape};
 use lists::{Item, Plan};
 use std::collections::BTreeMap;
 
@@ -24,9 +24,6 @@ pub use stored::lists as stored_lists;
 
 /// How many orders are put alone beside each list.
 const ALONE: usize = 20;
-
-/// Numbers that no frame has.
-const OTHER_FRAMES: [u64; 6] = [0, 255, 257, 511, 513, u64::MAX];
 
 #[derive(Debug, Clone, Copy)]
 pub struct Options {
@@ -77,9 +74,9 @@ struct Reuse {
     largest_peak: usize,
 }
 
-/// The frame of a list: every other seed has the larger one.
-fn frame_of(seed: u64) -> Frame {
-    FRAMES[(seed % FRAMES.len() as u64) as usize]
+/// The shape of a list: the four in turn.
+fn shape_of(seed: u64) -> Shape {
+    SHAPES[(seed % SHAPES.len() as u64) as usize]
 }
 
 /// True if no order failed. The first that does ends it.
@@ -114,10 +111,10 @@ impl Tally {
     /// Plays one list. The error is an order's place, from 1, and what was wrong after it.
     fn list(&mut self, side: Side, seed: u64, most_blocks: usize) -> Result<(), (usize, String)> {
         self.lists += 1;
-        let frame = frame_of(seed);
+        let shape = shape_of(seed);
         let mut random = Random::new(seed);
-        let mut plan = Plan::random(&mut random, frame, most_blocks);
-        let mut soak = Soak::fresh(side, frame, plan.blocks);
+        let mut plan = Plan::random(&mut random, shape, most_blocks);
+        let mut soak = Soak::fresh(side, shape, plan.blocks);
         soak.check().map_err(|failure| (0, failure))?;
         self.longest = self.longest.max(plan.orders as u64);
         for place in 1..=plan.orders {
@@ -132,7 +129,7 @@ impl Tally {
         }
         match side {
             Side::Port => {
-                let alone = self.alone(&mut random, frame);
+                let alone = self.alone(&mut random, shape);
                 alone.map_err(|failure| (0, failure))
             }
             Side::Reading => Ok(()),
@@ -140,19 +137,26 @@ impl Tally {
     }
 
     /// Puts orders alone to the port, each with a counter about the last that is allowed, and at
-    /// times in a frame that there is not.
-    fn alone(&mut self, random: &mut Random, frame: Frame) -> Result<(), String> {
+    /// times in an edition or a frame that there is not, with bytes that are refused too.
+    fn alone(&mut self, random: &mut Random, shape: Shape) -> Result<(), String> {
         for _ in 0..ALONE {
-            let (context, mut item) = lists::alone(random, frame);
-            let frame = match random.below(20) {
-                0 => random.pick(&OTHER_FRAMES),
-                _ => frame.number(),
-            };
-            if let Ok(given) = answer::given(frame, &context, &item.asked) {
+            let (mut context, mut item) = lists::alone(random, shape);
+            let chosen = at_times_another(random, shape);
+            if chosen.shape().is_none() {
+                let Asked {
+                    order, bindings, ..
+                } = &mut item.asked;
+                for bytes in [&mut context, order, bindings] {
+                    if random.once_in(2) {
+                        bytes.push(0);
+                    }
+                }
+            }
+            if let Ok(given) = answer::given(chosen, &context, &item.asked) {
                 let last = LAST_FRESH - given.counter;
                 item.asked.counter = random.pick(&[0, last, last, last + 1]);
             }
-            let needed = answer::given(frame, &context, &item.asked);
+            let needed = answer::given(chosen, &context, &item.asked);
             let rooms = item.rooms(random, needed.as_ref().ok());
             let expected = needed.and_then(|given| {
                 answer::fits(&given, rooms.records, rooms.context)?;
@@ -164,9 +168,8 @@ impl Tally {
             };
             self.alone += 1;
             self.alone_accepted += u64::from(matches!(expected, Answered::Accepted { .. }));
-            compare(frame, &context, &item.asked, rooms, &expected).map_err(|failure| {
-                about(&item.asked, rooms, &format!("frame {frame}: {failure}"))
-            })?;
+            compare(chosen, &context, &item.asked, rooms, &expected)
+                .map_err(|failure| about(&item.asked, rooms, &format!("{chosen:?}: {failure}")))?;
         }
         Ok(())
     }
@@ -187,11 +190,11 @@ impl Tally {
             Ok(given) => {
                 *self.accepted.entry(given.order.name()).or_default() += 1;
                 let played = soak.accepted(&asked, rooms, &given, &item.words);
-                let (ran, shape) = played.map_err(about)?;
+                let (ran, counts) = played.map_err(about)?;
                 self.records += given.count();
                 self.steps += ran.steps;
                 self.most
-                    .take(&shape, soak.channel.frame, soak.values.len());
+                    .take(&counts, soak.channel.shape, soak.values.len());
                 Ok(())
             }
         }
@@ -227,15 +230,15 @@ impl Tally {
 }
 
 impl Most {
-    fn take(&mut self, shape: &Shape, frame: Frame, variables: usize) {
-        let most = &mut self.variables[frame as usize];
+    fn take(&mut self, counts: &BlockCounts, shape: Shape, variables: usize) {
+        let most = &mut self.variables[shape.frame as usize];
         *most = (*most).max(variables);
-        self.frontier = self.frontier.max(shape.frontier);
-        self.reachable = self.reachable.max(shape.reachable);
-        self.held = self.held.max(shape.held);
-        self.shared = self.shared.max(shape.shared);
-        self.lazy = self.lazy.max(shape.lazy);
-        self.linear = self.linear.max(shape.linear);
+        self.frontier = self.frontier.max(counts.frontier);
+        self.reachable = self.reachable.max(counts.reachable);
+        self.held = self.held.max(counts.held);
+        self.shared = self.shared.max(counts.shared);
+        self.lazy = self.lazy.max(counts.lazy);
+        self.linear = self.linear.max(counts.linear);
     }
 
     fn report(&self) {
@@ -273,9 +276,10 @@ impl Reuse {
 
 impl Soak {
     /// The fresh routine on a zeroed heap of so many blocks.
-    fn fresh(side: Side, frame: Frame, blocks: usize) -> Soak {
+    fn fresh(side: Side, shape: Shape, blocks: usize) -> Soak {
+        let words = blocks * shape.edition.block_words();
         Soak {
-            channel: Channel::fresh(side, frame, blocks * BLOCK_WORDS),
+            channel: Channel::fresh(side, shape, words),
             values: Vec::new(),
             history: History::new(blocks),
             reachable: 0,
@@ -284,7 +288,7 @@ impl Soak {
     }
 
     fn blocks(&self) -> usize {
-        self.channel.heap.len() / BLOCK_WORDS
+        self.channel.heap.len() / self.channel.shape.edition.block_words()
     }
 
     /// How many blocks the next store may acquire, so that the heap has two blocks more than are
@@ -300,7 +304,7 @@ impl Soak {
         let owed = match &given {
             Err(_) => true,
             Ok(given) => {
-                given.order.acquires() <= self.left()
+                self.acquires(given.order) <= self.left()
                     && plain::owed(&self.values, given.order, &kinds(&asked.bindings))
             }
         };
@@ -313,8 +317,12 @@ impl Soak {
     }
 
     fn given(&self, asked: &Asked) -> Result<Given, Refusal> {
-        let Channel { frame, context, .. } = &self.channel;
-        answer::given(frame.number(), context, asked)
+        let Channel { shape, context, .. } = &self.channel;
+        answer::given(shape.chosen(), context, asked)
+    }
+
+    fn acquires(&self, order: Order) -> usize {
+        order.acquires(self.channel.shape.edition)
     }
 
     /// "A refused one leaves all three."
@@ -328,13 +336,13 @@ impl Soak {
         rooms: Rooms,
         given: &Given,
         words: &[u64; 9],
-    ) -> Result<(Ran, Shape), String> {
+    ) -> Result<(Ran, BlockCounts), String> {
         self.ask(asked, rooms, &accepted(given))?;
         self.play(given, words)
     }
 
     /// Runs an accepted order's records, and checks what it left.
-    fn play(&mut self, given: &Given, words: &[u64; 9]) -> Result<(Ran, Shape), String> {
+    fn play(&mut self, given: &Given, words: &[u64; 9]) -> Result<(Ran, BlockCounts), String> {
         if let Order::Print { newline, a } = given.order {
             self.check_call(&given.records, newline, a, words)?;
         }
@@ -351,7 +359,7 @@ impl Soak {
         if ran.number == 0 {
             self.channel.context = given.context.clone();
             plain::perform(&mut self.values, given.order);
-            self.acquired += given.order.acquires();
+            self.acquired += self.acquires(given.order);
         }
         ran
     }
@@ -360,8 +368,8 @@ impl Soak {
         if self.channel.side == Side::Reading {
             return Ok(());
         }
-        let Channel { frame, context, .. } = &self.channel;
-        compare(frame.number(), context, asked, rooms, expected)
+        let Channel { shape, context, .. } = &self.channel;
+        compare(shape.chosen(), context, asked, rooms, expected)
     }
 
     /// "A print makes one call": its records have no jump and one CALL, of the name that the flag
@@ -411,30 +419,74 @@ impl Soak {
         Ok(())
     }
 
-    fn check(&mut self) -> Result<Shape, String> {
+    fn check(&mut self) -> Result<BlockCounts, String> {
         let Channel {
-            frame,
+            shape,
             context,
             state,
             heap,
             ..
         } = &self.channel;
         let history = &mut self.history;
-        let shape = sound(*frame, state, heap, context, &self.values, history)?;
-        self.reachable = shape.reachable;
-        Ok(shape)
+        let counts = sound(*shape, state, heap, context, &self.values, history)?;
+        self.reachable = counts.reachable;
+        if self.channel.side == Side::Port {
+            self.check_counted(&counts)?;
+        }
+        Ok(counts)
     }
+
+    /// The port counts the blocks alike, and in an edition that there is not refuses to.
+    fn check_counted(&self, counts: &BlockCounts) -> Result<(), String> {
+        let BlockCounts {
+            frontier,
+            linear,
+            lazy,
+            held,
+            ..
+        } = *counts;
+        let untouched = self.blocks() - frontier;
+        let expected = [linear, lazy, held, untouched, self.history.peak()];
+        let expected = expected.map(|count| count as u64);
+        let Channel {
+            shape, state, heap, ..
+        } = &self.channel;
+        let mut found = [u64::MAX; 5];
+        let number = port::blocks(shape.edition.number(), &state.registers, heap, &mut found);
+        if (number, found) != (0, expected) {
+            return Err(format!("blocks {expected:?}, the port: {number} {found:?}"));
+        }
+        for edition in OTHER_EDITIONS {
+            let number = port::blocks(edition, &state.registers, heap, &mut found);
+            if (number, found) != (23, expected) {
+                return Err(format!("edition {edition}: {number} {found:?}"));
+            }
+        }
+        Ok(())
+    }
+}
+
+/// The numbers of a shape, at times with another edition or another frame.
+fn at_times_another(random: &mut Random, shape: Shape) -> Chosen {
+    let mut chosen = shape.chosen();
+    if random.once_in(15) {
+        chosen.edition = random.pick(&OTHER_EDITIONS);
+    }
+    if random.once_in(15) {
+        chosen.frame = random.pick(&OTHER_FRAMES);
+    }
+    chosen
 }
 
 /// Whether the port answers as document 01 says.
 fn compare(
-    frame: u64,
+    chosen: Chosen,
     context: &[u8],
     asked: &Asked,
     rooms: Rooms,
     expected: &Answered,
 ) -> Result<(), String> {
-    let found = channel::ask(frame, context, asked, rooms);
+    let found = channel::ask(chosen, context, asked, rooms);
     let found = found.map_err(|_| "bytes that must stay have changed".to_string())?;
     if found == *expected {
         return Ok(());

@@ -81,20 +81,122 @@ fn a_routine_has_its_frame() {
     }
 }
 
+/// "In the second edition a block is 128 bytes with 7 fields, its link in field 6. The last block of
+/// an object holds 7 variables and the others 6; acquiring from the lazy list erases seven children":
+/// 25 labels a block.
 #[test]
-fn the_rust_has_two_frames() {
-    for frame in ["0", "255", "257", "511", "513", "18446744073709551615"] {
-        let answer = rust(&format!("frame {frame} position 0"));
+fn store_and_load_in_the_second_edition() {
+    for (n, stored, loaded) in [
+        (1, (110, 25), (10, 2)),
+        (7, (117, 25), (24, 2)),
+        (8, (228, 50), (32, 2)),
+        (13, (240, 50), (60, 2)),
+        (14, (351, 75), (68, 2)),
+    ] {
+        assert_eq!(size(&format!("edition 2 store e{n} -")), stored);
+        assert_eq!(size(&format!("edition 2 load e{n} -")), loaded);
+    }
+    assert_eq!(size("edition 2 store e4 -"), (113, 25));
+    assert_eq!(size("edition 2 load l133 -"), (1_752, 135));
+    assert_eq!(size("edition 2 frame 512 load l261 -"), (3_460, 263));
+}
+
+/// The largest stores, and with the tag that an order puts after them.
+#[test]
+fn the_largest_stores_of_the_second_edition() {
+    for (shape, n, records, labels) in [
+        ("edition 2", 133, 2_827, 550),
+        ("edition 2 frame 512", 261, 5_651, 1_100),
+    ] {
+        let store = format!("{shape} store l{n} -");
+        assert_eq!(size(&store), (records, labels));
+        let order = format!("{store}; load_immediate p1 -1");
+        assert_eq!(size(&order), (records + 1, labels));
+        assert_panics(&format!("{shape} store e e{n}"));
+        assert_panics(&format!("{shape} store - e{}", n + 1));
+    }
+}
+
+#[test]
+fn fields_of_both_editions() {
+    for (field, offset) in (0..7).map(|field| (field, 16 + 16 * field)) {
+        for (half, more) in [("fst", 0), ("snd", 8)] {
+            let value = format!("value {}\n", offset + more);
+            for edition in ["", "edition 2 "] {
+                let answer = rust(&format!("{edition}field_offset {half} {field}"));
+                assert_eq!(answer, value);
+            }
+        }
+    }
+    // the link to the last block, in the Fst of the other's last field
+    assert!(rust("store e4 -").contains(" MOVS 6 2 0 48 0\n"));
+    assert!(rust("edition 2 store e8 -").contains(" MOVS 6 2 0 112 0\n"));
+}
+
+/// FREE starts at the second block.
+#[test]
+fn a_routine_has_its_edition() {
+    for (request, bytes) in [
+        ("routine 0", 64),
+        ("edition 1 frame 512 routine 0", 64),
+        ("edition 2 routine 0", 128),
+        ("edition 2 frame 512 routine 0", 128),
+    ] {
+        assert_eq!(size(request), (25, 0));
+        let line = format!("16 ADDI 3 0 0 0 {bytes}\n");
+        assert!(rust(request).contains(&line), "{line}");
+    }
+}
+
+/// What the edition does not change.
+#[test]
+fn blocks_erased_and_shared_in_both_editions() {
+    for request in [
+        "erase_block r4",
+        "erase_block s1",
+        "share_block_n r4 1",
+        "share_block_n s1 2",
+        "store - -",
+        "load - e133",
+        "print_i64 0 r5 e6",
+    ] {
+        assert_eq!(rust(&format!("edition 2 {request}")), rust(request));
+    }
+    assert_eq!(rust("edition 1 store e4 -"), rust("store e4 -"));
+}
+
+#[test]
+fn the_rust_has_two_editions_and_two_frames() {
+    for shape in [
+        "frame 0",
+        "frame 255",
+        "frame 257",
+        "frame 511",
+        "frame 513",
+        "frame 18446744073709551615",
+        "edition 0",
+        "edition 3",
+        "edition 7",
+        "edition 18446744073709551615",
+        "edition 2 frame 257",
+        "edition 3 frame 512",
+    ] {
+        let answer = rust(&format!("{shape} position 0"));
         assert!(
-            answer.starts_with("malformed the Rust has frames"),
+            answer.starts_with("malformed the Rust has editions 1 and 2 and frames"),
             "{answer}"
         );
     }
     for line in [
         "frame 512 show",
+        "edition 2 show",
         "frame",
+        "edition",
         "frame -1 position 0",
+        "edition -1 position 0",
         "position 0 frame 512",
+        "frame 512 edition 2 position 0",
+        "edition 2 edition 2 position 0",
     ] {
         assert!(rust(line).starts_with("malformed "), "{line}");
     }

@@ -3,13 +3,13 @@
 
 use super::emitted;
 use crate::context::read_kinds;
-use crate::frame::Frame;
 use crate::parse;
 use crate::port::{self, Memory, Returned};
 use crate::port_side;
 use crate::record::SIZE;
 use crate::request::Request;
-use crate::rust_side::{spills_256, spills_512};
+use crate::rust_side::by_driver;
+use crate::shape::{Chosen, Edition, Frame, Shape};
 use std::hint::black_box;
 use std::time::{Duration, Instant};
 
@@ -24,7 +24,7 @@ const KINDS: &str = "eel";
 
 /// What is timed: its name, the request, and how the port is called.
 struct Case {
-    name: &'static str,
+    name: String,
     request: String,
     call: Call,
 }
@@ -38,17 +38,17 @@ enum Call {
 }
 
 impl Call {
-    fn perform(&self, frame: u64, out: &mut [u8]) -> Returned {
+    fn perform(&self, chosen: Chosen, out: &mut [u8]) -> Returned {
         let operation = match self {
             Call::Store(context, n) => Memory::Store(context, *n),
             Call::Load(loaded) => Memory::Load(loaded, &[]),
             Call::Erase(operand) => Memory::EraseBlock(*operand),
             Call::Print(source, context) => {
-                return port::print(frame, true, *source, context, out);
+                return port::print(chosen.frame, true, *source, context, out);
             }
-            Call::Routine(body) => return port::routine(frame, body, 5, out),
+            Call::Routine(body) => return port::routine(chosen, body, 5, out),
         };
-        port::memory(frame, &operation, &mut 0, out)
+        port::memory(chosen, &operation, &mut 0, out)
     }
 }
 
@@ -73,7 +73,7 @@ fn table() -> f64 {
     let time = |_| {
         timed(|| {
             for _ in 0..queries {
-                black_box(port::query(Frame::Base.number(), black_box(&query)));
+                black_box(port::query(Shape::BASE.chosen(), black_box(&query)));
             }
         })
     };
@@ -83,57 +83,72 @@ fn table() -> f64 {
 
 /// The larger frame's come last: what the Rust allocates for them changes how memory is had after.
 fn cases() -> Vec<Case> {
-    let mut cases = vec![
-        store("store of 1", Frame::Base, 1),
-        store("store of 4", Frame::Base, 4),
-        store("store of 133", Frame::Base, 133),
-        load("load of 1", Frame::Base, 1),
-        load("load of 4", Frame::Base, 4),
-        load("load of 133", Frame::Base, 133),
-    ];
+    let base = Shape::BASE;
+    let second = Shape {
+        edition: Edition::Second,
+        ..base
+    };
+    let larger = Shape {
+        frame: Frame::Larger,
+        ..base
+    };
+    let mut cases = Vec::new();
+    cases.extend([1, 4, 40, 133].map(|length| store(base, length)));
+    cases.extend([1, 4, 40, 133].map(|length| load(base, length)));
     cases.push(Case {
-        name: "erase of a register",
+        name: "erase of a register".to_string(),
         request: "erase_block r4".to_string(),
         call: Call::Erase(4),
     });
     cases.push(Case {
-        name: "erase of a spill",
+        name: "erase of a spill".to_string(),
         request: "erase_block s1".to_string(),
         call: Call::Erase(17),
     });
     let (kinds, context) = variables(6);
     cases.push(Case {
-        name: "print of 6",
+        name: "print of 6".to_string(),
         request: format!("print_i64 1 r5 {kinds}"),
         call: Call::Print(5, context),
     });
     let body = "mov s1 s2; ".repeat(5_000);
     cases.push(Case {
-        name: "routine of 10,000",
+        name: "routine of 10,000".to_string(),
         call: Call::Routine(emitted(body.trim_end_matches("; "))),
         request: format!("{body}routine 5"),
     });
-    cases.extend([
-        store("store of 261, 512 spills", Frame::Larger, 261),
-        load("load of 261, 512 spills", Frame::Larger, 261),
-    ]);
+    cases.extend([40, 133].map(|length| store(second, length)));
+    cases.extend([40, 133].map(|length| load(second, length)));
+    cases.extend([store(larger, 261), load(larger, 261)]);
     cases
 }
 
-fn store(name: &'static str, frame: Frame, length: usize) -> Case {
+fn name(operation: &str, shape: Shape, length: usize) -> String {
+    let edition = match shape.edition {
+        Edition::First => "",
+        Edition::Second => ", second edition",
+    };
+    let frame = match shape.frame {
+        Frame::Base => "",
+        Frame::Larger => ", 512 spills",
+    };
+    format!("{operation} of {length}{edition}{frame}")
+}
+
+fn store(shape: Shape, length: usize) -> Case {
     let (kinds, context) = variables(length);
     Case {
-        name,
-        request: format!("frame {} store {kinds} -", frame.number()),
+        name: name("store", shape, length),
+        request: format!("{}store {kinds} -", shape.chosen()),
         call: Call::Store(context, length as u64),
     }
 }
 
-fn load(name: &'static str, frame: Frame, length: usize) -> Case {
+fn load(shape: Shape, length: usize) -> Case {
     let (kinds, context) = variables(length);
     Case {
-        name,
-        request: format!("frame {} load {kinds} -", frame.number()),
+        name: name("load", shape, length),
+        request: format!("{}load {kinds} -", shape.chosen()),
         call: Call::Load(context),
     }
 }
@@ -145,30 +160,21 @@ fn variables(length: usize) -> (String, Vec<u8>) {
     (kinds, context)
 }
 
-/// Times a case beside the Rust of its frame, whose last operation is made ready before.
+/// Times a case beside the Rust of its shape, whose last operation is made ready before.
 fn time(case: &Case) -> bool {
     let line = parse::line(&case.request).expect("a request");
     let Request::Emission(emission) = line.request else {
         unreachable!("no emission: {}", case.request);
     };
-    let ready = "a timed operation";
-    match Frame::of(line.frame).expect("a frame") {
-        frame @ Frame::Base => {
-            use spills_256::driver::Prepared;
-            let prepared = Prepared::last(&emission).expect(ready);
-            time_beside(case, frame, &prepared, Prepared::emit)
-        }
-        frame @ Frame::Larger => {
-            use spills_512::driver::Prepared;
-            let prepared = Prepared::last(&emission).expect(ready);
-            time_beside(case, frame, &prepared, Prepared::emit)
-        }
-    }
+    by_driver!(line.chosen.nearest(), driver => {
+        let prepared = driver::Prepared::last(&emission).expect("a timed operation");
+        time_beside(case, line.chosen, &prepared, driver::Prepared::emit)
+    })
 }
 
 fn time_beside<Prepared: Clone, Written>(
     case: &Case,
-    frame: Frame,
+    chosen: Chosen,
     prepared: &Prepared,
     emit: fn(Prepared) -> Written,
 ) -> bool {
@@ -182,7 +188,7 @@ fn time_beside<Prepared: Clone, Written>(
         port = port.min(timed(|| {
             for _ in 0..times {
                 let out = black_box(&mut out[0]);
-                black_box(black_box(&case.call).perform(frame.number(), out));
+                black_box(black_box(&case.call).perform(chosen, out));
             }
         }));
         let clones = vec![prepared.clone(); times];

@@ -1,15 +1,16 @@
 //! The emission requests at the limits, in both frames: every mixture of operands, every length of
 //! a context and every part of it, wide immediates, counters up to the last label, outputs too
-//! short. Then some of each sort in frames that there are not.
+//! short; in the second edition those that depend on blocks. Then some of each sort in editions and
+//! frames that there are not.
 
 use super::requests::{
-    ARITHMETIC, CONDITIONS, LABELS, ZERO_CONDITIONS, fst_or_snd, in_frame, kinds, share_count,
+    ARITHMETIC, CONDITIONS, LABELS, ZERO_CONDITIONS, fst_or_snd, in_shape, kinds, share_count,
     write_kinds,
 };
 use crate::answer::Answer;
-use crate::frame::{FRAMES, Frame};
 use crate::random::Random;
 use crate::record::{LAST_FRESH, SIZE};
+use crate::shape::{Chosen, Edition, Frame, OTHER_EDITIONS, OTHER_FRAMES, SHAPES, Shape};
 use crate::well_formed::{IMMEDIATES, instruction};
 use crate::{hex, parse, rust_side};
 
@@ -18,18 +19,15 @@ pub fn longest(frame: Frame) -> usize {
     frame.most_variables() + 1
 }
 
-/// Numbers that no frame has.
-const OTHER_FRAMES: [u64; 9] = [0, 1, 255, 257, 511, 513, 1_024, 1 << 32 | 256, u64::MAX];
-
 /// The last counter with which the port writes a store or load at once, without a pass for its
 /// size.
 const LAST_AT_ONCE: u64 = 2_147_479_999;
 
 /// The shortest output with which the port writes a store or load of n variables at once: 65
-/// records for each block, and 4.
-fn at_once(n: usize) -> u64 {
-    let blocks = 1 + n.saturating_sub(3).div_ceil(2);
-    (SIZE * (65 * blocks + 4)) as u64
+/// records for each block, in the second edition 129, and 4.
+fn at_once(edition: Edition, n: usize) -> u64 {
+    let (each, blocks) = (16 * edition.fields() + 17, edition.blocks_of(n.max(1)));
+    (SIZE * (each * blocks + 4)) as u64
 }
 
 /// Document 01's worked numbers.
@@ -69,22 +67,22 @@ const OPERANDS: [&str; 16] = [
     "s254", "s255",
 ];
 
-/// Operations that take the counter, with the number of labels that they draw.
-const DRAWING: [(&str, u64); 14] = [
-    ("erase_block r4", 3),
-    ("erase_block s1", 3),
-    ("share_block_n r15 1", 1),
-    ("share_block_n s255 2147483647", 1),
-    ("store - -", 0),
-    ("store - l133", 0),
-    ("store e -", 13),
-    ("store e4 -", 26),
-    ("store le2 l9", 13),
-    ("load - -", 0),
-    ("load e -", 2),
-    ("load lel l", 4),
-    ("load l7 e5", 9),
-    ("erase_block r4; share_block_n r4 1; store l e", 17),
+/// Operations that take the counter.
+const DRAWING: [&str; 14] = [
+    "erase_block r4",
+    "erase_block s1",
+    "share_block_n r15 1",
+    "share_block_n s255 2147483647",
+    "store - -",
+    "store - l133",
+    "store e -",
+    "store e4 -",
+    "store le2 l9",
+    "load - -",
+    "load e -",
+    "load lel l",
+    "load l7 e5",
+    "erase_block r4; share_block_n r4 1; store l e",
 ];
 
 /// Operations to be given outputs of several lengths.
@@ -130,15 +128,25 @@ fn adapted(frame: Frame, request: &str) -> String {
 pub fn limits(random: &mut Random, list: &mut Vec<String>) {
     list.extend(WORKED.map(str::to_string));
     list.extend(larger());
-    for frame in FRAMES {
+    list.extend(second());
+    for shape in SHAPES {
         let mut requests = Vec::new();
-        limits_of(frame, random, &mut requests);
-        list.extend(requests.iter().map(|request| in_frame(frame, request)));
+        limits_of(shape, random, &mut requests);
+        if shape.edition == Edition::Second {
+            requests.retain(|request| takes_edition(request));
+        }
+        list.extend(in_shape(shape.chosen(), &requests));
     }
-    other_frames(list);
+    other_shapes(list);
 }
 
-fn limits_of(frame: Frame, random: &mut Random, list: &mut Vec<String>) {
+/// Whether the port is asked for it in an edition.
+fn takes_edition(request: &str) -> bool {
+    parse::line(request).is_ok_and(|line| line.request.takes_edition())
+}
+
+fn limits_of(shape: Shape, random: &mut Random, list: &mut Vec<String>) {
+    let frame = shape.frame;
     let operands = OPERANDS.map(|operand| adapted(frame, operand));
     one_operand(&operands, random, list);
     two_operands(&operands, random, list);
@@ -148,11 +156,11 @@ fn limits_of(frame: Frame, random: &mut Random, list: &mut Vec<String>) {
     contexts(frame, random, list);
     parts(frame, random, list);
     prints(frame, &operands, random, list);
-    counters(frame, list);
-    counters_of_contexts(frame, random, list);
-    rooms(frame, random, list);
+    counters(shape, list);
+    counters_of_contexts(shape, random, list);
+    rooms(shape, random, list);
     routines(random, list);
-    queries(frame, random, list);
+    queries(shape, random, list);
 }
 
 fn one_operand(operands: &[String], random: &mut Random, list: &mut Vec<String>) {
@@ -256,8 +264,8 @@ fn prints(frame: Frame, operands: &[String], random: &mut Random, list: &mut Vec
 }
 
 /// What the Rust writes for a request: the number of bytes and of labels, unless it panics.
-fn size(frame: Frame, request: &str) -> Option<(u64, u64)> {
-    match rust_side::answer(frame.number(), &parse::line(request).ok()?.request) {
+fn size(shape: Shape, request: &str) -> Option<(u64, u64)> {
+    match rust_side::answer(shape.chosen(), &parse::line(request).ok()?.request) {
         Answer::Records(records, counter) => Some(((records.len() * SIZE) as u64, counter)),
         _ => None,
     }
@@ -265,13 +273,13 @@ fn size(frame: Frame, request: &str) -> Option<(u64, u64)> {
 
 /// Every length with a counter in the middle, with the last that leaves labels enough, and with
 /// the first that does not.
-fn counters_of_contexts(frame: Frame, random: &mut Random, list: &mut Vec<String>) {
-    for length in 0..=longest(frame) {
+fn counters_of_contexts(shape: Shape, random: &mut Random, list: &mut Vec<String>) {
+    for length in 0..=longest(shape.frame) {
         for operation in ["store", "load"] {
             let first = random.below(length + 1);
             let (some, rest) = (kinds(first, random), kinds(length - first, random));
             let request = format!("{operation} {some} {rest}");
-            let labels = size(frame, &request).map_or(0, |(_, labels)| labels);
+            let labels = size(shape, &request).map_or(0, |(_, labels)| labels);
             let middle = random.below(1 << 31) as u64;
             for counter in [middle, LAST_FRESH - labels, LAST_FRESH - labels + 1] {
                 list.push(format!("@{counter} {request}"));
@@ -283,7 +291,8 @@ fn counters_of_contexts(frame: Frame, random: &mut Random, list: &mut Vec<String
 /// Every operation, and every length of a context, with outputs of no byte, of about half the
 /// bytes needed, of a byte less, of just the bytes needed and of a byte more, and about the length
 /// from which the port writes at once.
-fn rooms(frame: Frame, random: &mut Random, list: &mut Vec<String>) {
+fn rooms(shape: Shape, random: &mut Random, list: &mut Vec<String>) {
+    let Shape { edition, frame } = shape;
     let mut requests: Vec<(String, usize)> =
         ROOMS.map(|request| (adapted(frame, request), 0)).to_vec();
     for length in 0..=longest(frame) {
@@ -296,7 +305,7 @@ fn rooms(frame: Frame, random: &mut Random, list: &mut Vec<String>) {
         requests.push((format!("print_i64 1 p{position} {context}"), 0));
     }
     for (request, n) in requests {
-        let Some((bytes, _)) = size(frame, &request) else {
+        let Some((bytes, _)) = size(shape, &request) else {
             continue;
         };
         for room in [
@@ -305,17 +314,18 @@ fn rooms(frame: Frame, random: &mut Random, list: &mut Vec<String>) {
             bytes.saturating_sub(1),
             bytes,
             bytes + 1,
-            at_once(n) - 1,
-            at_once(n),
+            at_once(edition, n) - 1,
+            at_once(edition, n),
         ] {
             list.push(format!("room {room} {request}"));
         }
     }
 }
 
-fn counters(frame: Frame, list: &mut Vec<String>) {
-    for (operation, labels) in DRAWING {
-        let operation = adapted(frame, operation);
+fn counters(shape: Shape, list: &mut Vec<String>) {
+    for operation in DRAWING {
+        let operation = adapted(shape.frame, operation);
+        let labels = size(shape, &operation).map_or(0, |(_, labels)| labels);
         for counter in [
             0,
             1,
@@ -359,7 +369,8 @@ fn routines(random: &mut Random, list: &mut Vec<String>) {
     list.push(format!("rawn 65506 {record}; routine 5"));
 }
 
-fn queries(frame: Frame, random: &mut Random, list: &mut Vec<String>) {
+fn queries(shape: Shape, random: &mut Random, list: &mut Vec<String>) {
+    let Shape { edition, frame } = shape;
     let (positions, spills) = (frame.positions() as u64, frame.spills());
     for position in (0..=positions + 33).chain([u64::from(u32::MAX), u64::MAX / 2, u64::MAX]) {
         list.push(format!("position {position}"));
@@ -372,7 +383,7 @@ fn queries(frame: Frame, random: &mut Random, list: &mut Vec<String>) {
     for spill in 1..spills {
         list.push(format!("stack_offset {spill}"));
     }
-    for field in 0..3 {
+    for field in 0..=edition.fields() {
         for which in ["fst", "snd"] {
             list.push(format!("field_offset {which} {field}"));
         }
@@ -454,12 +465,84 @@ pub fn larger() -> Vec<String> {
     .map(str::to_string)
     .to_vec();
     requests.extend(ROOMS.map(|request| adapted(frame, request)));
-    let in_it = |request: &String| in_frame(frame, request);
-    requests.iter().map(in_it).collect()
+    let shape = Shape::new(Edition::First, frame);
+    in_shape(shape.chosen(), &requests).collect()
 }
 
-/// Some of each sort in frames that there are not.
-fn other_frames(list: &mut Vec<String>) {
+/// The second edition: objects of one block, of two, three and four, and of all variables, each block
+/// full or not, after no variable and after some; counters, routines and fields.
+pub fn second() -> Vec<String> {
+    let mut requests = Vec::new();
+    for operation in ["store", "load"] {
+        for (n, after) in [
+            (0, 5),
+            (1, 132),
+            (6, 3),
+            (7, 20),
+            (8, 2),
+            (12, 40),
+            (13, 1),
+            (14, 7),
+            (19, 4),
+            (20, 100),
+            (40, 93),
+            (133, 1),
+        ] {
+            let kinds = mixed(n);
+            requests.push(format!("{operation} {kinds} -"));
+            requests.push(format!("{operation} {kinds} {}", mixed(after)));
+        }
+    }
+    let others = [
+        "@2147483622 store e -",
+        "@2147483623 store e -",
+        "@2147483597 store_last l8 8",
+        "@2147483097 store l133 -",
+        "@2147483098 store l133 -",
+        "@2147483645 load e -",
+        "@2147483646 load e -",
+        "@7 erase_block r4; store lel2 e; share_block_n p2 3; load lel2 e",
+        "routine 0",
+        "store e7l2 l; routine 5",
+        "routine 6",
+        "field_offset fst 0",
+        "field_offset snd 1",
+        "field_offset fst 2",
+        "field_offset snd 3",
+        "field_offset fst 4",
+        "field_offset snd 5",
+        "field_offset fst 6",
+        "field_offset snd 6",
+    ];
+    requests.extend(others.map(str::to_string));
+    let larger = [
+        "store - e261",
+        "store l8 e253",
+        "store e e261",
+        "load e14 l247",
+        "store l261 -",
+        "load l261 -",
+        "routine 0",
+        "field_offset fst 6",
+    ]
+    .map(str::to_string);
+    let [.., base, in_larger] = SHAPES;
+    let requests = in_shape(base.chosen(), &requests);
+    requests
+        .chain(in_shape(in_larger.chosen(), &larger))
+        .collect()
+}
+
+/// So many kinds, mixed.
+fn mixed(length: usize) -> String {
+    let kinds = ['e', 'l', 'l', 'e', 'l'];
+    let kinds: Vec<char> = kinds.into_iter().cycle().take(length).collect();
+    write_kinds(&kinds)
+}
+
+/// Some of each sort in frames that there are not, and of what takes an edition in editions that
+/// there are not, which are refused before a frame.
+fn other_shapes(list: &mut Vec<String>) {
     let mut requests: Vec<String> = WORKED.map(str::to_string).to_vec();
     requests.extend(ROOMS.map(str::to_string));
     let others = [
@@ -488,7 +571,32 @@ fn other_frames(list: &mut Vec<String>) {
     ];
     requests.extend(others.map(str::to_string));
     for frame in OTHER_FRAMES {
-        let in_it = |request| format!("frame {frame} {request}");
-        list.extend(requests.iter().map(in_it));
+        let edition = Edition::First.number();
+        list.extend(in_shape(Chosen { edition, frame }, &requests));
+    }
+    requests.retain(|request| takes_edition(request));
+    for frame in OTHER_FRAMES {
+        let edition = Edition::Second.number();
+        list.extend(in_shape(Chosen { edition, frame }, &requests));
+    }
+    let begun = [
+        "store l4097 -",
+        "load e4097 -",
+        "field_offset snd 7",
+        "erase_block p267",
+        "share_block_n s256 4294967296",
+        "variable_temporary fst 4294967296 5",
+        "variable_temporary snd 5 4294967296",
+        "mov r4 r5; erase_block r4; store e -",
+        "mov p267 r4; store e -",
+        "room 24 mov s1 s2; load e -",
+        "@2147483647 erase_block r4; routine 0",
+        "raw a92407000000000000000000000000000000000000000000; routine 0",
+    ];
+    requests.extend(begun.map(str::to_string));
+    for edition in OTHER_EDITIONS {
+        for frame in [256, 300, 512] {
+            list.extend(in_shape(Chosen { edition, frame }, &requests));
+        }
     }
 }

@@ -1,9 +1,9 @@
 //! Random requests that both the Rust and the port answer.
 
-use crate::frame::Frame;
 use crate::hex;
 use crate::random::Random;
 use crate::record::LAST_FRESH;
+use crate::shape::{Chosen, Frame, Shape};
 use crate::well_formed::{immediate, instruction};
 
 pub const CONDITIONS: [&str; 6] = [
@@ -39,18 +39,25 @@ pub const LABELS: [&str; 10] = [
     "n4294967295",
 ];
 
-/// A request as it is asked in a frame; one of 256 spills need not be named.
-pub fn in_frame(frame: Frame, request: &str) -> String {
-    match frame {
-        Frame::Base => request.to_string(),
-        Frame::Larger => format!("frame {} {request}", frame.number()),
-    }
+/// Requests as they are asked in a shape.
+pub fn in_shape<'a>(
+    chosen: Chosen,
+    requests: impl IntoIterator<Item = &'a String>,
+) -> impl Iterator<Item = String> {
+    let requests = requests.into_iter();
+    requests.map(move |request| format!("{chosen}{request}"))
 }
 
-/// A request in a frame, with contexts of at most the given length.
-pub fn random(frame: Frame, longest: usize, random: &mut Random) -> String {
+/// A request in a shape, with contexts of at most the given length.
+pub fn random(shape: Shape, longest: usize, random: &mut Random) -> String {
+    format!("{}{}", shape.chosen(), in_base(shape, longest, random))
+}
+
+/// The same without its shape's prefixes.
+fn in_base(shape: Shape, longest: usize, random: &mut Random) -> String {
+    let frame = shape.frame;
     if random.once_in(8) {
-        return in_frame(frame, &query(frame, random));
+        return query(shape, random);
     }
     let most = if random.once_in(3) { 5 } else { 1 };
     let mut operations: Vec<String> = (0..1 + random.below(most))
@@ -59,8 +66,7 @@ pub fn random(frame: Frame, longest: usize, random: &mut Random) -> String {
     if random.once_in(12) {
         operations.push(format!("routine {}", random.below(7)));
     }
-    let request = format!("{}{}", counter(random), operations.join("; "));
-    in_frame(frame, &request)
+    format!("{}{}", counter(random), operations.join("; "))
 }
 
 /// A counter in front of a request: none, in the middle, or near the limit.
@@ -72,14 +78,15 @@ fn counter(random: &mut Random) -> String {
     }
 }
 
-fn query(frame: Frame, random: &mut Random) -> String {
+fn query(shape: Shape, random: &mut Random) -> String {
+    let Shape { edition, frame } = shape;
     let which = fst_or_snd(random);
     let most = frame.most_variables();
     match random.below(5) {
         0 => format!("position {}", random.below(frame.positions() + 3)),
         1 => format!("fresh_temporary {which} {}", random.below(most + 3)),
         2 => format!("stack_offset {}", 1 + random.below(frame.spills() - 1)),
-        3 => format!("field_offset {which} {}", random.below(3)),
+        3 => format!("field_offset {which} {}", random.below(edition.fields())),
         _ => {
             let id = random.below(6);
             format!("variable_temporary {which} {id} {}", ids(most, random))

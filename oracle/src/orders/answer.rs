@@ -5,11 +5,11 @@
 use super::{BINDING, Order, SIZE, binding, kinds};
 use crate::answer::Answer;
 use crate::context::{Kind, Kinds};
-use crate::frame::Frame;
 use crate::reading::{Refusal, check_context};
 use crate::record::{self, LAST_FRESH, Record};
 use crate::request::{Emission, Operand, Operation, Request};
 use crate::rust_side;
+use crate::shape::{Chosen, Frame, Shape};
 
 /// What goes in with an order.
 #[derive(Debug, Clone)]
@@ -39,14 +39,19 @@ fn refused<T>(number: u64, value: Option<u64>) -> Result<T, Refusal> {
     Err(Refusal { number, value })
 }
 
-/// All causes but 10, in rising order. "The frame may be 256 or 512 spills (another number is 3)."
-pub fn given(frame: u64, context: &[u8], asked: &Asked) -> Result<Given, Refusal> {
+/// All causes but 10: "23 for an edition other than 1 or 2, checked first of all", then in rising
+/// order. "The frame may be 256 or 512 spills (another number is 3)."
+pub fn given(chosen: Chosen, context: &[u8], asked: &Asked) -> Result<Given, Refusal> {
+    let Some(edition) = chosen.edition() else {
+        return refused(23, None);
+    };
     check_context(context)?;
     check_context(&asked.bindings)?;
     let order = well_formed(asked)?;
-    let Some(frame) = Frame::of(frame) else {
+    let Some(frame) = chosen.frame() else {
         return refused(3, None);
     };
+    let shape = Shape::new(edition, frame);
     let (before, brought) = (kinds(context), kinds(&asked.bindings));
     if !places_there(order, before.len()) {
         return refused(4, None);
@@ -57,7 +62,7 @@ pub fn given(frame: u64, context: &[u8], asked: &Asked) -> Result<Given, Refusal
     if matches!(order, Order::Copy { n, .. } if n > LAST_FRESH as usize) {
         return refused(7, None);
     }
-    let (records, counter) = written(frame, order, &before, &brought, asked.counter)?;
+    let (records, counter) = written(shape, order, &before, &brought, asked.counter)?;
     Ok(Given {
         order,
         records: records.into_iter().flat_map(Record::to_bytes).collect(),
@@ -120,20 +125,20 @@ fn kinds_right(order: Order, before: &[Kind]) -> bool {
 
 /// Causes 8 and 9, or the records and the counter after them.
 fn written(
-    frame: Frame,
+    shape: Shape,
     order: Order,
     before: &[Kind],
     brought: &[Kind],
     counter: u64,
 ) -> Result<(Vec<Record>, u64), Refusal> {
-    let operations = operations(frame, order, before, brought);
+    let operations = operations(shape.frame, order, before, brought);
     let emit = |counter| {
         let emission = Emission {
             counter,
             room: None,
             operations: operations.clone(),
         };
-        rust_side::answer(frame.number(), &Request::Emission(emission))
+        rust_side::answer(shape.chosen(), &Request::Emission(emission))
     };
     // a counter above the limit is refused whatever is drawn, but a position comes first
     let answer = if counter <= LAST_FRESH {

@@ -3,16 +3,13 @@
 
 use super::plain::Value;
 use super::{BINDING, kinds};
-use crate::frame::Frame;
-use crate::interpreter::{BLOCK_WORDS, HEAP_START, STACK, State, stack_in_body, stack_start};
+use crate::interpreter::{HEAP_START, STACK, State, stack_in_body, stack_start};
 use crate::reading::check_context;
+use crate::shape::{Edition, Frame, Shape};
 use std::rc::Rc;
 
 const HEAP: usize = 2;
 const FREE: usize = 3;
-
-const BLOCK_BYTES: u64 = 8 * BLOCK_WORDS as u64;
-const FIELDS: usize = 3;
 
 /// "Count or next pointer at 0."
 const HEADER: usize = 0;
@@ -24,6 +21,43 @@ fn fst_of(field: usize) -> usize {
 
 fn snd_of(field: usize) -> usize {
     3 + 2 * field
+}
+
+/// A heap's words, in blocks of an edition.
+#[derive(Clone, Copy)]
+struct Heap<'a> {
+    edition: Edition,
+    words: &'a [u64],
+}
+
+impl Heap<'_> {
+    /// How many blocks there are.
+    fn blocks(self) -> usize {
+        self.words.len() / self.edition.block_words()
+    }
+
+    fn word(self, block: usize, word: usize) -> u64 {
+        self.words[block * self.edition.block_words() + word]
+    }
+
+    /// The block at an address.
+    fn block_at(self, address: u64) -> Checked<usize> {
+        let bytes = self.edition.block_bytes();
+        let offset = address.checked_sub(HEAP_START);
+        let offset = offset.filter(|offset| offset.is_multiple_of(bytes));
+        let block = offset.map(|offset| offset / bytes);
+        let block = block.filter(|block| *block < self.blocks() as u64);
+        match block {
+            Some(block) => Ok(block as usize),
+            None => Err(format!("{address} is no block's address")),
+        }
+    }
+
+    /// The nonzero Fsts of a block's fields, a link among them.
+    fn pointers(self, block: usize) -> impl Iterator<Item = u64> {
+        let fsts = (0..self.edition.fields()).map(move |field| self.word(block, fst_of(field)));
+        fsts.filter(|fst| *fst != 0)
+    }
 }
 
 #[derive(Debug, Clone, Copy, PartialEq, Eq)]
@@ -57,7 +91,7 @@ impl History {
 
 /// How many blocks there are of each sort.
 #[derive(Debug, Clone, Copy, PartialEq, Eq)]
-pub struct Shape {
+pub struct BlockCounts {
     pub frontier: usize,
     pub linear: usize,
     pub lazy: usize,
@@ -73,13 +107,18 @@ type Checked<T> = Result<T, String>;
 /// Whether all that demand 3 says of a state holds. The history is that of the states before,
 /// and takes this one in.
 pub fn sound(
-    frame: Frame,
+    shape: Shape,
     state: &State,
     heap: &[u64],
     context: &[u8],
     values: &[Value],
     history: &mut History,
-) -> Checked<Shape> {
+) -> Checked<BlockCounts> {
+    let Shape { edition, frame } = shape;
+    let heap = Heap {
+        edition,
+        words: heap,
+    };
     check_kinds(context, values)?;
     let words = variables(frame, state, values.len())?;
     let roots = roots(&words, values);
@@ -88,11 +127,11 @@ pub fn sound(
     blocks.linear(state.registers[HEAP])?;
     let frontier = blocks.lazy(state.registers[FREE])?;
     blocks.held(roots)?;
-    let shape = blocks.shape(frontier, reachable)?;
-    blocks.counts()?;
+    let counts = blocks.counts(frontier, reachable)?;
+    blocks.check_references()?;
     history.take(&blocks.places, frontier, reachable)?;
     check_values(heap, &words, values)?;
-    Ok(shape)
+    Ok(counts)
 }
 
 /// "The context then reached has these values' kinds, in sequence."
@@ -150,21 +189,21 @@ fn roots(words: &[[u64; 2]], values: &[Value]) -> Vec<u64> {
 
 /// How many blocks the pointers in variables reach. Blocks that only the lazy list holds are not
 /// among them.
-fn reachable(heap: &[u64], roots: Vec<u64>) -> Checked<usize> {
-    let mut met = vec![false; heap.len() / BLOCK_WORDS];
+fn reachable(heap: Heap, roots: Vec<u64>) -> Checked<usize> {
+    let mut met = vec![false; heap.blocks()];
     let mut pointers = roots;
     while let Some(pointer) = pointers.pop() {
-        let block = block_at(heap, pointer)?;
+        let block = heap.block_at(pointer)?;
         if !met[block] {
             met[block] = true;
-            pointers.extend(fields(heap, block));
+            pointers.extend(heap.pointers(block));
         }
     }
     Ok(met.iter().filter(|met| **met).count())
 }
 
 struct Blocks<'a> {
-    heap: &'a [u64],
+    heap: Heap<'a>,
     places: Vec<Place>,
     /// How many pointers name each block.
     pointers: Vec<u64>,
@@ -172,19 +211,14 @@ struct Blocks<'a> {
 }
 
 impl<'a> Blocks<'a> {
-    fn new(heap: &'a [u64]) -> Blocks<'a> {
-        let count = heap.len() / BLOCK_WORDS;
+    fn new(heap: Heap<'a>) -> Blocks<'a> {
+        let count = heap.blocks();
         Blocks {
             heap,
             places: vec![Place::Nowhere; count],
             pointers: vec![0; count],
             lazy: Vec::new(),
         }
-    }
-
-    /// The block at an address.
-    fn at(&self, address: u64) -> Checked<usize> {
-        block_at(self.heap, address)
     }
 
     fn put(&mut self, block: usize, place: Place) -> Checked<()> {
@@ -201,9 +235,9 @@ impl<'a> Blocks<'a> {
     fn linear(&mut self, head: u64) -> Checked<()> {
         let mut next = head;
         while next != 0 {
-            let block = self.at(next)?;
+            let block = self.heap.block_at(next)?;
             self.put(block, Place::Linear)?;
-            next = word(self.heap, block, HEADER);
+            next = self.heap.word(block, HEADER);
         }
         Ok(())
     }
@@ -212,8 +246,8 @@ impl<'a> Blocks<'a> {
     fn lazy(&mut self, head: u64) -> Checked<usize> {
         let mut next = head;
         loop {
-            let block = self.at(next)?;
-            next = word(self.heap, block, HEADER);
+            let block = self.heap.block_at(next)?;
+            next = self.heap.word(block, HEADER);
             if next == 0 {
                 return Ok(block);
             }
@@ -228,14 +262,14 @@ impl<'a> Blocks<'a> {
     fn held(&mut self, roots: Vec<u64>) -> Checked<()> {
         let mut pointers = roots;
         for block in &self.lazy {
-            pointers.extend(fields(self.heap, *block));
+            pointers.extend(self.heap.pointers(*block));
         }
         while let Some(pointer) = pointers.pop() {
-            let block = self.at(pointer)?;
+            let block = self.heap.block_at(pointer)?;
             self.pointers[block] += 1;
             if self.places[block] != Place::Held {
                 self.put(block, Place::Held)?;
-                pointers.extend(fields(self.heap, block));
+                pointers.extend(self.heap.pointers(block));
             }
         }
         Ok(())
@@ -243,7 +277,7 @@ impl<'a> Blocks<'a> {
 
     /// "Each block below the frontier" is in exactly one of the three, and none from it up; those
     /// have never been written.
-    fn shape(&self, frontier: usize, reachable: usize) -> Checked<Shape> {
+    fn counts(&self, frontier: usize, reachable: usize) -> Checked<BlockCounts> {
         let (below, above) = self.places.split_at(frontier);
         if let Some(block) = below.iter().position(|place| *place == Place::Nowhere) {
             return Err(format!("block {block} of {frontier} is lost"));
@@ -254,12 +288,13 @@ impl<'a> Blocks<'a> {
                 "block {block} is {place:?}, the frontier is {frontier}"
             ));
         }
-        let rest = &self.heap[frontier * BLOCK_WORDS..];
+        let Heap { edition, words } = self.heap;
+        let rest = &words[frontier * edition.block_words()..];
         if rest.iter().any(|word| *word != 0) {
             return Err(format!("a word above the frontier {frontier} is not zero"));
         }
         let count = |wanted| below.iter().filter(|place| **place == wanted).count();
-        Ok(Shape {
+        Ok(BlockCounts {
             frontier,
             linear: count(Place::Linear),
             lazy: count(Place::Lazy),
@@ -274,9 +309,9 @@ impl<'a> Blocks<'a> {
     }
 
     /// "A held block's count is its pointers less one."
-    fn counts(&self) -> Checked<()> {
+    fn check_references(&self) -> Checked<()> {
         for (block, place) in self.places.iter().enumerate() {
-            let (pointers, count) = (self.pointers[block], word(self.heap, block, HEADER));
+            let (pointers, count) = (self.pointers[block], self.heap.word(block, HEADER));
             if *place == Place::Held && count != pointers - 1 {
                 return Err(format!(
                     "block {block} counts {count}, pointers are {pointers}"
@@ -320,32 +355,11 @@ impl History {
     }
 }
 
-fn word(heap: &[u64], block: usize, word: usize) -> u64 {
-    heap[block * BLOCK_WORDS + word]
-}
-
-fn block_at(heap: &[u64], address: u64) -> Checked<usize> {
-    let offset = address.checked_sub(HEAP_START);
-    let offset = offset.filter(|offset| offset.is_multiple_of(BLOCK_BYTES));
-    let block = offset.map(|offset| offset / BLOCK_BYTES);
-    let block = block.filter(|block| *block < (heap.len() / BLOCK_WORDS) as u64);
-    match block {
-        Some(block) => Ok(block as usize),
-        None => Err(format!("{address} is no block's address")),
-    }
-}
-
-/// The nonzero Fsts of a block's fields, a link among them.
-fn fields(heap: &[u64], block: usize) -> impl Iterator<Item = u64> {
-    let fsts = (0..FIELDS).map(move |field| word(heap, block, fst_of(field)));
-    fsts.filter(|fst| *fst != 0)
-}
-
 /// "Ext holds its integer in Snd; linked its tag in Snd and its list by Fst: 0 if empty, else the
 /// object, each value held likewise where `Memory::store` puts it."
-fn check_values(heap: &[u64], words: &[[u64; 2]], values: &[Value]) -> Checked<()> {
+fn check_values(heap: Heap, words: &[[u64; 2]], values: &[Value]) -> Checked<()> {
     // a list that several values share is looked at once for each block that it starts at
-    let mut seen: Vec<*const Vec<Value>> = vec![std::ptr::null(); heap.len() / BLOCK_WORDS];
+    let mut seen: Vec<*const Vec<Value>> = vec![std::ptr::null(); heap.blocks()];
     let mut objects = Vec::new();
     for (variable, (words, value)) in words.iter().zip(values).enumerate() {
         let [fst, snd] = *words;
@@ -353,7 +367,7 @@ fn check_values(heap: &[u64], words: &[[u64; 2]], values: &[Value]) -> Checked<(
         objects.extend(object);
     }
     while let Some((address, list)) = objects.pop() {
-        let block = block_at(heap, address)?;
+        let block = heap.block_at(address)?;
         if seen[block] == Rc::as_ptr(list) {
             continue;
         }
@@ -363,9 +377,12 @@ fn check_values(heap: &[u64], words: &[[u64; 2]], values: &[Value]) -> Checked<(
     Ok(())
 }
 
+/// An object's address, and the list that it must hold.
+type Object<'a> = (u64, &'a Rc<Vec<Value>>);
+
 /// Whether two words hold a value; if its list is not empty, where the object must be. The Fst
 /// of an integer is left to who holds it.
-fn holds(fst: u64, snd: u64, value: &Value) -> Checked<Option<(u64, &Rc<Vec<Value>>)>> {
+fn holds(fst: u64, snd: u64, value: &Value) -> Checked<Option<Object<'_>>> {
     match value {
         Value::Integer(integer) if snd != *integer => {
             Err(format!("Snd is {snd}, the integer {integer}"))
@@ -382,44 +399,44 @@ fn holds(fst: u64, snd: u64, value: &Value) -> Checked<Option<(u64, &Rc<Vec<Valu
 }
 
 /// How many values each block of an object holds: "the last block of an object holds 3 fields;
-/// each other holds 2". Blocks fill from the last value on.
-fn sizes(count: usize) -> Vec<usize> {
+/// each other holds 2", and in the second edition "7 variables and the others 6". Blocks fill from
+/// the last value on.
+fn sizes(edition: Edition, count: usize) -> Vec<usize> {
     let mut sizes = Vec::new();
     let mut left = count;
-    let mut most = FIELDS;
+    let mut most = edition.fields();
     while left > 0 {
         sizes.push(left.min(most));
         left -= left.min(most);
-        most = FIELDS - 1;
+        most = edition.fields() - 1;
     }
     sizes.reverse();
     sizes
 }
 
 fn check_object<'a>(
-    heap: &[u64],
+    heap: Heap,
     head: usize,
     list: &'a [Value],
-    objects: &mut Vec<(u64, &'a Rc<Vec<Value>>)>,
+    objects: &mut Vec<Object<'a>>,
 ) -> Checked<()> {
-    let sizes = sizes(list.len());
+    let sizes = sizes(heap.edition, list.len());
+    // in all blocks but the last this field is the link
+    let last_field = heap.edition.fields() - 1;
     let mut block = head;
     let mut rest = list;
     for (index, size) in sizes.iter().enumerate() {
         let last = index + 1 == sizes.len();
-        let end = if last { FIELDS } else { FIELDS - 1 };
+        let end = last_field + usize::from(last);
         let (values, after) = rest.split_at(*size);
         rest = after;
         for field in 0..end - size {
-            if word(heap, block, fst_of(field)) != 0 {
+            if heap.word(block, fst_of(field)) != 0 {
                 return Err(format!("block {block}: unused field {field} has an Fst"));
             }
         }
         for (field, value) in (end - size..end).zip(values) {
-            let (fst, snd) = (
-                word(heap, block, fst_of(field)),
-                word(heap, block, snd_of(field)),
-            );
+            let [fst, snd] = [fst_of(field), snd_of(field)].map(|word| heap.word(block, word));
             if fst != 0 && matches!(value, Value::Integer(_)) {
                 return Err(format!(
                     "block {block}: the integer in field {field} has an Fst"
@@ -429,7 +446,7 @@ fn check_object<'a>(
             objects.extend(object.map_err(|why| format!("block {block}, field {field}: {why}"))?);
         }
         if !last {
-            block = block_at(heap, word(heap, block, fst_of(FIELDS - 1)))?;
+            block = heap.block_at(heap.word(block, fst_of(last_field)))?;
         }
     }
     Ok(())
@@ -440,10 +457,10 @@ mod tests {
     use super::*;
     use crate::channel::{Channel, Side};
     use crate::context::Kind;
-    use crate::frame::FRAMES;
     use crate::orders::answer::{Asked, given};
     use crate::orders::{Order, binding, plain};
     use crate::port::Ran;
+    use crate::shape::{EDITIONS, SHAPES};
 
     /// A channel after some orders, by the Rust's records and the reading of the machine.
     struct Played {
@@ -454,9 +471,10 @@ mod tests {
 
     impl Played {
         /// On a zeroed heap of so many blocks.
-        fn fresh(frame: Frame, blocks: usize) -> Played {
+        fn fresh(shape: Shape, blocks: usize) -> Played {
+            let words = blocks * shape.edition.block_words();
             let mut played = Played {
-                channel: Channel::fresh(Side::Reading, frame, blocks * BLOCK_WORDS),
+                channel: Channel::fresh(Side::Reading, shape, words),
                 values: Vec::new(),
                 history: History::new(blocks),
             };
@@ -472,8 +490,8 @@ mod tests {
                 bindings: kinds.iter().flat_map(|kind| binding(*kind, 7)).collect(),
                 counter: 0,
             };
-            let frame = self.channel.frame.number();
-            let given = given(frame, &self.channel.context, &asked);
+            let chosen = self.channel.shape.chosen();
+            let given = given(chosen, &self.channel.context, &asked);
             let given = given.expect("the order is accepted");
             let ran = self.channel.run(&given.records, &[9; 9], given.count());
             if ran.number == 0 {
@@ -483,16 +501,23 @@ mod tests {
             ran
         }
 
-        fn check(&mut self) -> Checked<Shape> {
+        fn check(&mut self) -> Checked<BlockCounts> {
             let Channel {
-                frame,
+                shape,
                 state,
                 heap,
                 context,
                 ..
             } = &self.channel;
             let history = &mut self.history;
-            sound(*frame, state, heap, context, &self.values, history)
+            sound(*shape, state, heap, context, &self.values, history)
+        }
+
+        fn heap(&self) -> Heap<'_> {
+            Heap {
+                edition: self.channel.shape.edition,
+                words: &self.channel.heap,
+            }
         }
 
         /// Whether a change is reported.
@@ -507,9 +532,16 @@ mod tests {
         }
     }
 
+    fn in_edition(edition: Edition) -> Shape {
+        Shape {
+            edition,
+            ..Shape::BASE
+        }
+    }
+
     /// Each state must be sound.
-    fn play(orders: &[(Order, &[Kind])]) -> Played {
-        let mut played = Played::fresh(Frame::Base, 40);
+    fn play(edition: Edition, orders: &[(Order, &[Kind])]) -> Played {
+        let mut played = Played::fresh(in_edition(edition), 40);
         for (order, kinds) in orders {
             let ran = played.order(*order, kinds);
             assert_eq!(ran.number, 0, "{order:?}: {ran}");
@@ -518,20 +550,21 @@ mod tests {
         played
     }
 
-    /// Five values in two blocks, shared; one object lazily freed, that holds another; one block
-    /// on the linear list beside HEAP's own.
-    fn example() -> Played {
+    /// Two values more than a block has fields, in two blocks, shared; one object lazily freed, that
+    /// holds another; one block on the linear list beside HEAP's own.
+    fn example(edition: Edition) -> Played {
         use Kind::{Ext, Linked};
         use Order::{Copy, Drop, Load, Put, Store};
         let none: &[Kind] = &[];
-        play(&[
-            (Put(5), none),
-            (Store { n: 1, tag: 1 }, none),
-            (Put(6), none),
-            (Put(7), none),
+        let n = edition.fields() + 2;
+        let integers = n - 3;
+        let kinds = [&[Linked], &vec![Ext; integers][..], &[Linked, Ext]].concat();
+        let mut orders = vec![(Put(5), none), (Store { n: 1, tag: 1 }, none)];
+        orders.extend((0..integers).map(|place| (Put(6 + place as u64), none)));
+        orders.extend([
             (Store { n: 0, tag: 2 }, none),
             (Put(8), none),
-            (Store { n: 5, tag: 3 }, none),
+            (Store { n, tag: 3 }, none),
             (Copy { a: 0, n: 3 }, none),
             (Put(9), none),
             (Store { n: 1, tag: 4 }, none),
@@ -541,29 +574,31 @@ mod tests {
             (Load(1), &[Ext]),
             (Drop, none),
             (Drop, none),
-            (Load(5), &[Linked, Ext, Ext, Linked, Ext]),
-        ])
+            (Load(n), &kinds),
+        ]);
+        play(edition, &orders)
     }
 
     #[test]
     fn an_example_is_sound() {
-        let mut played = example();
-        let shape = played.check().unwrap();
-        let expected = Shape {
-            frontier: 7,
-            linear: 2,
-            lazy: 1,
-            held: 4,
-            shared: 2,
-            reachable: 3,
-        };
-        assert_eq!(shape, expected);
-        assert_eq!(played.history.peak(), 6);
+        for edition in EDITIONS {
+            let mut played = example(edition);
+            let expected = BlockCounts {
+                frontier: 7,
+                linear: 2,
+                lazy: 1,
+                held: 4,
+                shared: 2,
+                reachable: 3,
+            };
+            assert_eq!(played.check(), Ok(expected));
+            assert_eq!(played.history.peak(), 6);
+        }
     }
 
     #[test]
     fn another_peak_is_reported() {
-        let played = example();
+        let played = example(Edition::First);
         for peak in [0, 3, 5, 7] {
             assert!(
                 played.reports(|played| played.history.peak = peak),
@@ -574,8 +609,8 @@ mod tests {
 
     /// A put and then so many stores of one variable, each of which reaches one block more, on a
     /// heap of so many blocks: how many blocks are reachable after each store, or what is wrong.
-    fn stores(count: usize, blocks: usize) -> Vec<Checked<usize>> {
-        let mut played = Played::fresh(Frame::Base, blocks);
+    fn stores(edition: Edition, count: usize, blocks: usize) -> Vec<Checked<usize>> {
+        let mut played = Played::fresh(in_edition(edition), blocks);
         assert_eq!(played.order(Order::Put(0), &[]).number, 0);
         played.check().expect("a put changes no block");
         let mut store = || {
@@ -588,46 +623,54 @@ mod tests {
         (0..count).map(|_| store()).collect()
     }
 
-    fn no_block(block: u64) -> Checked<usize> {
-        let address = HEAP_START + block * BLOCK_BYTES;
+    fn no_block(edition: Edition, block: u64) -> Checked<usize> {
+        let address = HEAP_START + block * edition.block_bytes();
         Err(format!("{address} is no block's address"))
     }
 
     #[test]
     fn one_block_fewer_leaves_no_frontier() {
         // a peak of 1: on two blocks the run ends, and FREE is past the heap's end
-        assert_eq!(stores(1, 3), [Ok(1)]);
-        assert_eq!(stores(1, 2), [no_block(2)]);
+        for edition in EDITIONS {
+            assert_eq!(stores(edition, 1, 3), [Ok(1)]);
+            assert_eq!(stores(edition, 1, 2), [no_block(edition, 2)]);
+        }
     }
 
     /// Why a store counts what is reachable before it and what it acquires: of three blocks it
     /// finds two, its run faults, and the new variable leads nowhere yet.
     #[test]
     fn a_store_that_faults_reaches_less_than_it_counts() {
-        let mut played = Played::fresh(Frame::Base, 2);
-        for value in 0..7 {
-            assert_eq!(played.order(Order::Put(value), &[]).number, 0);
+        for (edition, n) in EDITIONS.into_iter().zip([7, 19]) {
+            let mut played = Played::fresh(in_edition(edition), 2);
+            for value in 0..n {
+                assert_eq!(played.order(Order::Put(value as u64), &[]).number, 0);
+            }
+            let ran = played.order(Order::Store { n, tag: 0 }, &[]);
+            let fst = played.channel.state.registers[4];
+            assert_eq!((ran.number, fst), (11, 0));
         }
-        let ran = played.order(Order::Store { n: 7, tag: 0 }, &[]);
-        let fst = played.channel.state.registers[4];
-        assert_eq!((ran.number, fst), (11, 0));
     }
 
     #[test]
     fn two_blocks_fewer_fault() {
         // a peak of 2: on two blocks the second store finds no block
-        assert_eq!(stores(2, 4), [Ok(1), Ok(2)]);
-        assert_eq!(stores(2, 3), [Ok(1), no_block(3)]);
-        assert_eq!(stores(2, 2), [no_block(2), Err("refused 11".to_string())]);
+        let fault = || Err("refused 11".to_string());
+        for edition in EDITIONS {
+            assert_eq!(stores(edition, 2, 4), [Ok(1), Ok(2)]);
+            assert_eq!(stores(edition, 2, 3), [Ok(1), no_block(edition, 3)]);
+            assert_eq!(stores(edition, 2, 2), [no_block(edition, 2), fault()]);
+        }
     }
 
     /// As many variables as the frame has room for, stored as one object and loaded again, with
     /// every state sound and every position in use.
     #[test]
     fn a_full_frame_is_sound() {
-        for frame in FRAMES {
-            let most = frame.most_variables();
-            let mut played = Played::fresh(frame, 2 + most.div_ceil(2));
+        for shape in SHAPES {
+            let most = shape.frame.most_variables();
+            let peak = shape.edition.blocks_of(most);
+            let mut played = Played::fresh(shape, peak + 2);
             let mut play = |order, kinds: &[Kind]| {
                 let ran = played.order(order, kinds);
                 assert_eq!(ran.number, 0, "{order:?}: {ran}");
@@ -637,10 +680,7 @@ mod tests {
                 play(Order::Put(value as u64), &[]);
             }
             let stored = play(Order::Store { n: most, tag: 3 }, &[]);
-            assert_eq!(
-                stored.reachable,
-                Order::Store { n: most, tag: 3 }.acquires()
-            );
+            assert_eq!(stored.reachable, peak);
             play(Order::Load(most), &vec![Kind::Ext; most]);
             let last = played.channel.state.stack[57];
             assert_eq!(last, 0, "the last position is no variable's");
@@ -650,93 +690,100 @@ mod tests {
 
     #[test]
     fn every_word_of_the_heap_matters() {
-        let played = example();
-        let (heap, state) = (&played.channel.heap, &played.channel.state);
-        let block = |address: u64| block_at(heap, address).unwrap();
-        let [object, lazy, linear] = [
-            state.registers[4],
-            state.registers[FREE],
-            state.registers[HEAP],
-        ]
-        .map(block);
-        let inner = block(word(heap, lazy, fst_of(2)));
-        let link = block(word(heap, object, fst_of(2)));
+        for edition in EDITIONS {
+            every_word_of_the_example_matters(edition);
+        }
+    }
+
+    fn every_word_of_the_example_matters(edition: Edition) {
+        let played = example(edition);
+        let (heap, registers) = (played.heap(), &played.channel.state.registers);
+        let block = |address: u64| heap.block_at(address).unwrap();
+        let [object, lazy, linear] = [registers[4], registers[FREE], registers[HEAP]].map(block);
+        let last = edition.fields() - 1;
+        let inner = block(heap.word(lazy, fst_of(last)));
+        let link = block(heap.word(object, fst_of(last)));
         // counts, next pointers, fields, unused fields
-        for (block, index) in [
+        let mut words = vec![
             (object, HEADER),
-            (object, fst_of(0)),
-            (object, snd_of(0)),
-            (object, fst_of(1)),
-            (object, snd_of(1)),
-            (object, fst_of(2)),
+            (object, snd_of(last - 2)),
+            (object, snd_of(last - 1)),
             (link, HEADER),
-            (link, fst_of(0)),
-            (link, snd_of(0)),
-            (link, fst_of(1)),
-            (link, snd_of(1)),
-            (link, snd_of(2)),
             (lazy, HEADER),
-            (lazy, fst_of(0)),
-            (lazy, fst_of(2)),
             (inner, HEADER),
-            (inner, fst_of(0)),
             (linear, HEADER),
-            (39, 7),
-        ] {
-            for change in [1, 64, 8] {
-                let word = block * BLOCK_WORDS + index;
-                assert!(
-                    played.reports(|played| played.channel.heap[word] += change),
-                    "block {block}, word {index}"
-                );
+            (39, edition.block_words() - 1),
+        ];
+        for field in 0..=last {
+            words.extend([object, link, lazy, inner].map(|block| (block, fst_of(field))));
+            words.push((link, snd_of(field)));
+        }
+        let changed = |block: usize, word: usize, change: u64| {
+            let word = block * edition.block_words() + word;
+            played.reports(|played| played.channel.heap[word] += change)
+        };
+        for (block, word) in words {
+            for change in [1, 8, edition.block_bytes()] {
+                assert!(changed(block, word, change), "block {block}, word {word}");
             }
         }
         // the words that hold nothing: offset 8, and the Snd of a link and of unused fields
-        for (block, index) in [
+        for (block, word) in [
             (object, 1),
-            (object, snd_of(2)),
+            (object, snd_of(last)),
             (lazy, snd_of(0)),
             (linear, 3),
         ] {
-            let word = block * BLOCK_WORDS + index;
-            assert!(
-                !played.reports(|played| played.channel.heap[word] += 1),
-                "block {block}, word {index}"
-            );
+            assert!(!changed(block, word, 1), "block {block}, word {word}");
         }
     }
 
     #[test]
     fn every_register_and_value_matters() {
-        let played = example();
-        for register in [STACK, HEAP, FREE, 4, 5] {
-            assert!(
-                played.reports(|played| played.channel.state.registers[register] += 64),
-                "register {register}"
-            );
+        for edition in EDITIONS {
+            let played = example(edition);
+            let changed = |register: usize| {
+                let change = edition.block_bytes();
+                played.reports(|played| played.channel.state.registers[register] += change)
+            };
+            for register in [STACK, HEAP, FREE, 4, 5] {
+                assert!(changed(register), "register {register}");
+            }
+            assert!(!changed(1));
+            let words = 7 * edition.block_words();
+            assert!(played.reports(|played| played.channel.heap.truncate(words)));
         }
-        assert!(!played.reports(|played| played.channel.state.registers[1] += 64));
+        let played = example(Edition::First);
         assert!(played.reports(|played| played.values[0] = Value::Integer(3)));
         assert!(played.reports(|played| played.values.truncate(3)));
         assert!(played.reports(|played| played.channel.context[2] ^= 1));
         assert!(played.reports(|played| played.history.ever[7] = true));
-        assert!(played.reports(|played| played.channel.heap.truncate(7 * BLOCK_WORDS)));
     }
 
     #[test]
     fn a_lost_share_is_reported() {
         // the count of a shared block, as if a copy had left out its share
-        let played = example();
-        let object = block_at(&played.channel.heap, played.channel.state.registers[4]).unwrap();
-        assert!(word(&played.channel.heap, object, HEADER) > 0);
-        assert!(played.reports(|played| played.channel.heap[object * BLOCK_WORDS] -= 1));
+        for edition in EDITIONS {
+            let played = example(edition);
+            let object = played.channel.state.registers[4];
+            let object = played.heap().block_at(object).unwrap();
+            assert!(played.heap().word(object, HEADER) > 0);
+            let header = object * edition.block_words() + HEADER;
+            assert!(played.reports(|played| played.channel.heap[header] -= 1));
+        }
     }
 
     #[test]
     fn blocks_fill_from_the_last_value() {
-        assert_eq!(sizes(0), []);
-        assert_eq!(sizes(3), [3]);
-        assert_eq!(sizes(4), [1, 3]);
-        assert_eq!(sizes(8), [1, 2, 2, 3]);
+        let first = |count| sizes(Edition::First, count);
+        assert_eq!(first(0), []);
+        assert_eq!(first(3), [3]);
+        assert_eq!(first(4), [1, 3]);
+        assert_eq!(first(8), [1, 2, 2, 3]);
+        let second = |count| sizes(Edition::Second, count);
+        assert_eq!(second(7), [7]);
+        assert_eq!(second(8), [1, 7]);
+        assert_eq!(second(13), [6, 7]);
+        assert_eq!(second(20), [1, 6, 6, 7]);
     }
 }

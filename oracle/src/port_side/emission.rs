@@ -4,18 +4,18 @@
 use super::context_of;
 use super::queries::REGISTERS;
 use crate::answer::Answer;
-use crate::frame::Frame;
 use crate::lent::Lent;
 use crate::port::{self, Memory, Query, Returned};
 use crate::record::{Record, SIZE};
 use crate::request::{Arithmetic, Condition, Emission, Form, Operand, Operation};
+use crate::shape::{Chosen, Edition, Frame};
 
 /// More room than an operation needs: the largest, a store of 133 variables, writes 4,275 records,
-/// one of 261 8,435.
-fn ample(frame: u64) -> usize {
-    match Frame::of(frame) {
-        Some(Frame::Larger) => 9_000 * SIZE,
-        _ => 4_500 * SIZE,
+/// one of 261 8,435, in the second edition fewer.
+fn ample(chosen: Chosen) -> usize {
+    match chosen.nearest().frame {
+        Frame::Larger => 9_000 * SIZE,
+        Frame::Base => 4_500 * SIZE,
     }
 }
 
@@ -28,9 +28,9 @@ const TOO_MANY: u64 = 65_537;
 const NO_OPERAND: u64 = u64::MAX;
 const NO_LABEL: u32 = 0;
 
-pub fn answer(frame: u64, request: &Emission) -> Answer {
+pub fn answer(chosen: Chosen, request: &Emission) -> Answer {
     let mut list = List {
-        frame,
+        chosen,
         bytes: Vec::new(),
         counter: request.counter,
         room: request.room,
@@ -44,7 +44,7 @@ pub fn answer(frame: u64, request: &Emission) -> Answer {
 }
 
 struct List {
-    frame: u64,
+    chosen: Chosen,
     bytes: Vec<u8>,
     counter: u64,
     /// How many bytes the list may have, if that is limited.
@@ -70,7 +70,7 @@ impl List {
 
     /// Appends an operation's records, or refuses.
     fn perform(&mut self, operation: &Operation) -> Performed {
-        let frame = self.frame;
+        let chosen = self.chosen;
         match operation {
             Operation::Label(l) => self.code(1, [], *l, 0),
             Operation::Jump(t) => self.code(2, [t], 0, 0),
@@ -101,17 +101,17 @@ impl List {
             Operation::PrintI64(newline, source, kinds) => {
                 let context = context_of(&[kinds]);
                 self.on_operands([source], AMPLE_FOR_FEW, |[source], _, out| {
-                    port::print(frame, *newline, source, &context, out)
+                    port::print(chosen.frame, *newline, source, &context, out)
                 })
             }
             Operation::EraseBlock(t) => {
                 self.on_operands([t], AMPLE_FOR_FEW, |[t], counter, out| {
-                    port::memory(frame, &Memory::EraseBlock(t), counter, out)
+                    port::memory(chosen, &Memory::EraseBlock(t), counter, out)
                 })
             }
             Operation::ShareBlockN(t, n) => {
                 self.on_operands([t], AMPLE_FOR_FEW, |[t], counter, out| {
-                    port::memory(frame, &Memory::ShareBlockN(t, *n), counter, out)
+                    port::memory(chosen, &Memory::ShareBlockN(t, *n), counter, out)
                 })
             }
             Operation::Store {
@@ -121,8 +121,8 @@ impl List {
             Operation::StoreLast { context, n } => self.store(&context_of(&[context]), *n),
             Operation::Load { to_load, existing } => {
                 let (loaded, existing) = (context_of(&[to_load]), context_of(&[existing]));
-                self.append(ample(frame), |counter, out| {
-                    port::memory(frame, &Memory::Load(&loaded, &existing), counter, out)
+                self.append(ample(chosen), |counter, out| {
+                    port::memory(chosen, &Memory::Load(&loaded, &existing), counter, out)
                 })
             }
             Operation::Raw(count, bytes) => self.raw(*count, bytes),
@@ -138,7 +138,7 @@ impl List {
         label: u64,
         immediate: i64,
     ) -> Performed {
-        let frame = self.frame;
+        let frame = self.chosen.frame;
         let label = u32::try_from(label).unwrap_or(NO_LABEL);
         self.on_operands(operands, AMPLE_FOR_FEW, |words, _, out| {
             let mut operands = [0; 3];
@@ -154,21 +154,21 @@ impl List {
     }
 
     fn store(&mut self, context: &[u8], n: u64) -> Performed {
-        let frame = self.frame;
-        self.append(ample(frame), |counter, out| {
-            port::memory(frame, &Memory::Store(context, n), counter, out)
+        let chosen = self.chosen;
+        self.append(ample(chosen), |counter, out| {
+            port::memory(chosen, &Memory::Store(context, n), counter, out)
         })
     }
 
     /// Asks for operands by position first. One past the last is refused with 8, unless the
-    /// operation itself is refused with a lower number.
+    /// operation itself is refused with 23 or a lower number.
     fn on_operands<const N: usize>(
         &mut self,
         operands: [&Operand; N],
         ample: usize,
         call: impl Fn([u64; N], &mut u64, &mut [u8]) -> Returned,
     ) -> Performed {
-        let words = operands.map(|operand| word(self.frame, operand));
+        let words = operands.map(|operand| word(self.chosen, operand));
         let located = words.map(|word| word.unwrap_or(REGISTERS - 1));
         if words.iter().all(Result::is_ok) {
             return self.append(ample, |counter, out| call(located, counter, out));
@@ -176,7 +176,11 @@ impl List {
         let mut counter = self.counter;
         let number = call(located, &mut counter, &mut []).number;
         let past = words.into_iter().find_map(Result::err).unwrap_or(number);
-        let refused = if number == 0 { past } else { past.min(number) };
+        let refused = match number {
+            0 => past,
+            23 => 23,
+            _ => past.min(number),
+        };
         Err(Answer::Refused(refused, None))
     }
 
@@ -231,21 +235,26 @@ impl List {
         let body = std::mem::take(&mut self.bytes);
         let ample = body.len() + AMPLE_FOR_FEW;
         let arguments = usize::try_from(arguments).unwrap_or(usize::MAX);
-        let frame = self.frame;
+        let chosen = self.chosen;
         self.bytes = self.write(self.room, ample, 0, |_, out| {
-            port::routine(frame, &body, arguments, out)
+            port::routine(chosen, &body, arguments, out)
         })?;
         Ok(())
     }
 }
 
-/// An operand's word, or the number by which the port refuses its position.
-fn word(frame: u64, operand: &Operand) -> Result<u64, u64> {
+/// An operand's word, or the number by which the port refuses its position, which is the same in
+/// every edition.
+fn word(chosen: Chosen, operand: &Operand) -> Result<u64, u64> {
+    let chosen = Chosen {
+        edition: Edition::First.number(),
+        ..chosen
+    };
     match operand {
         Operand::Register(n) if *n >= REGISTERS => Ok(NO_OPERAND),
         Operand::Register(n) => Ok(*n),
         Operand::Spill(n) => Ok(REGISTERS.saturating_add(*n)),
-        Operand::Position(n) => match port::query(frame, &Query::Position(*n)) {
+        Operand::Position(n) => match port::query(chosen, &Query::Position(*n)) {
             Returned { number: 0, value } => Ok(value),
             Returned { number, .. } => Err(number),
         },

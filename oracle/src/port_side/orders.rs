@@ -3,27 +3,28 @@
 use super::lent_words;
 use crate::answer::Answer;
 use crate::channel::{Answered, Channel, Rooms, Side, ask};
-use crate::frame::Frame;
 use crate::interpreter;
 use crate::orders::answer::Asked;
 use crate::port::{self, Damaged};
 use crate::record::{Record, SIZE};
 use crate::request::Ordering;
+use crate::shape::Chosen;
 
-pub fn answer(frame: u64, request: &Ordering, channel: &mut Option<Channel>) -> Answer {
+pub fn answer(chosen: Chosen, request: &Ordering, channel: &mut Option<Channel>) -> Answer {
     if let Ordering::Alone {
         context,
         asked,
         rooms,
     } = request
     {
-        return alone(frame, context, asked, *rooms);
+        return alone(chosen, context, asked, *rooms);
     }
     if let Ordering::Fresh(blocks) = request {
-        let Some(frame) = Frame::of(frame) else {
-            return refused_start(frame);
+        let Some(shape) = chosen.shape() else {
+            return refused_start(chosen);
         };
-        *channel = Some(Channel::fresh(Side::Port, frame, lent_words(*blocks)));
+        let words = lent_words(shape.edition, *blocks);
+        *channel = Some(Channel::fresh(Side::Port, shape, words));
         return Answer::Fresh;
     }
     let Some(channel) = channel else {
@@ -47,18 +48,18 @@ pub fn answer(frame: u64, request: &Ordering, channel: &mut Option<Channel>) -> 
     }
 }
 
-/// What the port answers to a start in a frame that there is not; the channel before stays.
-fn refused_start(frame: u64) -> Answer {
-    let before = interpreter::fresh(Frame::Base);
+/// What the port answers to a start in a shape that there is not; the channel before stays.
+fn refused_start(chosen: Chosen) -> Answer {
+    let before = interpreter::fresh(chosen.nearest());
     let mut state = before.clone();
-    match port::start(frame, true, &mut state) {
+    match port::start(chosen, true, &mut state) {
         _ if state != before => Answer::Damaged,
         number => Answer::Refused(number, None),
     }
 }
 
-fn alone(frame: u64, context: &[u8], asked: &Asked, rooms: Rooms) -> Answer {
-    match ask(frame, context, asked, rooms) {
+fn alone(chosen: Chosen, context: &[u8], asked: &Asked, rooms: Rooms) -> Answer {
+    match ask(chosen, context, asked, rooms) {
         Err(Damaged) => Answer::Damaged,
         Ok(Answered::Refused(number, value)) => refused(number, value),
         Ok(Answered::Accepted {
@@ -74,7 +75,7 @@ fn alone(frame: u64, context: &[u8], asked: &Asked, rooms: Rooms) -> Answer {
 }
 
 fn play(channel: &mut Channel, asked: &Asked, rooms: Rooms, words: &[u64; 9]) -> Answer {
-    match ask(channel.frame.number(), &channel.context, asked, rooms) {
+    match ask(channel.shape.chosen(), &channel.context, asked, rooms) {
         Err(Damaged) => Answer::Damaged,
         Ok(Answered::Refused(number, value)) => refused(number, value),
         Ok(Answered::Accepted {

@@ -5,28 +5,28 @@ use crate::answer::Answer;
 use crate::context::{Ids, Kind};
 use crate::port::{self, Returned};
 use crate::request::{Form, Query};
+use crate::shape::Chosen;
 
 /// Registers have the words 0..15, spill p has 16 + p.
 pub const REGISTERS: u64 = 16;
 
-pub fn answer(frame: u64, query: &Query) -> Answer {
-    let ask = |query| port::query(frame, &query);
+pub fn answer(chosen: Chosen, query: &Query) -> Answer {
+    let ask = |query| port::query(chosen, &query);
     match query {
-        Query::Position(position) => located(frame, ask(port::Query::Position(*position))),
+        Query::Position(position) => located(chosen, ask(port::Query::Position(*position))),
         Query::FreshTemporary(which, length) => {
             let length = (*length).min(TOO_LONG as u64);
             let context = context((0..length as u32).map(|id| (Kind::Ext, id)));
-            located(frame, ask(port::Query::FreshTemporary(*which, &context)))
+            located(chosen, ask(port::Query::FreshTemporary(*which, &context)))
         }
         Query::VariableTemporary(which, id, ids) => {
-            let Some(context) = variables(ids) else {
-                return Answer::Refused(1, None);
+            let found = match (variables(ids), u32::try_from(*id)) {
+                (Some(context), Ok(id)) => {
+                    ask(port::Query::VariableTemporary(*which, id, &context))
+                }
+                (context, _) => missing(chosen, context),
             };
-            let found = match u32::try_from(*id) {
-                Ok(id) => ask(port::Query::VariableTemporary(*which, id, &context)),
-                Err(_) => missing(frame, &context),
-            };
-            located(frame, found)
+            located(chosen, found)
         }
         Query::StackOffset(spill) => {
             let word = REGISTERS.saturating_add(*spill);
@@ -43,23 +43,24 @@ fn variables(ids: &Ids) -> Option<Vec<u8>> {
     Some(context(ids.into_iter().map(|id| (Kind::Ext, id))))
 }
 
-/// What the port answers to an id that no binding can hold: the context comes before, and the
-/// frame.
-fn missing(frame: u64, context: &[u8]) -> Returned {
-    let position = port::query(frame, &port::Query::Position(0));
-    let before = [port::check(Form::Context, context), position];
-    let number = before.iter().map(|returned| returned.number);
-    let number = number.into_iter().find(|number| *number != 0);
-    Returned {
-        number: number.unwrap_or(4),
-        value: 0,
-    }
+/// What the port answers where no binding can hold an id: the edition comes before, then the
+/// context, which is malformed if it would have to hold one, and the frame.
+fn missing(chosen: Chosen, context: Option<Vec<u8>>) -> Returned {
+    let shape = port::query(chosen, &port::Query::Position(0)).number;
+    let context = context.map_or(1, |context| port::check(Form::Context, &context).number);
+    let number = match (shape, context) {
+        (23, _) => 23,
+        (0, 0) => 4,
+        (_, 0) => shape,
+        _ => context,
+    };
+    Returned { number, value: 0 }
 }
 
-fn located(frame: u64, returned: Returned) -> Answer {
+fn located(chosen: Chosen, returned: Returned) -> Answer {
     match returned.number {
         0 if returned.value < REGISTERS => Answer::Register(returned.value),
-        0 => match port::query(frame, &port::Query::StackOffset(returned.value)) {
+        0 => match port::query(chosen, &port::Query::StackOffset(returned.value)) {
             Returned { number: 0, value } => {
                 Answer::Spill(returned.value - REGISTERS, value as i64)
             }

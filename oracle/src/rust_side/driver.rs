@@ -1,4 +1,4 @@
-//! Answers requests by one of the two crates of the published Rust, `super::published`.
+//! Answers requests by one of the four crates of the published Rust, `super::published`.
 
 use super::conversion::{code_of, label_mut, record_of};
 use super::published::Backend;

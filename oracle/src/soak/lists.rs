@@ -2,13 +2,13 @@
 
 use crate::channel::Rooms;
 use crate::context::Kind;
-use crate::frame::Frame;
 use crate::orders::answer::{Asked, Given};
 use crate::orders::plain::{Value, result};
 use crate::orders::{BINDING, OPERATIONS, Order, binding};
 use crate::random::Random;
 use crate::record::LAST_FRESH;
 use crate::request::Arithmetic;
+use crate::shape::{Edition, Shape};
 
 /// An order with all that goes in beside it but the outputs.
 #[derive(Debug, Clone)]
@@ -32,8 +32,7 @@ enum Room {
 pub struct Plan {
     pub orders: usize,
     pub blocks: usize,
-    /// How many the frame has room for.
-    most_variables: usize,
+    shape: Shape,
     variables: usize,
     weights: [usize; 7],
     /// Once there are as many variables as that, they are dropped until none is left.
@@ -42,7 +41,7 @@ pub struct Plan {
 }
 
 impl Plan {
-    pub fn random(random: &mut Random, frame: Frame, most_blocks: usize) -> Plan {
+    pub fn random(random: &mut Random, shape: Shape, most_blocks: usize) -> Plan {
         let longest = random.pick(&[10, 30, 100, 400, 1_500, 5_000]);
         let orders = 1 + random.below(longest);
         let waves = random.once_in(3);
@@ -51,11 +50,11 @@ impl Plan {
             1 => 2 + random.below(most_blocks - 1),
             _ => few_blocks(random, orders, waves).min(most_blocks),
         };
-        let most = frame.most_variables();
+        let most = shape.frame.most_variables();
         Plan {
             orders,
             blocks,
-            most_variables: most,
+            shape,
             variables: random.pick(&[2, 4, 6, 9, 14, 30, most / 2, most - 13, most]),
             weights: std::array::from_fn(|_| random.pick(&[2, 3, 4, 8])),
             waves,
@@ -64,11 +63,11 @@ impl Plan {
     }
 
     /// A part of a list, with about so many variables.
-    pub fn of(frame: Frame, variables: usize) -> Plan {
+    pub fn of(shape: Shape, variables: usize) -> Plan {
         Plan {
             orders: 0,
             blocks: 0,
-            most_variables: frame.most_variables(),
+            shape,
             variables,
             weights: [3; 7],
             waves: false,
@@ -110,12 +109,12 @@ fn few_blocks(random: &mut Random, orders: usize, waves: bool) -> usize {
 }
 
 /// Words that look like integers, addresses and tags.
-fn word(random: &mut Random) -> u64 {
+fn word(random: &mut Random, edition: Edition) -> u64 {
     match random.below(6) {
         0 => random.below(4) as u64,
         1 => (random.below(5) as u64).wrapping_neg(),
         2 => random.pick(&[i64::MIN as u64, i64::MAX as u64, 1 << 32, 1 << 31]),
-        3 => 65_536 + 64 * random.below(20) as u64,
+        3 => 65_536 + edition.block_bytes() * random.below(20) as u64,
         _ => random.word(),
     }
 }
@@ -123,25 +122,26 @@ fn word(random: &mut Random) -> u64 {
 /// An item for a channel whose variables have these values, with so many blocks left to a store.
 pub fn item(random: &mut Random, plan: &mut Plan, values: &[Value], left: usize) -> Item {
     let order = order(random, plan, values, left);
+    let Shape { edition, frame } = plan.shape;
     let mut item = Item {
         asked: Asked {
             order: order.to_bytes().to_vec(),
             bindings: bindings(random, order, values),
             counter: counter(random),
         },
-        words: std::array::from_fn(|_| word(random)),
+        words: std::array::from_fn(|_| word(random, edition)),
         room: Room::Enough,
     };
     if random.once_in(9) {
-        damage(random, &mut item, values, plan.most_variables);
+        damage(random, &mut item, values, frame.most_variables());
     }
     item
 }
 
 /// An order alone, on a context of any length and kinds: the limits of positions are met, and what
 /// no list of orders reaches.
-pub fn alone(random: &mut Random, frame: Frame) -> (Vec<u8>, Item) {
-    let most = frame.most_variables();
+pub fn alone(random: &mut Random, shape: Shape) -> (Vec<u8>, Item) {
+    let most = shape.frame.most_variables();
     let length = match random.below(4) {
         0 => random.below(8),
         1 => random.below(most + 7),
@@ -167,7 +167,7 @@ pub fn alone(random: &mut Random, frame: Frame) -> (Vec<u8>, Item) {
     };
     let (a, b, n) = (place(), place(), place());
     let order = match random.below(7) {
-        0 => Order::Put(word(random)),
+        0 => Order::Put(word(random, shape.edition)),
         1 => Order::Compute(random.pick(&OPERATIONS), a, b),
         2 => {
             let n = random.pick(&[0, 1, 2, n, most.saturating_sub(length)]);
@@ -176,7 +176,7 @@ pub fn alone(random: &mut Random, frame: Frame) -> (Vec<u8>, Item) {
         3 => Order::Drop,
         4 => Order::Store {
             n,
-            tag: word(random),
+            tag: word(random, shape.edition),
         },
         5 => Order::Load(brought.len() / BINDING),
         _ => {
@@ -218,12 +218,13 @@ fn counter(random: &mut Random) -> u64 {
 fn order(random: &mut Random, plan: &mut Plan, values: &[Value], left: usize) -> Order {
     let loadable = matches!(values.last(), Some(Value::Tagged(..)));
     let weights = plan.weights(values.len(), loadable, left == 0);
+    let edition = plan.shape.edition;
     match weighted(random, &weights) {
-        0 => Order::Put(word(random)),
+        0 => Order::Put(word(random, edition)),
         1 => compute(random, values),
         2 => copy(random, plan, values),
         3 => Order::Drop,
-        4 => store(random, plan.waves, values.len(), left),
+        4 => store(random, plan, values.len(), left),
         5 => Order::Load(match values.last() {
             Some(Value::Tagged(_, list)) => list.len(),
             _ => 0,
@@ -281,26 +282,29 @@ fn copy(random: &mut Random, plan: &Plan, values: &[Value]) -> Order {
         0 => 0,
         1 => random.below(plan.variables + 1),
         2 if random.once_in(4) => {
-            (plan.most_variables + 1).saturating_sub(values.len() + random.below(2))
+            (plan.shape.frame.most_variables() + 1).saturating_sub(values.len() + random.below(2))
         }
         _ => 1 + random.below(1 + plan.variables / 20),
     };
     Order::Copy { a, n }
 }
 
-fn store(random: &mut Random, small: bool, length: usize, left: usize) -> Order {
-    let tag = word(random);
+fn store(random: &mut Random, plan: &Plan, length: usize, left: usize) -> Order {
+    let edition = plan.shape.edition;
+    let tag = word(random, edition);
     let n = match random.below(20) {
-        _ if small && !random.once_in(4) => random.below(length.min(1) + 1),
+        _ if plan.waves && !random.once_in(4) => random.below(length.min(1) + 1),
         0 | 1 => 0,
         2 | 3 => random.below(length + 1),
         4 => length,
-        _ => random.below(length.min(5) + 1),
+        // often more than a block holds
+        _ => random.below(length.min(edition.fields() + 2) + 1),
     };
     let order = Order::Store { n, tag };
-    if order.acquires() > left && !random.once_in(10) {
+    if order.acquires(edition) > left && !random.once_in(10) {
         // as many as the blocks left hold
-        let n = if left == 0 { 0 } else { 2 * left + 1 };
+        let each = edition.fields() - 1;
+        let n = if left == 0 { 0 } else { each * left + 1 };
         return Order::Store { n, tag };
     }
     order

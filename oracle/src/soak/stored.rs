@@ -1,34 +1,44 @@
-//! The lists of orders that the program `soak` of the port's gate plays, one for each frame: bytes
+//! The lists of orders that the program `soak` of the port's gate plays, one for each shape: bytes
 //! for its standard input, and the lines that it must print.
 
 use super::lists::{self, Plan};
 use super::{Side, Soak};
-use crate::frame::{FRAMES, Frame};
 use crate::orders::answer::{self, Asked, Given};
 use crate::orders::{BINDING, SIZE};
 use crate::random::Random;
 use crate::reading::Refusal;
 use crate::record::{self, LAST_FRESH};
+use crate::shape::{Chosen, Edition, SHAPES, Shape};
 
-/// The bytes of a list, and the program's heap and output for records.
+/// The most bytes of a list, and the program's heap and output for records.
 const MOST_BYTES: usize = 65_536;
 const BLOCKS: usize = 1_500;
 const RECORDS_ROOM: usize = 8_436 * record::SIZE;
 
 /// A list is made on a heap of so many blocks: its peak is two less, and blocks are used again and
 /// again. A store of all variables that the frame has room for takes most of them.
-fn few_blocks(frame: Frame) -> usize {
-    frame.most_variables().div_ceil(2) + 5
+fn few_blocks(shape: Shape) -> usize {
+    shape.edition.blocks_of(shape.frame.most_variables()) + 6
 }
 
-/// About how many variables there are, for so many orders each.
-fn variables(frame: Frame, turn: usize) -> usize {
-    let most = frame.most_variables();
-    let some = [4, 20, 7, most, most, 10, 60, 2, 14, most];
+/// About how many variables there are in each turn of a list.
+fn variables(shape: Shape, turn: usize) -> usize {
+    let most = shape.frame.most_variables();
+    let some: &[usize] = match shape.edition {
+        Edition::First => &[4, 20, 7, most, most, 10, 60, 2, 14, most],
+        Edition::Second => &[20, most, most, 9, most],
+    };
     some[turn % some.len()]
 }
 
-const TURNS: usize = 200;
+/// How many orders a turn has, and a list at most. The second edition's lists are short, for the
+/// gate's time.
+fn lengths(edition: Edition) -> (usize, usize) {
+    match edition {
+        Edition::First => (200, usize::MAX),
+        Edition::Second => (130, 650),
+    }
+}
 
 /// "In a list of orders the counters, bindings and output lengths are any": the program takes
 /// these for the order at an index, and these print words.
@@ -46,8 +56,8 @@ fn records_room(index: usize) -> usize {
     }
 }
 
-fn print_words(index: usize) -> [u64; 9] {
-    [65_536 + 64 * (index as u64 % 1_000); 9]
+fn print_words(edition: Edition, index: usize) -> [u64; 9] {
+    [65_536 + edition.block_bytes() * (index as u64 % 1_000); 9]
 }
 
 /// How many bytes of bindings the program takes to follow an order.
@@ -66,61 +76,63 @@ pub struct Stored {
     pub reuse: String,
 }
 
-/// The bytes of both lists, and the program's lines.
+/// The bytes of all lists, and the program's lines.
 pub fn lists(seed: u64) -> Stored {
     let mut stored = Stored::default();
-    for frame in FRAMES {
-        stored.add(frame, seed);
+    for shape in SHAPES {
+        stored.add(shape, seed);
     }
     stored
 }
 
 impl Stored {
-    /// The list of a frame, after the frame's number and the number of its bytes.
-    fn add(&mut self, frame: Frame, seed: u64) {
-        let orders = orders(frame, seed);
-        let large = outcome(frame, &orders, BLOCKS);
+    /// The list of a shape, after its edition, its frame and the number of its bytes.
+    fn add(&mut self, shape: Shape, seed: u64) {
+        let Chosen { edition, frame } = shape.chosen();
+        let orders = orders(shape, seed);
+        let large = outcome(shape, &orders, BLOCKS);
         let bytes = |asked: &Asked| [&asked.order[..], &asked.bindings].concat();
         let list: Vec<u8> = orders.iter().flat_map(bytes).collect();
-        self.input.extend(frame.number().to_le_bytes());
-        self.input.extend((list.len() as u64).to_le_bytes());
+        for number in [edition, frame, list.len() as u64] {
+            self.input.extend(number.to_le_bytes());
+        }
         self.input.extend(list);
-        self.output += &lines(frame, &orders, &large);
+        let head = format!("edition {edition}, frame {frame}");
+        self.output += &format!("{head}\n{}", lines(shape, &orders, &large));
         self.reuse += &format!(
-            "frame {}: {} orders: {} blocks acquired, the peak {}\n",
-            frame.number(),
-            large.orders,
-            large.acquired,
-            large.peak
+            "{head}: {} orders: {} blocks acquired, the peak {}\n",
+            large.orders, large.acquired, large.peak
         );
     }
 }
 
-/// Orders until a list's bytes are full.
-fn orders(frame: Frame, seed: u64) -> Vec<Asked> {
+/// Orders until a list is full.
+fn orders(shape: Shape, seed: u64) -> Vec<Asked> {
+    let (turn, most) = lengths(shape.edition);
     let mut random = Random::new(seed);
-    let mut soak = Soak::fresh(Side::Reading, frame, few_blocks(frame));
-    let mut plan = Plan::of(frame, 0);
+    let mut soak = Soak::fresh(Side::Reading, shape, few_blocks(shape));
+    let mut plan = Plan::of(shape, 0);
     let mut orders = Vec::new();
     let mut bytes = 0;
-    loop {
+    while orders.len() < most {
         let index = orders.len();
-        if index % TURNS == 0 {
-            plan = Plan::of(frame, variables(frame, index / TURNS));
+        if index % turn == 0 {
+            plan = Plan::of(shape, variables(shape, index / turn));
         }
         let Some(asked) = order(&mut random, &mut plan, &soak, index) else {
             continue;
         };
         bytes += SIZE + asked.bindings.len();
         if bytes > MOST_BYTES {
-            return orders;
+            break;
         }
         if let Ok(given) = given(&soak, &asked, index) {
-            let played = soak.play(&given, &print_words(index));
+            let played = soak.play(&given, &print_words(shape.edition, index));
             played.expect("the list is sound");
         }
         orders.push(asked);
     }
+    orders
 }
 
 /// An order that the program can read, and of which demand 3's premises hold.
@@ -141,7 +153,7 @@ fn order(random: &mut Random, plan: &mut Plan, soak: &Soak, index: usize) -> Opt
 
 fn given(soak: &Soak, asked: &Asked, index: usize) -> Result<Given, Refusal> {
     let given = soak.given(asked)?;
-    let context_room = soak.channel.frame.most_variables() * BINDING;
+    let context_room = soak.channel.shape.frame.most_variables() * BINDING;
     answer::fits(&given, records_room(index), context_room)?;
     Ok(given)
 }
@@ -158,8 +170,8 @@ struct Outcome {
 }
 
 /// The orders played on a heap of so many blocks.
-fn outcome(frame: Frame, orders: &[Asked], blocks: usize) -> Outcome {
-    let mut soak = Soak::fresh(Side::Reading, frame, blocks);
+fn outcome(shape: Shape, orders: &[Asked], blocks: usize) -> Outcome {
+    let mut soak = Soak::fresh(Side::Reading, shape, blocks);
     let mut outcome = Outcome::default();
     for (index, asked) in orders.iter().enumerate() {
         outcome.orders += 1;
@@ -167,7 +179,7 @@ fn outcome(frame: Frame, orders: &[Asked], blocks: usize) -> Outcome {
             continue;
         };
         outcome.accepted += 1;
-        if soak.run(&given, &print_words(index)).number != 0 {
+        if soak.run(&given, &print_words(shape.edition, index)).number != 0 {
             outcome.faults += 1;
             break;
         }
@@ -193,13 +205,12 @@ fn line(outcome: &Outcome, blocks: usize) -> String {
 }
 
 /// The large heap gives the peak; then come heaps of two blocks more, of one more and of none.
-fn lines(frame: Frame, orders: &[Asked], large: &Outcome) -> String {
+fn lines(shape: Shape, orders: &[Asked], large: &Outcome) -> String {
     let peak = large.peak;
-    let mut lines = format!("frame {}\n", frame.number());
-    lines += &line(large, BLOCKS);
+    let mut lines = line(large, BLOCKS);
     lines += &format!("peak {peak}\n");
     for blocks in [peak + 2, peak + 1, peak] {
-        lines += &line(&outcome(frame, orders, blocks), blocks);
+        lines += &line(&outcome(shape, orders, blocks), blocks);
     }
     lines
 }

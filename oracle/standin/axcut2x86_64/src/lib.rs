@@ -1,13 +1,15 @@
 //! Stands in for the root of the crate `axcut2x86_64`. The published `lib.rs` also names the
 //! module `parallel_moves`, which was not supplied; all modules here are the published files, but
-//! for one line of `config.rs` where the frame has 512 spills.
+//! for a line of `config.rs` where a block has 7 fields and one where the frame has 512 spills.
 
 #[rustfmt::skip]
 #[path = "../../../target/published/lang/axcut2x86_64/src/code.rs"]
 pub mod code;
 #[rustfmt::skip]
-#[cfg_attr(not(feature = "spills_512"), path = "../../../target/published/lang/axcut2x86_64/src/config.rs")]
-#[cfg_attr(feature = "spills_512", path = "../../../target/published_512/lang/axcut2x86_64/src/config.rs")]
+#[cfg_attr(not(any(feature = "fields_7", feature = "spills_512")), path = "../../../target/published/lang/axcut2x86_64/src/config.rs")]
+#[cfg_attr(all(not(feature = "fields_7"), feature = "spills_512"), path = "../../../target/published_3_512/lang/axcut2x86_64/src/config.rs")]
+#[cfg_attr(all(feature = "fields_7", not(feature = "spills_512")), path = "../../../target/published_7_256/lang/axcut2x86_64/src/config.rs")]
+#[cfg_attr(all(feature = "fields_7", feature = "spills_512"), path = "../../../target/published_7_512/lang/axcut2x86_64/src/config.rs")]
 pub mod config;
 #[rustfmt::skip]
 #[path = "../../../target/published/lang/axcut2x86_64/src/into_routine.rs"]
