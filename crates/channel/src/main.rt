@@ -6,6 +6,9 @@ use chains::Counted;
 use libc::STDERR_FILENO;
 use libc::STDIN_FILENO;
 use libc::STDOUT_FILENO;
+use options::Heard;
+use options::Options;
+use options::Said;
 use orders::answer::Answer;
 use playing::channel::Channel;
 
@@ -34,10 +37,14 @@ fn start(edition: u64, frame: u64) -> Going {
     }
 }
 
-fn show(text: &[u8], size: usize) {
+fn show_on(file: i32, text: &[u8], size: usize) {
     if size <= text.len() {
-        io::write_all(STDOUT_FILENO, &text[..size]);
+        io::write_all(file, &text[..size]);
     }
+}
+
+fn show(text: &[u8], size: usize) {
+    show_on(STDOUT_FILENO, text, size);
 }
 
 // Where a listing of 2,730 records ends, or all of them.
@@ -364,86 +371,39 @@ fn channel_of(name: &[u8], listed: bool, edition: u64, frame: u64) {
     libc::close(file);
 }
 
-// What the next argument is: a word or a file, or the number of an edition or a frame.
-enum Next {
-    Any,
-    Edition,
-    Frame,
-}
-
-// What the arguments asked so far: instructions, the edition and the frame, each 0 where there is none of that number, what comes next, and whether a file was named.
+// What the arguments asked so far: an edition and a frame, instructions, and whether a file was named.
 struct Asked {
+    options: Options,
     listed: bool,
-    edition: u64,
-    frame: u64,
-    next: Next,
     named: bool,
 }
 
-// The edition that a word names by its number.
-fn edition_of(word: &[u8]) -> u64 {
-    if check::same(word, b"1") {
-        return 1;
-    }
-    if check::same(word, b"2") {
-        return 2;
-    }
-    io::write_all(STDERR_FILENO, b"an edition is 1 or 2\n");
-    0
-}
-
-// The frame that a word names by its number of spills.
-fn frame_of(word: &[u8]) -> u64 {
-    if check::same(word, b"256") {
-        return 256;
-    }
-    if check::same(word, b"512") {
-        return 512;
-    }
-    io::write_all(STDERR_FILENO, b"a frame has 256 or 512 spills\n");
-    0
-}
-
-// The same in an edition and a frame, before what comes next.
-fn asking(a: Asked, edition: u64, frame: u64, next: Next) -> Asked {
-    Asked {
-        listed: a.listed,
-        edition,
-        frame,
-        next,
-        named: a.named,
-    }
+// What is wrong with an edition or a frame.
+fn warn(said: Said) {
+    let mut line = [0u8; 32];
+    let size = options::put_said(&mut line, 0, said);
+    show_on(STDERR_FILENO, &line, size);
 }
 
 // A list is played where there are such an edition and such a frame.
 fn play_file(name: &[u8], a: Asked) -> Asked {
-    if a.edition != 0 {
-        if a.frame != 0 {
-            channel_of(name, a.listed, a.edition, a.frame);
-        }
+    let chosen = a.options;
+    if options::is_played(chosen) {
+        channel_of(name, a.listed, chosen.edition, chosen.frame);
     }
     Asked {
+        options: chosen,
         listed: a.listed,
-        edition: a.edition,
-        frame: a.frame,
-        next: Next::Any,
         named: true,
     }
 }
 
-fn read_any(word: &[u8], a: Asked) -> Asked {
-    if check::same(word, b"edition") {
-        return asking(a, 0, a.frame, Next::Edition);
-    }
-    if check::same(word, b"frame") {
-        return asking(a, a.edition, 0, Next::Frame);
-    }
+fn read_other(word: &[u8], a: Asked) -> Asked {
     if check::same(word, b"listing") {
+        let chosen = a.options;
         return Asked {
+            options: chosen,
             listed: true,
-            edition: a.edition,
-            frame: a.frame,
-            next: Next::Any,
             named: a.named,
         };
     }
@@ -451,11 +411,16 @@ fn read_any(word: &[u8], a: Asked) -> Asked {
 }
 
 fn read_word(word: &[u8], a: Asked) -> Asked {
-    let next = a.next;
-    match next {
-        Next::Any => read_any(word, a),
-        Next::Edition => asking(a, edition_of(word), a.frame, Next::Any),
-        Next::Frame => asking(a, a.edition, frame_of(word), Next::Any),
+    match options::hear(word, a.options) {
+        Heard::Choice(chosen, said) => {
+            warn(said);
+            Asked {
+                options: chosen,
+                listed: a.listed,
+                named: a.named,
+            }
+        }
+        Heard::Other => read_other(word, a),
     }
 }
 
@@ -468,10 +433,8 @@ fn read_argument(i: usize, a: Asked) -> Asked {
 // The files are played as they are named.
 fn read_arguments(count: usize) -> Asked {
     let mut a = Asked {
+        options: options::at_first(),
         listed: false,
-        edition: 1,
-        frame: 256,
-        next: Next::Any,
         named: false,
     };
     let mut i = 1;
@@ -484,22 +447,12 @@ fn read_arguments(count: usize) -> Asked {
 
 fn main() {
     let a = read_arguments(os::arg_count());
-    let next = a.next;
-    match next {
-        Next::Any => {}
-        Next::Edition => {
-            edition_of(b"");
-        }
-        Next::Frame => {
-            frame_of(b"");
-        }
-    }
+    let chosen = a.options;
+    warn(options::still_to_come(chosen));
     if a.named {
         return;
     }
-    if a.edition != 0 {
-        if a.frame != 0 {
-            channel_from(STDIN_FILENO, a.listed, a.edition, a.frame);
-        }
+    if options::is_played(chosen) {
+        channel_from(STDIN_FILENO, a.listed, chosen.edition, chosen.frame);
     }
 }

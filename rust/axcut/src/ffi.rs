@@ -333,7 +333,7 @@ pub fn routine(
     Told { number, value }
 }
 
-/// A query about variables, which does not read the edition.
+/// A query about variables, which stand alike in both editions.
 pub fn query(frame: Frame, query: u64, second: bool, at: u64, id: u32, context: &[u8]) -> Told {
     let mut value = 0;
     let number = unsafe {

@@ -16,6 +16,7 @@ read-arguments-spec =
     (tie.spec
     Inv-loop
     μ-loop
+    (λ c κs. search needs)
     (λ c. tt)
     (λ c κs. search needs)
     (λ c. omega arith)

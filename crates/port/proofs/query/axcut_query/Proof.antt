@@ -1,6 +1,6 @@
 use borrow.Author.Needs.{needs}
 use borrow.Author.Tests.{ne-eqb}
-use mathlib.Core.Path.{refl, sym, _∙_}
+use mathlib.Core.Path.{sym, _∙_}
 use Rattle.port.specs.Query.{queryNumbers}
 use Rattle.port.proofs.query.axcut_query.Statement.{statement}
 use Rattle.port.proofs.query.axcut_query.Tie as tie

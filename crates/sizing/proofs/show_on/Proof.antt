@@ -2,11 +2,11 @@ use borrow.Author.Needs.{needs}
 use mathlib.Core.Path.{sym}
 use native.Mathlib.Omega.{arith}
 use lib.Seq.{length-take-le}
-use Rattle.sizing.proofs.show.Statement.{statement}
-use Rattle.sizing.proofs.show.Tie as tie
+use Rattle.sizing.proofs.show_on.Statement.{statement}
+use Rattle.sizing.proofs.show_on.Tie as tie
 
-pub show-spec : {M : Type 1} → statement M
-show-spec =
+pub show-on-spec : {M : Type 1} → statement M
+show-on-spec =
     tie.close
     (tie.spec
     (λ c. sym (length-take-le _ _ (omega arith)))
