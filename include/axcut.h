@@ -2,9 +2,15 @@
  * AxCut's x86-64 back end, proved: the functions of libport.a (`rt staticlib port`), for C99 and C++.
  *
  * Numbers. Every function answers 0 (AXCUT_OK) where its input is accepted, else the number of the cause. AXCUT_EDITION is checked
- * before every other cause, the others in rising order, so that of these the lowest number that holds is answered. A refusal
- * leaves every buffer and the label counter as they were; only the words that tell about it are set (`place`, `value`, `count`,
- * `steps`). The exceptions are AXCUT_FAULT and AXCUT_LIMIT of axcut_run, which leave the state that the steps done reached.
+ * before every other cause, then what is bad in a context (15 to 17), then the others in rising order, so that of these the lowest
+ * number that holds is answered. A refusal leaves every buffer and the label counter as they were; only the words that tell about
+ * it are set (`place`, `value`, `count`, `steps`). The exceptions are AXCUT_FAULT and AXCUT_LIMIT of axcut_run, which leave the
+ * state that the steps done reached.
+ *
+ * Contexts. Where a function reads a context, its length is checked first (AXCUT_CONTEXT_LENGTH, place 0); then the first bad binding
+ * is answered with its place from 1, for its mark (AXCUT_BINDING_MARK) before its kind and zero byte (AXCUT_BINDING_KIND). Where
+ * bindings come after a context, as an order's do and the variables to load, the context comes wholly before them, and their places
+ * count on: the second binding after a context of 12 is place 14. `value` is then the place.
  *
  * Editions. A routine or a channel has blocks of 3 fields (edition 1) or of 7 (edition 2), throughout. What depends on it takes
  * the edition's number first; another number is AXCUT_EDITION, whatever is asked.
@@ -32,7 +38,6 @@ extern "C" {
 /* Causes: what a function answers. In brackets: what goes with it. */
 enum {
     AXCUT_OK = 0,
-    AXCUT_CONTEXT = 1,    /* context not whole records, bad mark, kind or zero byte, over 4,096 */
     AXCUT_MALFORMED = 2,  /* malformed instruction or order, field not zero, too many; a heap not of 2 to 1,048,576 whole blocks
                              [record place from 1; 0 for the heap] */
     AXCUT_OPERAND = 3,    /* register not 4..15, spill not 1 to the frame's last (255, 511), field not 0 to the edition's last
@@ -47,6 +52,9 @@ enum {
     AXCUT_ROOM = 10,      /* output too short; of two, the first that is [bytes needed] */
     AXCUT_FAULT = 11,     /* machine fault within the limit [steps done before it, record place] */
     AXCUT_LIMIT = 12,     /* step limit reached before the end [the limit] */
+    AXCUT_CONTEXT_LENGTH = 15, /* a context or bindings: not whole records, or more than 4,096 [place 0] */
+    AXCUT_BINDING_MARK = 16,   /* the first bad binding: its mark is not A7 01 [its place] */
+    AXCUT_BINDING_KIND = 17,   /* the first bad binding: its kind is neither 0 nor 1, or its zero byte is not 0 [its place] */
     AXCUT_EDITION = 23    /* an edition other than 1 or 2; checked before every other cause */
 };
 
@@ -183,9 +191,10 @@ enum {
 };
 
 /*
- * Checks bytes: a context, a list of at most 65,536 instruction records, or an order (one record). Answers AXCUT_CONTEXT for a
- * bad context, AXCUT_MALFORMED for bad records, AXCUT_OPERAND for a kind that is none of the three. `place` is the place of the
- * first bad or surplus record, from 1; 0 where the bytes are accepted, and for a context or another kind.
+ * Checks bytes: a context, a list of at most 65,536 instruction records, or an order (one record). A bad context is
+ * AXCUT_CONTEXT_LENGTH, which is checked first, or at the first bad binding AXCUT_BINDING_MARK, then AXCUT_BINDING_KIND; bad records
+ * are AXCUT_MALFORMED; a kind that is none of the three is AXCUT_OPERAND. `place` is the place of the first bad binding or of the
+ * first bad or surplus record, from 1; 0 for a bad length, for another kind, and where the bytes are accepted.
  */
 uint64_t axcut_check(uint64_t kind, const uint8_t *bytes, size_t length, uint64_t *place);
 
@@ -285,13 +294,16 @@ enum {
 /*
  * Writes the records of an operation on blocks; those of erase_block and share_block_n are the same in both editions. `counter` is
  * the last label drawn before; where the answer is 0 it becomes the last one drawn by this operation. `value` is as for
- * axcut_operation.
+ * axcut_operation, or the place of the first bad binding of the context or, counted on, of the variables loaded.
  */
 uint64_t axcut_memory(uint64_t edition, uint64_t frame, uint64_t operation, uint64_t operand, uint64_t n, const uint8_t *context,
                       size_t length, const uint8_t *loaded, size_t loaded_length, uint64_t *counter, uint8_t *out, size_t room,
                       uint64_t *value);
 
-/* Writes the records of print_i64 of an operand, which keep the variables of the context. `value` is as for axcut_operation. */
+/*
+ * Writes the records of print_i64 of an operand, which keep the variables of the context. `value` is as for axcut_operation, or the
+ * place of the context's first bad binding.
+ */
 uint64_t axcut_print(uint64_t frame, bool newline, uint64_t source, const uint8_t *context, size_t length, uint8_t *out,
                      size_t room, uint64_t *value);
 
@@ -313,7 +325,8 @@ enum {
 
 /*
  * Where a variable or field stands: a field by the edition, all else by the frame, and a field's offset does not ask whether there
- * is such a frame. What else a query does not take is not read. `value` is 0 on a refusal.
+ * is such a frame. What else a query does not take is not read. On a refusal `value` is the place of the context's first bad binding
+ * (AXCUT_BINDING_MARK, AXCUT_BINDING_KIND), else 0.
  */
 uint64_t axcut_query(uint64_t edition, uint64_t frame, uint64_t query, bool second, uint64_t at, uint32_t id,
                      const uint8_t *context, size_t length, uint64_t *value);
@@ -342,8 +355,8 @@ enum {
  * Answers one order on a context: its records into `records_out`, the context after it into `context_out`. `bindings` are the n
  * that a load makes of its object, else none; another number of them is AXCUT_MALFORMED, place 1. `counter` is the last label
  * drawn before; where the answer is 0 it becomes the last one drawn by this order. Accepted, `value` is the number of records
- * and `count` the number of bindings written; else `value` is the place (AXCUT_MALFORMED), the bytes needed (AXCUT_ROOM) or 0,
- * and `count` is 0.
+ * and `count` the number of bindings written; else `value` is the place (AXCUT_MALFORMED; AXCUT_BINDING_MARK and AXCUT_BINDING_KIND,
+ * where a place above the number of the context's variables is a binding's), the bytes needed (AXCUT_ROOM) or 0, and `count` is 0.
  *
  * The records are then run by axcut_run with `value` as the limit, on the state and the heap that the last run left; the next
  * order goes in with the context answered here.

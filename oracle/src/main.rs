@@ -3,6 +3,7 @@
 mod agree;
 mod answer;
 mod bench;
+mod bindings;
 mod channel;
 mod codes;
 mod context;

@@ -152,7 +152,7 @@ pub struct Returned {
 #[derive(Debug, PartialEq, Eq)]
 pub struct Damaged;
 
-/// The value is the place of the first bad or surplus record, 0 for a context.
+/// The value is the place of the first bad binding, or of the first bad or surplus record.
 pub fn check(form: Form, bytes: &[u8]) -> Returned {
     let kind = match form {
         Form::Context => 1,
@@ -310,7 +310,7 @@ pub enum Query<'a> {
     FieldOffset(Number, u64),
 }
 
-/// The value is an operand's word or an offset.
+/// The value is an operand's word, an offset or a bad binding's place.
 pub fn query(chosen: Chosen, query: &Query) -> Returned {
     let (number, half, at, id, context): (u64, Number, u64, u32, &[u8]) = match *query {
         Query::Position(position) => (1, Number::Fst, position, 0, &[]),

@@ -29,7 +29,6 @@ pub fn answer(line: &Line, channel: &mut Option<Channel>) -> Answer {
 fn check(form: Form, bytes: &[u8]) -> Answer {
     match port::check(form, bytes) {
         Returned { number: 0, .. } => Answer::Accepted,
-        Returned { number: 1, .. } => Answer::Refused(1, None),
         Returned { number, value } => Answer::Refused(number, Some(value)),
     }
 }

@@ -1,5 +1,5 @@
-//! A reading of document 01's rules for well-formed contexts, records and orders and for the
-//! lister, made from the document and not from the port, to be held against it.
+//! A reading of document 01's rules for well-formed records and orders and for the lister, and of
+//! document 02's for contexts, made from the documents and not from the port, to be held against it.
 
 use crate::codes::{self, Form};
 use crate::record::{self, Record};
@@ -15,18 +15,33 @@ const MOST_BINDINGS: usize = 4_096;
 const MOST_RECORDS: usize = 65_536;
 const MOST_LISTED: usize = 2_730;
 
-/// "context not whole records, bad mark, kind or zero byte, over 4,096": 1.
+/// "15 for the length (place 0), checked first; then, at the earliest bad binding, 16 for its mark
+/// and 17 for its kind or zero byte, in that sequence."
 pub fn check_context(bytes: &[u8]) -> Result<(), Refusal> {
+    check_bindings(0, bytes)
+}
+
+/// Bindings after so many others, "whose places count on".
+pub fn check_bindings(before: usize, bytes: &[u8]) -> Result<(), Refusal> {
+    let refused = |number, place| {
+        Err(Refusal {
+            number,
+            value: Some(place as u64),
+        })
+    };
     let (bindings, part) = bytes.as_chunks::<8>();
-    let well_formed = part.is_empty()
-        && bindings.len() <= MOST_BINDINGS
-        && bindings.iter().all(|binding| {
-            binding[..2] == [0xA7, 0x01] && matches!(binding[2], 0 | 1) && binding[3] == 0
-        });
-    well_formed.then_some(()).ok_or(Refusal {
-        number: 1,
-        value: None,
-    })
+    if !part.is_empty() || bindings.len() > MOST_BINDINGS {
+        return refused(15, 0);
+    }
+    for (place, [mark, second, kind, zero, ..]) in (before + 1..).zip(bindings) {
+        if (*mark, *second) != (0xA7, 0x01) {
+            return refused(16, place);
+        }
+        if *kind > 1 || *zero != 0 {
+            return refused(17, place);
+        }
+    }
+    Ok(())
 }
 
 /// "malformed instruction, field not zero, too many": 2 with "the first bad or surplus record's"
@@ -210,8 +225,9 @@ mod tests {
         assert!(list(&records(2_730), 1 << 18).is_ok());
         assert_eq!(list(&records(2_731), 1 << 18), Err(refused(2, 2_731)));
         let binding = [0xA7, 1, 0, 0, 1, 2, 3, 4];
-        assert!(check_context(&binding.repeat(4_096)).is_ok());
-        assert!(check_context(&binding.repeat(4_097)).is_err());
+        assert_eq!(check_context(&binding.repeat(4_096)), Ok(()));
+        assert_eq!(check_context(&binding.repeat(4_097)), Err(refused(15, 0)));
+        assert_eq!(check_context(&binding[..7]), Err(refused(15, 0)));
     }
 
     #[test]

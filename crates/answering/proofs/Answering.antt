@@ -8,11 +8,11 @@ use lib.Dec.{leb, eqb}
 use lib.ListN.{length, getD}
 use lib.Seq.{sets}
 use borrow.Author.Tests.{eq-eqb, ne-eqb, leb-true}
-use Rattle.records.specs.declared.check.Checked.{Checked}
-use Rattle.records.specs.declared.check.Checked.the-variants.{Good}
-use Rattle.records.specs.declared.check.Checked.the-variants as checked
+use Rattle.records.specs.declared.context.Flaw.{Flaw}
+use Rattle.records.specs.declared.context.ContextRead.{ContextRead}
+use Rattle.records.specs.declared.context.ContextRead.the-variants.{Good, Bad}
 use Rattle.records.specs.declared.order.Order.{Order}
-use Rattle.records.specs.Contexts.{checkedContext}
+use Rattle.records.specs.Contexts.{checkedContext, countedOn}
 use Rattle.records.specs.Orders.{orderOf, orderIn, orderOk, orderStarts}
 use Rattle.records.proofs.Conditions.{and-left}
 use Rattle.trees.specs.Tree.{size}
@@ -39,14 +39,14 @@ order-whole s e =
     let b₂ = eqb (getD s 3 0) 0 in
     leb-true 24 (length s) (and-left b₀ b₁ (and-left (b₀ && b₁) b₂ (and-left (b₀ && b₁ && b₂) (orderOk (orderIn s)) e)))
 
--- 1 and 2, whatever follows
+-- 15 to 17 and 2, whatever follows
 module _ (context order bindings : List ℕ) where
-  pub context-bad : (place : ℕ) → checkedContext context ≡ checked.Malformed place → Unread context order bindings Context
-  context-bad place e = record { refused = refl; comes = λ answer. rw e }
+  pub context-bad : (flaw : Flaw) → checkedContext context ≡ Bad flaw → Unread context order bindings (Context flaw)
+  context-bad flaw e = record { refused = refl; comes = λ answer. rw e }
 
   module _ (k : ℕ) (h : checkedContext context ≡ Good k) where
-    pub bindings-bad : (place : ℕ) → checkedContext bindings ≡ checked.Malformed place → Unread context order bindings Context
-    bindings-bad place e = record { refused = refl; comes = λ answer. rw (h, e) }
+    pub bindings-bad : (flaw : Flaw) → countedOn k (checkedContext bindings) ≡ Bad flaw → Unread context order bindings (Context flaw)
+    bindings-bad flaw e = record { refused = refl; comes = λ answer. rw (h, e) }
 
     module _ (m : ℕ) (b : checkedContext bindings ≡ Good m) where
       pub order-bad : orderStarts order ≡ false → Unread context order bindings (Malformed 1)
@@ -80,7 +80,7 @@ module _ {context order bindings : List ℕ} {r : Begun} (b : Begins context ord
   pub begun-refused : {a : Answer} → r ≡ Refused a → Unread context order bindings a
   begun-refused e = rw e at b
 
--- an order that is refused with 1 or 2, and one that is read, where there is no such frame
+-- an order that is refused with 15 to 17 or 2, and one that is read, where there is no such frame
 module _ {context order bindings : List ℕ} where
   pub unread-unframed : {a : Answer} → Unread context order bindings a → (a ≡ unframed context (asking order bindings 0 [] [])) × (accepted a ≡ false)
   unfolding unframed
@@ -123,12 +123,12 @@ module _ (G : Shape) (c : List ℕ) (q : Asked) where
     same-records : written G c k (q .bindings) o (q .counter) ≡ recordsOf G c q
     same-records =
         ap (λ (x : Order). written G c k (q .bindings) x (q .counter)) (u .order-is)
-        ∙ ap (λ (z : Checked). written G c (variablesIn z) (q .bindings) (orderIs q) (q .counter)) (sym (u .context-good))
+        ∙ ap (λ (z : ContextRead). written G c (variablesIn z) (q .bindings) (orderIs q) (q .counter)) (sym (u .context-good))
 
     same-context : contextAfter c k (q .bindings) o ≡ orderContext c q
     same-context =
         ap (λ (x : Order). contextAfter c k (q .bindings) x) (u .order-is)
-        ∙ ap (λ (z : Checked). contextAfter c (variablesIn z) (q .bindings) (orderIs q)) (sym (u .context-good))
+        ∙ ap (λ (z : ContextRead). contextAfter c (variablesIn z) (q .bindings) (orderIs q)) (sym (u .context-good))
 
     output : Answer → List ℕ → List ℕ → List ℕ
     output x o w = cond (accepted x) (sets o 0 w) o

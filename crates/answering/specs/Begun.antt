@@ -1,9 +1,9 @@
--- An order's bytes with a context and bindings, up to document 01's causes 1 and 2: the order that is read, or the refusal.
+-- An order's bytes with a context and bindings, up to causes 15 to 17 and 2: the order that is read, or the refusal.
 use Prim.Native.Nat.{ℕ}
 use mathlib.Core.Path.{_≡_}
 use mathlib.Core.Bool.{false}
 use mathlib.Core.List.{List, []}
-use Rattle.records.specs.declared.check.Checked.the-variants.{Good}
+use Rattle.records.specs.declared.context.ContextRead.the-variants.{Good}
 use Rattle.records.specs.declared.order.Order.{Order}
 use Rattle.records.specs.Contexts.{checkedContext}
 use Rattle.records.specs.Orders.{orderOf, orderIn}
@@ -15,7 +15,7 @@ use Rattle.answering.specs.declared.order.Begun.the-variants.{With, Refu
 use Rattle.answering.specs.Answers.{asking}
 
 module _ (context order bindings : List ℕ) where
-  -- what the answer comes to, whatever is answered after 1 and 2
+  -- what the answer comes to, whatever is answered after 15 to 17 and 2
   abbrev Comes : ((ℕ → Answer) → Answer) → Type 0
   Comes to = (answer : ℕ → Answer) → read context (asking order bindings 0 [] []) answer ≡ to answer
 
@@ -26,7 +26,7 @@ module _ (context order bindings : List ℕ) where
     pub order-is : o ≡ orderOf (orderIn order)
     pub comes : Comes (λ answer. answer k)
 
-  -- a refusal with 1 or 2
+  -- a refusal with 15 to 17 or 2
   pub record Unread (a : Answer) : Type 0 where
     pub refused : accepted a ≡ false
     pub comes : Comes (λ answer. a)

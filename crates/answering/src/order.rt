@@ -4,7 +4,7 @@ ghost use mathlib.Core.Bool.{true, false};
 ghost use mathlib.Core.List.{[]};
 ghost use Prim.Native.Nat.{_+_, _*_, _<_, _≤_, _^_};
 ghost use lib.ListN.{length};
-ghost use Rattle.records.specs.declared.check.Checked.the-variants.{Good};
+ghost use Rattle.records.specs.declared.context.ContextRead.the-variants.{Good};
 ghost use Rattle.records.specs.Contexts.{checkedContext};
 ghost use Rattle.layout.specs.declared.config.Shaped.the-variants.{In};
 ghost use Rattle.layout.specs.Config.{Supported, positions, shapeOf};
@@ -20,7 +20,8 @@ use layout::config::Shape;
 use layout::config::Shaped;
 use ordering::emitters;
 use orders::answer::Answer;
-use records::check::Checked;
+use records::context;
+use records::context::ContextRead;
 use records::order::Order;
 
 // 9 and 10: need is the cursor past the records, from a cursor at 0 and counter 0; `count` bindings come after them.
@@ -50,7 +51,7 @@ pub fn is_accepted(answer: Answer) -> bool
 {
     match answer {
         Answer::Accepted(_, _, _) => true,
-        Answer::Context => false,
+        Answer::Context(_) => false,
         Answer::Malformed(_) => false,
         Answer::Frame => false,
         Answer::Missing => false,
@@ -147,7 +148,7 @@ fn judge(
     )
 }
 
-// An order whose bytes, context and bindings pass document 01's 1 and 2, with the number of the context's variables; or the refusal.
+// An order whose context, bindings and bytes pass 15 to 17 and 2, with the number of the context's variables; or the refusal.
 pub enum Begun {
     With(u64, Order),
     Refused(Answer),
@@ -156,11 +157,13 @@ pub enum Begun {
 fn begin(context: &[u8], order: &[u8], bindings: &[u8]) -> Begun
     ensures { λ r. ⌜ Begins (now (context .entry)) (now (order .entry)) (now (bindings .entry)) r ⌝ }
 {
-    let Checked::Good(k) = records::binding::check_context(context) else {
-        return Begun::Refused(Answer::Context);
+    let k = match context::check_context(context) {
+        ContextRead::Good(k) => k,
+        ContextRead::Bad(flaw) => return Begun::Refused(Answer::Context(flaw)),
     };
-    let Checked::Good(m) = records::binding::check_context(bindings) else {
-        return Begun::Refused(Answer::Context);
+    let m = match context::check_after(k, bindings) {
+        ContextRead::Good(m) => m,
+        ContextRead::Bad(flaw) => return Begun::Refused(Answer::Context(flaw)),
     };
     if records::order::order_starts(order) {} else {
         return Begun::Refused(Answer::Malformed(1));

@@ -7,7 +7,7 @@ use native.Mathlib.Omega.{arith}
 use lib.Dec.{eqb}
 use lib.ListN.{take}
 use borrow.Author.Tests.{ltb-true, leb-true, ne-eqb}
-use Rattle.records.specs.declared.check.Checked.the-variants.{Good}
+use Rattle.records.specs.declared.context.ContextRead.the-variants.{Good}
 use Rattle.records.specs.declared.binding.Kind.{Kind}
 use Rattle.records.specs.declared.binding.Kind.the-variants.{Linked, Ext}
 use Rattle.records.specs.declared.order.Order.{Order}

@@ -1,74 +1,23 @@
--- A list of bytes is an accepted context where it is at most 4,096 whole bindings; such lists joined, shortened and made are accepted again.
+-- Accepted contexts joined, shortened and made are accepted again.
 use Prim.Native.Nat.{ℕ, zero, suc, _+_, _*_, _-_, _≤_, _<_}
 use mathlib.Core.Path.{_≡_, refl, sym, _∙_}
-use mathlib.Core.Bool.{true, _&&_}
+use mathlib.Core.Bool.{true}
 use mathlib.Core.List.{List, [], _++_}
 use native.Mathlib.Omega.{arith}
-use native.Mathlib.Decide.{ℕ-discrete, decLt}
-use lib.Dec.{ltb}
+use native.Mathlib.Decide.{decLt}
 use lib.ListN.{length, getD, take, drop, length-append, length-drop, take-append-drop, List·getD-append}
 use lib.Seq.{length-take-le, drop-append-le, drop-append-add}
-use borrow.Author.Tests.{lt-ltb, le-leb}
-use Rattle.records.specs.declared.check.Checked.the-variants.{Good}
+use borrow.Author.Tests.{le-leb}
+use Rattle.records.specs.declared.context.ContextRead.the-variants.{Good}
 use Rattle.records.specs.declared.binding.Kind.{Kind}
 use Rattle.records.specs.declared.binding.Kind.the-variants.{Linked, Ext}
 use Rattle.records.specs.Bytes.{le}
-use Rattle.records.specs.Checked.{firstBad, places, checked}
-use Rattle.records.specs.Contexts.{bindingBytes, bindingStarts, checkedContext}
-use Rattle.records.proofs.Checking.{passed}
-use Rattle.records.proofs.Conditions.{both}
-use Rattle.records.proofs.BindingsRead.{context-within}
+use Rattle.records.specs.Contexts.{bindingBytes, firstFlaw, bindingStarts, checkedContext}
+use Rattle.records.proofs.ContextsRead.{Bindings, whole, is-accepted}
 use Rattle.orders.specs.Writes.{made, madeAll}
 
--- n bindings, all of them whole
-pub record Bindings (s : List ℕ) (n : ℕ) : Type 0 where
-  pub long : length s ≡ 8 * n
-  pub within : n ≤ 4096
-  pub each : (i : ℕ) → i < n → bindingStarts (drop (8 * i) s) ≡ true
-
-module _ (s : List ℕ) where
-  abbrev EachFrom : ℕ → ℕ → Type 0
-  EachFrom k m = (i : ℕ) → k ≤ i → i < m → bindingStarts (drop (8 * i) s) ≡ true
-
-  -- a check that ends well from place k + 1 on
-  passes : (k n m : ℕ) → firstBad bindingStarts 8 4096 s k n ≡ Good m → (m ≡ k + n) × EachFrom k m
-  unfolding firstBad
-  passes k zero m e = let q : m ≡ k = cc in (omega arith, λ i h l. absurd (omega arith))
-  passes k (suc n) m e =
-      let t = drop (8 * k) s in
-      let p = passed (ltb k 4096 && bindingStarts t) (firstBad bindingStarts 8 4096 s (suc k) n) (suc k) e in
-      let b = both (ltb k 4096) (bindingStarts t) (p .0) in
-      let r = passes (suc k) n m (p .1) in
-      (omega (arith, r .0), λ i h l. by i h l (b .1) (r .1) (ℕ-discrete i k))
-    where
-      by : (i : ℕ) → k ≤ i → i < m → bindingStarts (drop (8 * k) s) ≡ true → EachFrom (suc k) m → Dec (i ≡ k) → bindingStarts (drop (8 * i) s) ≡ true
-      by i h l b r (yes e) = rw e b
-      by i h l b r (no f) = r i (omega arith) l
-
-  ends-well : (k n : ℕ) → k + n ≤ 4096 → EachFrom k (k + n) → firstBad bindingStarts 8 4096 s k n ≡ Good (k + n)
-  unfolding firstBad
-  ends-well k zero h f = let e : k + 0 ≡ k = omega arith in rw e
-  ends-well k (suc n) h f =
-      let e : k + suc n ≡ suc k + n = omega arith in
-      rw (lt-ltb k 4096 (omega arith), f k (omega arith) (omega arith), e)
-      (ends-well (suc k) n (omega arith) (λ i a b. f i (omega arith) (omega arith)))
-
-  pub whole : {n : ℕ} → checkedContext s ≡ Good n → Bindings s n
-  unfolding checked
-  whole {n} e =
-      let p = passes 0 (places 8 s) n e in
-      let w = context-within s n e in
-      record { long = omega (arith, p .0, w .1); within = w .0; each = λ i h. p .1 i (omega arith) h }
-
-  pub is-accepted : {n : ℕ} → Bindings s n → checkedContext s ≡ Good n
-  unfolding checked
-  is-accepted {n} b =
-      let e : places 8 s ≡ n = omega (arith, b .long) in
-      let z : 0 + n ≡ n = omega arith in
-      rw e (rw z at (ends-well 0 n (omega (arith, b .within)) (λ i a h. b .each i (omega arith))))
-
-  pub good-length : {n : ℕ} → checkedContext s ≡ Good n → (length s ≡ 8 * n) × (n ≤ 4096)
-  good-length e = let b = whole e in (b .long, b .within)
+pub good-length : (s : List ℕ) {n : ℕ} → checkedContext s ≡ Good n → (length s ≡ 8 * n) × (n ≤ 4096)
+good-length s e = let b = whole s e in (b .long, b .within)
 
 -- a binding at the start is not changed by what follows it
 starts-more : (s t : List ℕ) → 8 ≤ length s → bindingStarts (s ++ t) ≡ bindingStarts s
@@ -115,11 +64,11 @@ pub good-take : (s : List ℕ) (n : ℕ) {k : ℕ} → checkedContext s ≡ Good
 good-take s n a h = is-accepted (take (8 * n) s) (bindings-take s n (whole s a) h)
 
 pub good-none : checkedContext [] ≡ Good 0
-unfolding checked firstBad
+unfolding checkedContext firstFlaw
 good-none = refl
 
 pub good-made : (kind : Kind) (place : ℕ) → checkedContext (made kind place) ≡ Good 1
-unfolding checked firstBad bindingStarts bindingBytes le
+unfolding checkedContext firstFlaw bindingBytes le
 good-made Linked place = refl
 good-made Ext place = refl
 

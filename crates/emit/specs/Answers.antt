@@ -1,15 +1,17 @@
 -- What an operation answers and leaves in its output, where nothing but the labels or the room can refuse it, and where there is no such frame.
--- From document 01, 'Causes and numbers': 1 before 3, 9 before 10, a refusal writes nothing, output bytes past the records stay.
+-- From document 01, 'Causes and numbers', and document 02, Job 2: 15 to 17 before 3, 9 before 10, a refusal writes nothing, output bytes past the records stay.
 use Prim.Native.Nat.{ℕ, _+_, _/_}
 use mathlib.Core.Bool.{Bool, true, false, cond}
 use mathlib.Core.Path.{_≡_}
 use mathlib.Core.List.{List, [], _∷_}
 use lib.Dec.{ltb}
 use lib.Seq.{sets}
-use Rattle.records.specs.Causes.{ACCEPTED, CONTEXT, MALFORMED, OPERAND, MISSING, ARGUMENTS, COUNT, POSITION, LABELS, ROOM, EDITION}
-use Rattle.records.specs.declared.check.Checked.{Checked}
-use Rattle.records.specs.declared.check.Checked.the-variants.{Good, Malformed}
+use Rattle.records.specs.Causes.{ACCEPTED, MALFORMED, OPERAND, MISSING, ARGUMENTS, COUNT, POSITION, LABELS, ROOM, EDITION}
+use Rattle.records.specs.declared.context.Flaw.{Flaw}
+use Rattle.records.specs.declared.context.ContextRead.{ContextRead}
+use Rattle.records.specs.declared.context.ContextRead.the-variants.{Good, Bad}
 use Rattle.records.specs.declared.code.Code.{Code}
+use Rattle.records.specs.Contexts.{flawCause}
 use Rattle.records.specs.ReadBack.{joined, codeBytes}
 use Rattle.emit.specs.declared.answer.Answer.{Answer}
 use Rattle.emit.specs.declared.answer.Answer.the-variants.{Written, Context, Body, Operand, Missing, Arguments, Count, Position, Labels, Room, Edition}
@@ -17,7 +19,7 @@ use Rattle.emit.specs.declared.answer.Answer.the-variants.{Written, Cont
 -- document 01's number and values for each answer: 0, with the records and the counter after them, where they are written
 abbrev pub causeOf : Answer → List ℕ
 causeOf (Written n counter) = ACCEPTED ∷ n ∷ counter ∷ []
-causeOf Context = CONTEXT ∷ []
+causeOf (Context flaw) = flawCause flaw
 causeOf (Body place) = MALFORMED ∷ place ∷ []
 causeOf Operand = OPERAND ∷ []
 causeOf Missing = MISSING ∷ []
@@ -28,10 +30,10 @@ causeOf Labels = LABELS ∷ []
 causeOf (Room bytes) = ROOM ∷ bytes ∷ []
 causeOf Edition = EDITION ∷ []
 
--- 1 comes before 3, which another number of spills than a frame has is: by the context that is read
-abbrev pub unframed : Checked → Answer
+-- 15 to 17 come before 3, which another number of spills than a frame has is: by the context that is read
+abbrev pub unframed : ContextRead → Answer
 unframed (Good n) = Operand
-unframed (Malformed place) = Context
+unframed (Bad flaw) = Context flaw
 
 -- the answer for records of so many bytes that draw n labels
 unfoldable pub granted : ℕ → ℕ → ℕ → ℕ → Answer
@@ -40,7 +42,7 @@ granted counter room bytes n =
 
 abbrev pub accepted : Answer → Bool
 accepted (Written n counter) = true
-accepted Context = false
+accepted (Context flaw) = false
 accepted (Body place) = false
 accepted Operand = false
 accepted Missing = false

@@ -5,13 +5,14 @@ ghost use Prim.Native.Nat.{_+_, _<_, _^_};
 ghost use Rattle.records.specs.Contexts.{checkedContext};
 ghost use Rattle.emit.specs.Answers.{unframed, granted, accepted};
 use crate::cursor::Cursor;
-use records::check::Checked;
+use records::context::ContextRead;
+use records::context::Flaw;
 
 // Written, with the number of records and the counter after them; or refused, by the documents' causes.
 pub enum Answer {
     Written(usize, u64),
-    // 1: the context
-    Context,
+    // 15 to 17: what is bad in a context, with its place
+    Context(Flaw),
     // 2: a record of the body, with its place
     Body(usize),
     // 3: an operand, a label or a frame
@@ -36,9 +37,9 @@ pub enum Answer {
 pub fn unframed(context: &[u8]) -> Answer
     ensures { λ r. ⌜ (r ≡ unframed (checkedContext (now (context .entry)))) × (accepted r ≡ false) ⌝ }
 {
-    match records::binding::check_context(context) {
-        Checked::Good(_) => Answer::Operand,
-        Checked::Malformed(_) => Answer::Context,
+    match records::context::check_context(context) {
+        ContextRead::Good(_) => Answer::Operand,
+        ContextRead::Bad(flaw) => Answer::Context(flaw),
     }
 }
 
@@ -65,7 +66,7 @@ pub fn is_written(answer: Answer) -> bool
 {
     match answer {
         Answer::Written(_, _) => true,
-        Answer::Context => false,
+        Answer::Context(_) => false,
         Answer::Body(_) => false,
         Answer::Operand => false,
         Answer::Missing => false,

@@ -6,10 +6,11 @@ use mathlib.Core.List.{List}
 use native.Mathlib.Omega.{arith}
 use lib.Dec.{ltb}
 use borrow.Author.Tests.{ltb-true, ltb-false, ne-eqb}
-use Rattle.records.specs.declared.check.Checked.{Checked}
-use Rattle.records.specs.declared.check.Checked.the-variants as checked
-use Rattle.records.specs.Contexts.{checkedContext}
+use Rattle.records.specs.declared.context.ContextRead.{ContextRead}
+use Rattle.records.specs.declared.context.ContextRead.the-variants as checked
+use Rattle.records.specs.Contexts.{checkedContext, countedOn}
 use Rattle.records.proofs.Conditions.{chosen, passed}
+use Rattle.records.proofs.ContextsRead.{counted-good}
 use Rattle.trees.specs.Tree.{Tree, labels}
 use Rattle.layout.specs.declared.config.Shape.{Shape}
 use Rattle.layout.specs.Config.{Supported, positions}
@@ -22,9 +23,9 @@ use Rattle.memory.specs.Blocks.{eraseBlock, shareBlock}
 use Rattle.memory.specs.LoadAnswered.{loadFits, loadAnswer}
 use Rattle.memory.specs.Objects.{extIn, loadObject}
 
-on-good : (c : Checked) (f : ℕ → Answer) → accepted (onContext c f) ≡ true → (k : ℕ) × (c ≡ checked.Good k) × (accepted (f k) ≡ true)
+on-good : (c : ContextRead) (f : ℕ → Answer) → accepted (onContext c f) ≡ true → (k : ℕ) × (c ≡ checked.Good k) × (accepted (f k) ≡ true)
 on-good (checked.Good k) f e = (k, refl, e)
-on-good (checked.Malformed place) f e = let z : _≡_ {A = ℕ} 0 1 = cc in absurd (omega arith)
+on-good (checked.Bad flaw) f e = let z : _≡_ {A = ℕ} 0 1 = cc in absurd (omega arith)
 
 good-same : {j k : ℕ} → checked.Good j ≡ checked.Good k → j ≡ k
 good-same e = cc
@@ -76,16 +77,16 @@ module _ (G : Shape) (counter room : ℕ) where
 
   pub load-good : (loaded existing : List ℕ) → accepted (loadAnswer G counter room loaded existing) ≡ true → (v : ℕ) × (checkedContext existing ≡ checked.Good v)
   unfolding loadAnswer
-  load-good loaded existing e = let a = on-good (checkedContext loaded) _ e in let b = on-good (checkedContext existing) _ (a .2) in (b .0, b .1)
+  load-good loaded existing e = let a = on-good (checkedContext existing) _ e in (a .0, a .1)
 
   pub load-granted : (loaded existing : List ℕ) (v : ℕ) → checkedContext existing ≡ checked.Good v → accepted (loadAnswer G counter room loaded existing) ≡ true
       → (n : ℕ) × (checkedContext loaded ≡ checked.Good n) × (loadFits G v n ≡ true) × (counter + labels (loadObject G (extIn loaded v) v n) ≤ 2147483647)
   unfolding loadAnswer
   load-granted loaded existing v good e =
-      let a = on-good (checkedContext loaded) _ e in
-      let b = on-good (checkedContext existing) _ (a .2) in
-      let same : b .0 ≡ v = good-same (sym (b .1) ∙ good) in
-      let c = chosen accepted (loadFits G (b .0) (a .0)) _ Position refl (b .2) in
-      let s = subst (λ (j : ℕ). (loadFits G j (a .0) ≡ true) × (counter + labels (loadObject G (extIn loaded j) j (a .0)) ≤ 2147483647)) same
-      (c .0, labelled counter room (loadObject G (extIn loaded (b .0)) (b .0) (a .0)) (c .1)) in
-      (a .0, a .1, s .0, s .1)
+      let a = on-good (checkedContext existing) _ e in
+      let b = on-good (countedOn (a .0) (checkedContext loaded)) _ (a .2) in
+      let same : a .0 ≡ v = good-same (sym (a .1) ∙ good) in
+      let c = chosen accepted (loadFits G (a .0) (b .0)) _ Position refl (b .2) in
+      let s = subst (λ (j : ℕ). (loadFits G j (b .0) ≡ true) × (counter + labels (loadObject G (extIn loaded j) j (b .0)) ≤ 2147483647)) same
+      (c .0, labelled counter room (loadObject G (extIn loaded (a .0)) (a .0) (b .0)) (c .1)) in
+      (b .0, counted-good (a .0) (checkedContext loaded) (b .1), s .0, s .1)

@@ -8,26 +8,13 @@ use lib.ListN.{length, take, length-append}
 use lib.Seq.{sets, take-all, take-length, length-take-le}
 use Rattle.records.specs.declared.binding.Kind.{Kind}
 use Rattle.records.specs.declared.binding.Kind.the-variants.{Linked, Ext}
-use Rattle.records.specs.declared.check.Checked.the-variants.{Good}
 use Rattle.records.specs.declared.order.Operation.{Operation}
 use Rattle.records.specs.declared.order.Order.{Order}
 use Rattle.records.specs.declared.order.Order.the-variants.{Put, Compute, Copy, Drop, Store, Load, Print}
-use Rattle.records.specs.Checked.{places, checked}
-use Rattle.records.specs.Contexts.{bindingStarts, checkedContext}
-use Rattle.records.proofs.Checking.{all-checked}
-use Rattle.records.proofs.BindingsRead.{context-within}
 use Rattle.records.proofs.Storing.{sets-then}
 use Rattle.orders.specs.Writes.{made, madeAll, kindAt, wanted, contextAfter}
 use Rattle.judging.specs.After.{countAfter}
 use Rattle.judging.proofs.Making.{binding-long, made-long}
-
--- a context that is accepted is its bindings, and no byte more
-pub context-long : (s : List ℕ) (n : ℕ) → checkedContext s ≡ Good n → length s ≡ 8 * n
-unfolding checked
-context-long s n e =
-    let q = all-checked bindingStarts 8 4096 s 0 (places 8 s) n e in
-    let w = context-within s n e in
-    omega (arith, w .1)
 
 -- a fact of an order that is another
 module _ (k : ℕ) {o x : Order} (e : o ≡ x) where

@@ -10,7 +10,8 @@ use lib.ListN.{getD, drop}
 use borrow.Author.Tests.{eq-eqb, eqb-true, ne-eqb, lt-ltb, le-ltb, lt-leb, le-leb, leb-true, ltb-true}
 use Rattle.records.proofs.Conditions.{and-left, and-right}
 use Rattle.records.proofs.Table.{at}
-use Rattle.records.specs.declared.check.Checked.the-variants.{Good, Malformed}
+use Rattle.records.specs.declared.context.Flaw.{Flaw}
+use Rattle.records.specs.declared.context.ContextRead.the-variants.{Good, Bad}
 use Rattle.records.specs.Contexts.{bindingIn, checkedContext}
 use Rattle.layout.specs.declared.config.Offset.the-variants as offset
 use Rattle.layout.specs.declared.config.Shape.{Shape}
@@ -95,17 +96,17 @@ module _ (g : Shape) (s : List ℕ) (half : TemporaryNumber) where
   unfolding freshTemporary
   fresh n e q p = rw (e, ← q) p
 
-  pub fresh-malformed : (place : ℕ) → checkedContext s ≡ Malformed place → temporary.Malformed ≡ freshTemporary g half s
+  pub fresh-bad : (flaw : Flaw) → checkedContext s ≡ Bad flaw → temporary.Context flaw ≡ freshTemporary g half s
   unfolding freshTemporary
-  fresh-malformed place e = rw e
+  fresh-bad flaw e = rw e
 
   pub variable : {r : Temporary} {d k : ℕ} (id n : ℕ) → checkedContext s ≡ Good n → d ≡ numberOf half → k ≡ idPlace s id 0 n → r ≡ cond (ltb k n) (positionAnswer g (2 * k + d)) Missing → r ≡ variableTemporary g half s id
   unfolding variableTemporary
   variable id n e q i p = rw (e, ← i, ← q) p
 
-  pub variable-malformed : (id place : ℕ) → checkedContext s ≡ Malformed place → temporary.Malformed ≡ variableTemporary g half s id
+  pub variable-bad : (id : ℕ) (flaw : Flaw) → checkedContext s ≡ Bad flaw → temporary.Context flaw ≡ variableTemporary g half s id
   unfolding variableTemporary
-  variable-malformed id place e = rw e
+  variable-bad id flaw e = rw e
 
 module _ (g : Shape) (w : ℕ) where
   pub no-low-spill : w ≤ 16 → offset.Operand ≡ spillOffset g w

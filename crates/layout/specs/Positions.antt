@@ -6,10 +6,11 @@ use mathlib.Core.Bool.{Bool, _&&_, _||_, cond}
 use mathlib.Core.List.{List, [], _∷_}
 use lib.Dec.{leb, ltb}
 use lib.ListN.{getD}
-use Rattle.records.specs.Causes.{ACCEPTED, CONTEXT, OPERAND, MISSING, POSITION}
+use Rattle.records.specs.Causes.{ACCEPTED, OPERAND, MISSING, POSITION}
+use Rattle.records.specs.Contexts.{flawCause}
 use Rattle.layout.specs.declared.config.Shape.{Shape}
 use Rattle.layout.specs.declared.utils.Temporary.{Temporary}
-use Rattle.layout.specs.declared.utils.Temporary.the-variants.{Operand, Malformed, Frame, Missing, OutOfTemporaries}
+use Rattle.layout.specs.declared.utils.Temporary.the-variants.{Operand, Context, Frame, Missing, OutOfTemporaries}
 use Rattle.layout.specs.Config.{larger, operands, positions}
 
 -- the operand of position p
@@ -35,7 +36,7 @@ positionAnswer g p = cond (ltb p (positions g)) (Operand (location p)) OutOfTemp
 -- document 01's number for each answer: 0, with the operand, where there is one
 abbrev pub temporaryCause : Temporary → List ℕ
 temporaryCause (Operand w) = ACCEPTED ∷ w ∷ []
-temporaryCause Malformed = CONTEXT ∷ []
+temporaryCause (Context flaw) = flawCause flaw
 temporaryCause Frame = OPERAND ∷ []
 temporaryCause Missing = MISSING ∷ []
 temporaryCause OutOfTemporaries = POSITION ∷ []

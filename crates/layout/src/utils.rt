@@ -13,7 +13,8 @@ ghost use Rattle.layout.specs.Queries.{numberOf, idPlace, freshTemporary
 use crate::config;
 use crate::config::Choice;
 use crate::config::Shape;
-use records::check::Checked;
+use records::context::ContextRead;
+use records::context::Flaw;
 
 // How many positions the largest frame has.
 pub const ENTRIES: usize = 523;
@@ -548,7 +549,7 @@ const POSITIONS: [u16; ENTRIES] = [
 // An operand, or why there is none.
 pub enum Temporary {
     Operand(u64),
-    Malformed,
+    Context(Flaw),
     Frame,
     Missing,
     OutOfTemporaries,
@@ -669,9 +670,9 @@ fn id_place(context: &[u8], id: u32, n: usize) -> usize
 fn unframed(context: &[u8]) -> Temporary
     ensures { λ r. ⌜ AnswersBy temporaryCause r (unframed (now (context .entry))) ⌝ }
 {
-    match records::binding::check_context(context) {
-        Checked::Good(_) => Temporary::Frame,
-        Checked::Malformed(_) => Temporary::Malformed,
+    match records::context::check_context(context) {
+        ContextRead::Good(_) => Temporary::Frame,
+        ContextRead::Bad(flaw) => Temporary::Context(flaw),
     }
 }
 
@@ -690,9 +691,9 @@ fn fresh_temporary_in(g: Shape, number: TemporaryNumber, context: &[u8]) -> Temp
     ensures { λ r. ⌜ AnswersBy temporaryCause r (freshTemporary g number (now (context .entry))) ⌝ }
 {
     let half = number_of(number);
-    match records::binding::check_context(context) {
-        Checked::Good(n) => position_in(g, 2 * (n as u64) + half),
-        Checked::Malformed(_) => Temporary::Malformed,
+    match records::context::check_context(context) {
+        ContextRead::Good(n) => position_in(g, 2 * (n as u64) + half),
+        ContextRead::Bad(flaw) => Temporary::Context(flaw),
     }
 }
 
@@ -711,9 +712,9 @@ fn variable_temporary_in(g: Shape, number: TemporaryNumber, context: &[u8], id: 
     ensures { λ r. ⌜ AnswersBy temporaryCause r (variableTemporary g number (now (context .entry)) id) ⌝ }
 {
     let half = number_of(number);
-    match records::binding::check_context(context) {
-        Checked::Good(n) => placed(g, id_place(context, id, n), n, half),
-        Checked::Malformed(_) => Temporary::Malformed,
+    match records::context::check_context(context) {
+        ContextRead::Good(n) => placed(g, id_place(context, id, n), n, half),
+        ContextRead::Bad(flaw) => Temporary::Context(flaw),
     }
 }
 

@@ -5,16 +5,16 @@ ghost use Prim.Native.Nat.{_+_, _*_, _<_, _≤_, _^_};
 ghost use lib.Dec.{ltb};
 ghost use lib.ListN.{length};
 ghost use Rattle.records.specs.declared.code.Code.the-variants.{MOVL, ADDIM, CMPIM};
-ghost use Rattle.records.specs.Contexts.{checkedContext, extAt};
+ghost use Rattle.records.specs.Contexts.{extAt};
 ghost use Rattle.trees.specs.Tree.{nop, leaf, seq, if-zero, flat};
 ghost use Rattle.emit.specs.Emitted.{Emits};
-ghost use Rattle.emit.specs.Answers.{unframed, accepted, Answers};
+ghost use Rattle.emit.specs.Answers.{accepted, Answers};
 ghost use Rattle.layout.specs.Config.{Supported, STACK, TEMP, MINUSONE, stackOffset, operands, positions};
 ghost use Rattle.layout.specs.Positions.{Table};
 ghost use Rattle.memory.specs.Blocks.{blockRegister};
 ghost use Rattle.memory.specs.Objects.{extIn, objectRecords, loadSome, loadObject};
-ghost use Rattle.memory.specs.Answered.{treeAnswer, onContext};
-ghost use Rattle.memory.specs.LoadAnswered.{loadTree, loadFits, loadAfter, loadAnswer, loadIn, loadRecordsIn};
+ghost use Rattle.memory.specs.Answered.{treeAnswer};
+ghost use Rattle.memory.specs.LoadAnswered.{loadTree, loadFits, loadAfter, loadAnswer, unframedLoad, loadIn, loadRecordsIn};
 ghost use Rattle.loading.specs.Linked.{oneIfLinked, linkedIn};
 use emit::answer::Answer;
 use emit::cursor::Cursor;
@@ -24,7 +24,8 @@ use layout::config::Shape;
 use layout::config::Shaped;
 use layout::config::TEMP;
 use layout::utils::ENTRIES;
-use records::check::Checked;
+use records::context;
+use records::context::ContextRead;
 use records::number::ADDIM;
 use records::number::CMPIM;
 use records::number::JEL;
@@ -245,11 +246,14 @@ pub fn load(
 
 // What a frame of another number of spills is answered.
 fn unframed(loaded: &[u8], existing: &[u8]) -> Answer
-    ensures { λ r. ⌜ (r ≡ onContext (checkedContext (now (loaded .entry))) (λ n. unframed (checkedContext (now (existing .entry))))) × (accepted r ≡ false) ⌝ }
+    ensures { λ r. ⌜ (r ≡ unframedLoad (now (loaded .entry)) (now (existing .entry))) × (accepted r ≡ false) ⌝ }
 {
-    match records::binding::check_context(loaded) {
-        Checked::Good(_) => emit::answer::unframed(existing),
-        Checked::Malformed(_) => Answer::Context,
+    match context::check_context(existing) {
+        ContextRead::Good(v) => match context::check_after(v, loaded) {
+            ContextRead::Good(_) => Answer::Operand,
+            ContextRead::Bad(flaw) => Answer::Context(flaw),
+        },
+        ContextRead::Bad(flaw) => Answer::Context(flaw),
     }
 }
 
@@ -257,11 +261,11 @@ fn load_in(out: &mut [u8], g: Shape, counter: u64, loaded: &[u8], existing: &[u8
     requires { ⌜ Supported g ⌝ }
     ensures { λ r. ⌜ Answers (now (out .entry)) (now (out .exit)) r (loadAnswer g counter (length (now (out .entry))) (now (loaded .entry)) (now (existing .entry))) (flat (loadTree g (now (loaded .entry)) (now (existing .entry))) counter) ⌝ }
 {
-    let Checked::Good(n) = records::binding::check_context(loaded) else {
-        return Answer::Context;
-    };
-    let Checked::Good(v) = records::binding::check_context(existing) else {
-        return Answer::Context;
-    };
-    load_after(out, g, counter, loaded, v as u64, n as u64)
+    match context::check_context(existing) {
+        ContextRead::Good(v) => match context::check_after(v, loaded) {
+            ContextRead::Good(n) => load_after(out, g, counter, loaded, v as u64, n as u64),
+            ContextRead::Bad(flaw) => Answer::Context(flaw),
+        },
+        ContextRead::Bad(flaw) => Answer::Context(flaw),
+    }
 }

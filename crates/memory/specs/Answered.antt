@@ -3,8 +3,8 @@ use Prim.Native.Nat.{ℕ, _*_, _-_}
 use mathlib.Core.Bool.{cond}
 use mathlib.Core.List.{List, []}
 use lib.Dec.{ltb, eqb}
-use Rattle.records.specs.declared.check.Checked.{Checked}
-use Rattle.records.specs.declared.check.Checked.the-variants.{Good, Malformed}
+use Rattle.records.specs.declared.context.ContextRead.{ContextRead}
+use Rattle.records.specs.declared.context.ContextRead.the-variants.{Good, Bad}
 use Rattle.records.specs.declared.code.Code.{Code}
 use Rattle.records.specs.Contexts.{checkedContext}
 use Rattle.emit.specs.declared.answer.Answer.{Answer}
@@ -41,14 +41,14 @@ shareIn frame counter room w n = inFrame frame (λ g. shareAnswer g counter room
 abbrev pub shareRecordsIn : ℕ → ℕ → ℕ → ℕ → List Code
 shareRecordsIn frame counter w n = inFrame frame (λ g. flat (shareBlock g w n) counter) []
 
--- by the number of variables of a context, which is refused where it is malformed
-abbrev pub onContext : Checked → (ℕ → Answer) → Answer
+-- by the number of variables of a context, which is refused where it is bad
+abbrev pub onContext : ContextRead → (ℕ → Answer) → Answer
 onContext (Good k) answer = answer k
-onContext (Malformed place) answer = Context
+onContext (Bad flaw) answer = Context flaw
 
-abbrev pub variablesIn : Checked → ℕ
+abbrev pub variablesIn : ContextRead → ℕ
 variablesIn (Good k) = k
-variablesIn (Malformed place) = 0
+variablesIn (Bad flaw) = 0
 
 -- the last n variables of a context into an object
 abbrev pub storeTree : Shape → List ℕ → ℕ → Tree

@@ -1,10 +1,11 @@
--- What a load answers. From document 01, 'Causes and numbers', in rising order; a load of none writes no records after any length.
+-- What a load answers. From document 01, 'Causes and numbers', in rising order, and document 02, Job 2: the existing context wholly before the variables to load, whose places
+-- count on, as in an order; a load of none writes no records after any length.
 use Prim.Native.Nat.{ℕ, _+_, _*_, _-_}
 use mathlib.Core.Bool.{Bool, true, cond}
 use mathlib.Core.List.{List, []}
 use lib.Dec.{ltb, eqb}
 use Rattle.records.specs.declared.code.Code.{Code}
-use Rattle.records.specs.Contexts.{checkedContext}
+use Rattle.records.specs.Contexts.{checkedContext, countedOn}
 use Rattle.emit.specs.declared.answer.Answer.{Answer}
 use Rattle.emit.specs.declared.answer.Answer.the-variants.{Position, Edition}
 use Rattle.emit.specs.Answers.{unframed}
@@ -30,14 +31,18 @@ loadAfter g counter room loaded v n =
 
 unfoldable pub loadAnswer : Shape → ℕ → ℕ → List ℕ → List ℕ → Answer
 loadAnswer g counter room loaded existing =
-    onContext (checkedContext loaded)
-    (λ n. onContext (checkedContext existing) (λ v. loadAfter g counter room loaded v n))
+    onContext (checkedContext existing)
+    (λ v. onContext (countedOn v (checkedContext loaded)) (λ n. loadAfter g counter room loaded v n))
 
--- the answer and the records in an edition and a frame of so many spills: the context to load is checked first
+-- 3 where there is no such frame, after both contexts
+abbrev pub unframedLoad : List ℕ → List ℕ → Answer
+unframedLoad loaded existing = onContext (checkedContext existing) (λ v. unframed (countedOn v (checkedContext loaded)))
+
+-- the answer and the records in an edition and a frame of so many spills
 abbrev pub loadIn : ℕ → ℕ → ℕ → ℕ → List ℕ → List ℕ → Answer
 loadIn edition frame counter room loaded existing =
     inShape (shapeOf edition frame) (λ g. loadAnswer g counter room loaded existing)
-    (onContext (checkedContext loaded) (λ n. unframed (checkedContext existing))) Edition
+    (unframedLoad loaded existing) Edition
 
 abbrev pub loadRecordsIn : ℕ → ℕ → ℕ → List ℕ → List ℕ → List Code
 loadRecordsIn edition frame counter loaded existing = inShape (shapeOf edition frame) (λ g. flat (loadTree g loaded existing) counter) [] []

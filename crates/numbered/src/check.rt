@@ -2,21 +2,44 @@
 ghost use mathlib.Core.Path.{_≡_};
 ghost use mathlib.Core.List.{[], _∷_};
 ghost use Rattle.records.specs.Checked.{causeOf};
-ghost use Rattle.records.specs.Contexts.{checkedContext, contextCause};
+ghost use Rattle.records.specs.Contexts.{checkedContext, flawCause, contextCause};
 ghost use Rattle.records.specs.Instructions.{checkedCodes};
 ghost use Rattle.records.specs.Orders.{orderRead, orderCause};
 ghost use Rattle.numbered.specs.Numbers.{numbersIn};
 use records::check::Checked;
+use records::context::ContextRead;
+use records::context::Flaw;
 use records::order::OrderRead;
 
-// Number 1 goes without a place.
+// What is bad in a context, as its number and its place. Every answer that carries it tells it so.
+pub fn flaw_told(flaw: Flaw, place: &mut u64) -> u64
+    ensures { λ r. ⌜ r ∷ now (place .exit) ∷ [] ≡ numbersIn (flawCause flaw) ⌝ }
+{
+    match flaw {
+        Flaw::Length => {
+            *place = 0;
+            15
+        }
+        Flaw::Mark(at) => {
+            *place = at as u64;
+            16
+        }
+        Flaw::Kind(at) => {
+            *place = at as u64;
+            17
+        }
+    }
+}
+
 pub fn check_context(bytes: &[u8], place: &mut u64) -> u64
     ensures { λ r. ⌜ r ∷ now (place .exit) ∷ [] ≡ numbersIn (contextCause (checkedContext (now (bytes .entry)))) ⌝ }
 {
-    *place = 0;
-    match records::binding::check_context(bytes) {
-        Checked::Good(_) => 0,
-        Checked::Malformed(_) => 1,
+    match records::context::check_context(bytes) {
+        ContextRead::Good(_) => {
+            *place = 0;
+            0
+        }
+        ContextRead::Bad(flaw) => flaw_told(flaw, place),
     }
 }
 

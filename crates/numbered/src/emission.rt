@@ -4,6 +4,7 @@ ghost use mathlib.Core.List.{[], _∷_};
 ghost use lib.ListN.{length};
 ghost use Rattle.emit.specs.Answers.{Answers};
 ghost use Rattle.numbered.specs.Emission.{answerNumbers, counterAfter, operationNumbered, memoryAnswer, memoryRecords};
+use crate::check;
 use code::emitters::Condition;
 use emit::answer::Answer;
 use layout::config;
@@ -21,7 +22,7 @@ pub fn told(answer: Answer, value: &mut u64) -> u64
             *value = records as u64;
             0
         }
-        Answer::Context => 1,
+        Answer::Context(flaw) => check::flaw_told(flaw, value),
         Answer::Body(place) => {
             *value = place as u64;
             2
@@ -46,7 +47,7 @@ pub fn counter_after(answer: Answer, counter: u64) -> u64
 {
     match answer {
         Answer::Written(_, after) => after,
-        Answer::Context => counter,
+        Answer::Context(_) => counter,
         Answer::Body(_) => counter,
         Answer::Operand => counter,
         Answer::Missing => counter,

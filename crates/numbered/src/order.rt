@@ -3,6 +3,7 @@ ghost use mathlib.Core.Path.{_≡_};
 ghost use mathlib.Core.List.{[], _∷_};
 ghost use Rattle.orders.specs.Answered.{counterAfter};
 ghost use Rattle.numbered.specs.Order.{orderNumbers};
+use crate::check;
 use orders::answer::Answer;
 
 // An answer as its number, with the records written, a place or the bytes needed, and the bindings of the context after it.
@@ -17,7 +18,7 @@ pub fn told(answer: Answer, value: &mut u64, bindings: &mut u64) -> u64
             *bindings = count as u64;
             0
         }
-        Answer::Context => 1,
+        Answer::Context(flaw) => check::flaw_told(flaw, value),
         Answer::Malformed(place) => {
             *value = place as u64;
             2
@@ -42,7 +43,7 @@ pub fn counter_after(answer: Answer, counter: u64) -> u64
 {
     match answer {
         Answer::Accepted(_, after, _) => after,
-        Answer::Context => counter,
+        Answer::Context(_) => counter,
         Answer::Malformed(_) => counter,
         Answer::Frame => counter,
         Answer::Missing => counter,

@@ -2,6 +2,7 @@
 ghost use mathlib.Core.Path.{_≡_};
 ghost use mathlib.Core.List.{[], _∷_};
 ghost use Rattle.numbered.specs.Query.{temporaryNumbers, offsetNumbers, halfOf};
+use crate::check;
 use layout::config::Offset;
 use layout::utils::Temporary;
 use layout::utils::TemporaryNumber;
@@ -15,10 +16,7 @@ pub fn located(temporary: Temporary, value: &mut u64) -> u64
             *value = operand;
             0
         }
-        Temporary::Malformed => {
-            *value = 0;
-            1
-        }
+        Temporary::Context(flaw) => check::flaw_told(flaw, value),
         Temporary::Frame => {
             *value = 0;
             3

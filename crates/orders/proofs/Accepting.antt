@@ -7,11 +7,12 @@ use native.Mathlib.Omega.{arith}
 use lib.Dec.{ltb, leb, eqb}
 use lib.ListN.{length}
 use borrow.Author.Tests.{eqb-true, ltb-false, leb-true}
-use Rattle.records.specs.declared.check.Checked.{Checked}
-use Rattle.records.specs.declared.check.Checked.the-variants as checked
-use Rattle.records.specs.Contexts.{checkedContext}
+use Rattle.records.specs.declared.context.ContextRead.{ContextRead}
+use Rattle.records.specs.declared.context.ContextRead.the-variants as checked
+use Rattle.records.specs.Contexts.{checkedContext, countedOn}
 use Rattle.records.specs.Orders.{orderStarts}
 use Rattle.records.proofs.Conditions.{chosen, passed}
+use Rattle.records.proofs.ContextsRead.{counted-good}
 use Rattle.trees.specs.Tree.{Tree, labels, size}
 use Rattle.layout.specs.declared.config.Shape.{Shape}
 use Rattle.layout.specs.Config.{positions}
@@ -37,9 +38,9 @@ pub record Taken (G : Shape) (context : List ℕ) (q : Asked) (k : ℕ) : Type 0
   pub context-fits : length (contextAfter context k (q .bindings) (orderIs q)) ≤ q .contextRoom
   pub answer : answerTo G context q ≡ acceptance q (treeOf G context k (q .bindings) (orderIs q)) (contextAfter context k (q .bindings) (orderIs q))
 
-on-good : (c : Checked) (f : ℕ → Answer) → accepted (onContext c f) ≡ true → (k : ℕ) × (c ≡ checked.Good k) × (accepted (f k) ≡ true)
+on-good : (c : ContextRead) (f : ℕ → Answer) → accepted (onContext c f) ≡ true → (k : ℕ) × (c ≡ checked.Good k) × (accepted (f k) ≡ true)
 on-good (checked.Good k) f e = (k, refl, e)
-on-good (checked.Malformed place) f e = let z : _≡_ {A = ℕ} 0 1 = cc in absurd (omega arith)
+on-good (checked.Bad flaw) f e = let z : _≡_ {A = ℕ} 0 1 = cc in absurd (omega arith)
 
 module _ (q : Asked) (t : Tree) (after : List ℕ) where
   pub record Granted : Type 0 where
@@ -85,7 +86,7 @@ module _ (G : Shape) (context : List ℕ) (q : Asked) (k : ℕ) where
         answer = rw (a .0, b .0, c .0, d .0) (g .answer);
       }
 
--- an order that passes 1 and 2, and one that passes 4 to 8
+-- an order that passes 15 to 17 and 2, and one that passes 4 to 8
 pub all-passed : (G : Shape) (context : List ℕ) (q : Asked) {k m : ℕ} → checkedContext context ≡ checked.Good k → checkedContext (q .bindings) ≡ checked.Good m → orderStarts (q .order) ≡ true
     → eqb m (wanted (orderIs q)) ≡ true → eqb (length (q .order)) 24 ≡ true → answerTo G context q ≡ decided G context k q
 unfolding answerTo
@@ -105,13 +106,14 @@ unfolding answerTo
 taken G context q k good e =
     let a = on-good (checkedContext context) _ e in
     let same : a .0 ≡ k = good-same (sym (a .1) ∙ good) in
-    let b = on-good (checkedContext (q .bindings)) _ (a .2) in
+    let b = on-good (countedOn (a .0) (checkedContext (q .bindings))) _ (a .2) in
+    let bindings = counted-good (a .0) (checkedContext (q .bindings)) (b .1) in
     let c = chosen accepted (orderStarts (q .order)) _ (Malformed 1) refl (b .2) in
     let d = chosen accepted (eqb (b .0) (wanted (orderIs q))) _ (Malformed 1) refl (c .1) in
     let f = chosen accepted (eqb (length (q .order)) 24) _ (Malformed 2) refl (d .1) in
     let g = decided-if G context q k (rw same at (f .1)) in
     record {
-      bindings-good = b .1 ∙ ap checked.Good (eqb-true (b .0) (wanted (orderIs q)) (d .0));
+      bindings-good = bindings ∙ ap checked.Good (eqb-true (b .0) (wanted (orderIs q)) (d .0));
       starts = c .0;
       alone = f .0;
       there = g .there;
@@ -121,7 +123,7 @@ taken G context q k good e =
       labelled = g .grants .labelled;
       records-fit = g .grants .records-fit;
       context-fits = g .grants .context-fits;
-      answer = all-passed G context q good (b .1) (c .0) (d .0) (f .0) ∙ g .answer;
+      answer = all-passed G context q good bindings (c .0) (d .0) (f .0) ∙ g .answer;
     }
   where
     good-same : {j : ℕ} → checked.Good j ≡ checked.Good k → j ≡ k
@@ -132,11 +134,11 @@ pub unframed-refused : (context : List ℕ) (q : Asked) → accepted (unframed c
 unfolding unframed
 unframed-refused context q =
     on-any (checkedContext context) _
-    (λ k. on-any (checkedContext (q .bindings)) _ (λ m. read-any (orderStarts (q .order)) (eqb m (wanted (orderIs q))) (eqb (length (q .order)) 24)))
+    (λ k. on-any (countedOn k (checkedContext (q .bindings))) _ (λ m. read-any (orderStarts (q .order)) (eqb m (wanted (orderIs q))) (eqb (length (q .order)) 24)))
   where
-    on-any : (c : Checked) (f : ℕ → Answer) → ((k : ℕ) → accepted (f k) ≡ false) → accepted (onContext c f) ≡ false
+    on-any : (c : ContextRead) (f : ℕ → Answer) → ((k : ℕ) → accepted (f k) ≡ false) → accepted (onContext c f) ≡ false
     on-any (checked.Good k) f h = h k
-    on-any (checked.Malformed place) f h = refl
+    on-any (checked.Bad flaw) f h = refl
 
     read-any : (a b d : Bool) → accepted (cond a (cond b (cond d Frame (Malformed 2)) (Malformed 1)) (Malformed 1)) ≡ false
     read-any true true true = refl

@@ -1,15 +1,16 @@
--- What an order is answered with, on every input. From document 01, 'Causes and numbers', in rising order.
+-- What an order is answered with, on every input. From document 01, 'Causes and numbers', in rising order, and document 02, Job 2: 15 to 17, for the context and then for
+-- the bindings, come before 2.
 use Prim.Native.Nat.{ℕ, _+_, _*_, _/_}
 use mathlib.Core.Bool.{Bool, true, false, cond}
 use mathlib.Core.List.{List, [], _∷_}
 use lib.Dec.{ltb, leb, eqb}
 use lib.ListN.{length, getD}
 use lib.Seq.{sets}
-use Rattle.records.specs.Causes.{ACCEPTED, CONTEXT, MALFORMED, OPERAND, MISSING, KIND, COUNT, POSITION, LABELS, ROOM, EDITION}
-use Rattle.records.specs.declared.check.Checked.{Checked}
-use Rattle.records.specs.declared.check.Checked.the-variants as checked
+use Rattle.records.specs.Causes.{ACCEPTED, MALFORMED, OPERAND, MISSING, KIND, COUNT, POSITION, LABELS, ROOM, EDITION}
+use Rattle.records.specs.declared.context.ContextRead.{ContextRead}
+use Rattle.records.specs.declared.context.ContextRead.the-variants.{Good, Bad}
 use Rattle.records.specs.declared.order.Order.{Order}
-use Rattle.records.specs.Contexts.{checkedContext}
+use Rattle.records.specs.Contexts.{checkedContext, countedOn, flawCause}
 use Rattle.records.specs.Orders.{orderOf, orderIn, orderStarts}
 use Rattle.records.specs.ReadBack.{joined, codeBytes}
 use Rattle.trees.specs.Tree.{Tree, labels, size, flat}
@@ -24,7 +25,7 @@ use Rattle.orders.specs.Writes.{wanted, countOk, treeOf, contextAfter, p
 -- document 01's number and values for each answer: 0, with the records, the bindings and the counter after them, where the order is accepted
 abbrev pub causeOf : Answer → List ℕ
 causeOf (Accepted records counter bindings) = ACCEPTED ∷ records ∷ bindings ∷ counter ∷ []
-causeOf Context = CONTEXT ∷ []
+causeOf (Context flaw) = flawCause flaw
 causeOf (Malformed place) = MALFORMED ∷ place ∷ []
 causeOf Frame = OPERAND ∷ []
 causeOf Missing = MISSING ∷ []
@@ -41,7 +42,7 @@ counterAfter counter r = getD (causeOf r) 3 counter
 
 abbrev pub accepted : Answer → Bool
 accepted (Accepted records counter bindings) = true
-accepted Context = false
+accepted (Context flaw) = false
 accepted (Malformed place) = false
 accepted Frame = false
 accepted Missing = false
@@ -92,15 +93,15 @@ decided g context k q =
     (granted q (treeOf g context k (q .bindings) (orderIs q)) (contextAfter context k (q .bindings) (orderIs q)))
     Position) Count) Kind) Missing
 
-abbrev pub onContext : Checked → (ℕ → Answer) → Answer
-onContext (checked.Good k) answer = answer k
-onContext (checked.Malformed place) answer = Context
+abbrev pub onContext : ContextRead → (ℕ → Answer) → Answer
+onContext (Good k) answer = answer k
+onContext (Bad flaw) answer = Context flaw
 
--- 1 for the context and the bindings, 2 for the order: record 1, the number of its bindings, a record too many; then what is answered on the context's variables
+-- 15 to 17 for the context, then for the bindings, whose places count on; 2 for the order: record 1, the number of its bindings, a record too many; then what is answered on the context's variables
 abbrev pub read : List ℕ → Asked → (ℕ → Answer) → Answer
 read context q answer =
     onContext (checkedContext context)
-    (λ k. onContext (checkedContext (q .bindings))
+    (λ k. onContext (countedOn k (checkedContext (q .bindings)))
     (λ m. cond (orderStarts (q .order))
     (cond (eqb m (wanted (orderIs q)))
     (cond (eqb (length (q .order)) 24) (answer k) (Malformed 2))
@@ -110,7 +111,7 @@ read context q answer =
 unfoldable pub answerTo : Shape → List ℕ → Asked → Answer
 answerTo g context q = read context q (λ k. decided g context k q)
 
--- 3 for another number of spills than a frame has, after 1 and 2
+-- 3 for another number of spills than a frame has, after 15 to 17 and 2
 unfoldable pub unframed : List ℕ → Asked → Answer
 unframed context q = read context q (λ k. Frame)
 

@@ -1,10 +1,11 @@
 // What an order is answered with.
+use records::context::Flaw;
 
 // Accepted, with the number of records, the counter after them and the number of bindings in the context after them; or refused, by the documents' causes.
 pub enum Answer {
     Accepted(usize, u64, usize),
-    // 1: the context or the bindings
-    Context,
+    // 15 to 17: what is bad in the context or in the bindings, with its place; those of the bindings count on
+    Context(Flaw),
     // 2: the order, or the number of its bindings, with the record's place
     Malformed(usize),
     // 3: no frame of so many spills

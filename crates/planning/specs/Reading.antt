@@ -3,7 +3,7 @@ use Prim.Native.Nat.{ℕ}
 use mathlib.Core.Path.{_≡_}
 use mathlib.Core.List.{List, [], _∷_}
 use lib.ListN.{take, drop}
-use Rattle.records.specs.declared.check.Checked.the-variants.{Good}
+use Rattle.records.specs.declared.context.ContextRead.the-variants.{Good}
 use Rattle.records.specs.declared.order.Order.{Order}
 use Rattle.records.specs.declared.order.Order.the-variants.{Put, Compute, Copy, Drop, Store, Load, Print}
 use Rattle.records.specs.declared.order.OrderRead.the-variants.{Whole}

@@ -30,7 +30,8 @@ use Rattle.orders.specs.declared.answer.Answer.the-variants.{Accepted, Context,
 use Rattle.orders.proofs.answer.Answer.{the-type}
 use Rattle.orders.specs.Writes.{treeOf, contextAfter}
 use Rattle.orders.specs.Answered.{Asked, accepted, orderIs, orderTree, orderContext, answerTo, unframed, recordsOf}
-use Rattle.judging.proofs.Leaving.{context-long, after-long}
+use Rattle.records.proofs.ContextsRead.{context-long}
+use Rattle.judging.proofs.Leaving.{after-long}
 use Rattle.answering.specs.Answers.{AnswersOrder}
 use Rattle.answering.specs.Answers as answering
 use Rattle.playing.specs.declared.channel.Channel as code
@@ -83,7 +84,7 @@ all-used s used h w = rw (take-all used s h) w
 -- an answer that is none but the first of its kinds is a refusal
 pub not-accepted : (r : Answer) → OneOf (1 ∷ 2 ∷ 3 ∷ 4 ∷ 5 ∷ 6 ∷ 7 ∷ 8 ∷ 9 ∷ 10 ∷ []) (tagOf the-type r) → accepted r ≡ false
 not-accepted (Accepted records counter bindings) k = absurd (miss (1 ∷ 2 ∷ 3 ∷ 4 ∷ 5 ∷ 6 ∷ 7 ∷ 8 ∷ 9 ∷ 10 ∷ []) 0 tt k)
-not-accepted Context k = refl
+not-accepted (Context flaw) k = refl
 not-accepted (Malformed place) k = refl
 not-accepted Frame k = refl
 not-accepted Missing k = refl

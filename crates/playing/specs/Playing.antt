@@ -87,7 +87,7 @@ pub record Stays (c : code.Channel) (expected : Answer) (c′ : code.Channel) (h
   pub ran : AnswersBy machine.causeOf a (Ended 0)
   pub records : o′ ≡ o
 
--- where there is no such frame an order is answered 1, 2 or 3
+-- where there is no such frame an order is answered 15 to 17, 2 or 3
 abbrev pub unframedOn : code.Channel → Asked → Answer
 unframedOn c q = unframed (take (c .used) (c .context)) q
 

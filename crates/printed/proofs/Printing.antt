@@ -10,7 +10,7 @@ use lib.Dec.{ltb}
 use lib.ListN.{length}
 use borrow.Author.Tests.{ltb-true, ltb-false}
 use Rattle.records.specs.declared.code.Code.the-variants.{MOV, MOVL, CALL}
-use Rattle.records.specs.declared.check.Checked.the-variants.{Good}
+use Rattle.records.specs.declared.context.ContextRead.the-variants.{Good}
 use Rattle.records.specs.Contexts.{extAt}
 use Rattle.trees.specs.Tree.{nop, leaf, seq}
 use Rattle.layout.specs.declared.config.Shape.{Shape}

@@ -1,13 +1,13 @@
 -- What print_i64 writes and answers. From code.rs, print_i64, save_caller_save_registers and restore_caller_save_registers, and document 01:
--- 'An even count of pushes, zero included, subtracts 8 from STACK'. Causes in rising order: 1 the context, 3 the frame or the source, 10 the room; no labels are drawn.
+-- 'An even count of pushes, zero included, subtracts 8 from STACK'. Causes: 15 to 17 the context, then 3 the frame or the source, 10 the room; no labels are drawn.
 use Prim.Native.Nat.{ℕ, _+_, _*_, _-_, _%_}
 use mathlib.Core.Path.{_≡_, refl}
 use mathlib.Core.Bool.{Bool, true, cond}
 use mathlib.Core.List.{List, [], _∷_}
 use lib.Dec.{ltb, eqb}
 use lib.ListN.{length, take, drop}
-use Rattle.records.specs.declared.check.Checked.{Checked}
-use Rattle.records.specs.declared.check.Checked.the-variants.{Good, Malformed}
+use Rattle.records.specs.declared.context.ContextRead.{ContextRead}
+use Rattle.records.specs.declared.context.ContextRead.the-variants.{Good, Bad}
 use Rattle.records.specs.declared.code.Code.{Code}
 use Rattle.records.specs.declared.code.Code.the-variants.{ADDI, SUBI, MOV, MOVL, PUSH, POP, CALL}
 use Rattle.records.specs.Contexts.{checkedContext, extAt}
@@ -80,15 +80,15 @@ printI64 g newline w ext n =
     printSaving g newline w (firstBackup n) (backupsUsed n (length (registersToSave ext n))) (registersToSave ext n)
 
 -- its answer for an output of so many bytes, where the context's check came out so
-abbrev pub printAnswer : Shape → ℕ → Bool → ℕ → List ℕ → Checked → Answer
+abbrev pub printAnswer : Shape → ℕ → Bool → ℕ → List ℕ → ContextRead → Answer
 printAnswer g room newline w s (Good n) =
     cond (operandOk g w) (granted 0 room (24 * size (printI64 g newline w (extAt s) n)) 0) Operand
-printAnswer g room newline w s (Malformed place) = Context
+printAnswer g room newline w s (Bad flaw) = Context flaw
 
 -- its records
-abbrev pub printRecords : Shape → Bool → ℕ → List ℕ → Checked → List Code
+abbrev pub printRecords : Shape → Bool → ℕ → List ℕ → ContextRead → List Code
 printRecords g newline w s (Good n) = flat (printI64 g newline w (extAt s) n) 0
-printRecords g newline w s (Malformed place) = []
+printRecords g newline w s (Bad flaw) = []
 
 -- its answer and its records in a frame of so many spills, in the context s
 abbrev pub printIn : ℕ → ℕ → Bool → ℕ → List ℕ → Answer

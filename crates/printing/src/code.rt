@@ -2,7 +2,7 @@
 ghost use mathlib.Core.Path.{_≡_};
 ghost use Prim.Native.Nat.{_+_, _*_, _≤_, _<_, _^_};
 ghost use lib.ListN.{length};
-ghost use Rattle.records.specs.declared.check.Checked.the-variants.{Good};
+ghost use Rattle.records.specs.declared.context.ContextRead.the-variants.{Good};
 ghost use Rattle.records.specs.Contexts.{checkedContext, extAt};
 ghost use Rattle.emit.specs.Answers.{Answers};
 ghost use Rattle.emit.specs.Emitted.{Emits};
@@ -17,7 +17,7 @@ use layout::config::Choice;
 use layout::config::STACK;
 use layout::config::Shape;
 use layout::config::TEMP;
-use records::check::Checked;
+use records::context::ContextRead;
 use records::number::CALL;
 use records::number::MOV;
 use records::number::MOVL;
@@ -135,8 +135,8 @@ fn print_i64_in(out: &mut [u8], g: Shape, newline: bool, source: u64, context: &
     requires { ⌜ Supported g ⌝ }
     ensures { λ r. ⌜ Answers (now (out .entry)) (now (out .exit)) r (printAnswer g (length (now (out .entry))) newline source (now (context .entry)) (checkedContext (now (context .entry)))) (printRecords g newline source (now (context .entry)) (checkedContext (now (context .entry)))) ⌝ }
 {
-    match records::binding::check_context(context) {
-        Checked::Good(n) => print_checked(out, g, newline, source, context, n),
-        Checked::Malformed(_) => Answer::Context,
+    match records::context::check_context(context) {
+        ContextRead::Good(n) => print_checked(out, g, newline, source, context, n),
+        ContextRead::Bad(flaw) => Answer::Context(flaw),
     }
 }

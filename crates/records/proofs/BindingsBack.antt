@@ -1,7 +1,7 @@
 -- A binding written as a record and read back, and a record read as a binding and written again.
 use Prim.Native.Nat.{ℕ, _≤_}
 use mathlib.Core.Path.{_≡_, refl, sym}
-use mathlib.Core.Bool.{Bool, true, false, cond}
+use mathlib.Core.Bool.{Bool, true, false, _&&_, cond}
 use mathlib.Core.List.{List, _++_}
 use native.Mathlib.Omega.{arith}
 use lib.Dec.{leb, eqb}
@@ -11,7 +11,7 @@ use Rattle.records.specs.declared.binding.Kind.{Kind}
 use Rattle.records.specs.declared.binding.Kind.the-variants.{Linked, Ext}
 use Rattle.records.specs.declared.binding.Binding.{Binding}
 use Rattle.records.specs.Bytes.{le, number}
-use Rattle.records.specs.Contexts.{kindByte, kindOf, bindingBytes, bindingIn, bindingStarts}
+use Rattle.records.specs.Contexts.{kindByte, kindOf, bindingBytes, bindingIn, marked, kindOk, bindingStarts}
 use Rattle.records.specs.ReadBack.{Bytes, WellFormedBinding}
 use Rattle.records.proofs.Conditions.{both}
 use Rattle.records.proofs.Digits.{number-le, le-number, first-four}
@@ -45,11 +45,11 @@ module _ (s : List ℕ) (e : bindingStarts s ≡ true) where
   parts : (8 ≤ length s) × (getD s 0 0 ≡ 0xA7) × (getD s 1 0 ≡ 0x01) × (getD s 2 0 ≤ 1) × (getD s 3 0 ≡ 0)
   unfolding bindingStarts
   parts =
-      let p₄ = both _ (eqb (getD s 3 0) 0) e in
-      let p₃ = both _ (leb (getD s 2 0) 1) (p₄ .0) in
-      let p₂ = both _ (eqb (getD s 1 0) 0x01) (p₃ .0) in
-      let p₁ = both _ (eqb (getD s 0 0) 0xA7) (p₂ .0) in
-      (leb-true 8 _ (p₁ .0), eqb-true _ 0xA7 (p₁ .1), eqb-true _ 0x01 (p₂ .1), leb-true _ 1 (p₃ .1), eqb-true _ 0 (p₄ .1))
+      let p = both (leb 8 (length s)) (marked s && kindOk s) e in
+      let q = both (marked s) (kindOk s) (p .1) in
+      let m = both (eqb (getD s 0 0) 0xA7) (eqb (getD s 1 0) 0x01) (q .0) in
+      let k = both (leb (getD s 2 0) 1) (eqb (getD s 3 0) 0) (q .1) in
+      (leb-true 8 _ (p .0), eqb-true _ 0xA7 (m .0), eqb-true _ 0x01 (m .1), leb-true _ 1 (k .0), eqb-true _ 0 (k .1))
 
   written : Bytes s → bindingBytes (bindingIn s) ++ drop 8 s ≡ s
   unfolding bindingBytes bindingIn le

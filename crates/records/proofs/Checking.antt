@@ -6,6 +6,7 @@ use mathlib.Core.List.{List}
 use native.Mathlib.Nat.{sub-zero, mul-suc}
 use native.Mathlib.Numerals.{add-one}
 use native.Mathlib.Omega.{arith}
+use native.Mathlib.Decide.{ℕ-discrete}
 use lib.Dec.{ltb}
 use lib.ListN.{length, drop, length-drop}
 use borrow.Author.Tests.{lt-ltb, le-ltb, ltb-true}
@@ -48,6 +49,23 @@ all-checked ok size limit s k zero m e = let q : m ≡ k = cc in omega arith
 all-checked ok size limit s k (suc n) m e =
     let p = passed (ltb k limit && ok (drop (size * k) s)) (firstBad ok size limit s (suc k) n) (suc k) e in
     omega (arith, all-checked ok size limit s (suc k) n m (p .1))
+
+-- and passed
+module _ (ok : List ℕ → Bool) (size limit : ℕ) (s : List ℕ) where
+  abbrev Passed : ℕ → ℕ → Type 0
+  Passed k m = (i : ℕ) → k ≤ i → i < m → ok (drop (size * i) s) ≡ true
+
+  pub all-passed : (k n m : ℕ) → firstBad ok size limit s k n ≡ Good m → Passed k m
+  unfolding firstBad
+  all-passed k zero m e = let q : m ≡ k = cc in λ i h l. absurd (omega arith)
+  all-passed k (suc n) m e =
+      let t = drop (size * k) s in
+      let p = passed (ltb k limit && ok t) (firstBad ok size limit s (suc k) n) (suc k) e in
+      λ i h l. by i h l (both (ltb k limit) (ok t) (p .0) .1) (all-passed (suc k) n m (p .1)) (ℕ-discrete i k)
+    where
+      by : (i : ℕ) → k ≤ i → i < m → ok (drop (size * k) s) ≡ true → Passed (suc k) m → Dec (i ≡ k) → ok (drop (size * i) s) ≡ true
+      by i h l b r (yes e) = rw e b
+      by i h l b r (no f) = r i (omega arith) l
 
 -- a list that is accepted has no more records than the limit, all of them whole
 module _ (ok : List ℕ → Bool) (size limit : ℕ) (s : List ℕ) (whole : (t : List ℕ) → ok t ≡ true → size ≤ length t) where

@@ -1,19 +1,17 @@
 -- Lists of records of one kind, from what holds of one record: each is read at its place, the list is accepted, and a list that is accepted is the records of its items.
 use Prim.Native.Nat.{ℕ, zero, suc, _+_, _*_, _≤_, _<_}
-use mathlib.Core.Path.{_≡_, sym}
-use mathlib.Core.Bool.{Bool, true, _&&_}
+use mathlib.Core.Path.{_≡_, sym, _∙_}
+use mathlib.Core.Bool.{Bool, true}
 use mathlib.Core.List.{List, [], _∷_, _++_, append-assoc}
 use native.Mathlib.Nat.{zero-add, add-zero, add-suc, suc-add, add-comm, mul-zero, mul-suc, le-of-suc-le-suc, not-suc-le-zero}
 use native.Mathlib.Omega.{arith}
-use lib.Dec.{ltb}
 use lib.ListN.{length, getD, drop, length-append, drop-of-length-le}
 use lib.Seq.{drop-cons, drop-at, drop-drop}
 use borrow.Author.Tests.{lt-ltb}
 use Rattle.records.specs.declared.check.Checked.the-variants.{Good}
 use Rattle.records.specs.Checked.{firstBad, places, checked}
 use Rattle.records.specs.ReadBack.{Each, Bytes, joined, items}
-use Rattle.records.proofs.Checking.{passed}
-use Rattle.records.proofs.Conditions.{and-right}
+use Rattle.records.proofs.Checking.{all-checked, all-passed}
 use Rattle.records.proofs.Each.{each-at, each-drop}
 
 -- the records of one kind: their size, the bytes of an item, whether a list starts with a record, the item of that record, and which items have one
@@ -62,20 +60,22 @@ module _ {A : Type 0} {size : ℕ} {bytes : A → List ℕ} {starts : List ℕ �
   accepted limit xs each h e =
       rw e (rw zero-add at (all-good limit (joined bytes xs) xs 0 each (rw mul-zero) (rw zero-add h)))
 
-  -- from place k + 1 on, a check that ends well has passed each record
-  all-written : (limit m : ℕ) (s : List ℕ) → Bytes s → (n k : ℕ) → length s ≤ size * (k + n) → firstBad starts size limit s k n ≡ Good m
-      → (m ≡ k + n) × (joined bytes (items size item n (drop (size * k) s)) ≡ drop (size * k) s)
-  unfolding firstBad
-  all-written limit m s byte zero k h e = (rw add-zero (cc), sym (drop-of-length-le s (rw add-zero at h)))
-  all-written limit m s byte (suc n) k h e =
+  -- whole records from the k-th on are the records of their items
+  all-written : (s : List ℕ) → Bytes s → (n k : ℕ) → length s ≤ size * (k + n) → ((i : ℕ) → k ≤ i → i < k + n → starts (drop (size * i) s) ≡ true)
+      → joined bytes (items size item n (drop (size * k) s)) ≡ drop (size * k) s
+  all-written s byte zero k h each = sym (drop-of-length-le s (rw add-zero at h))
+  all-written s byte (suc n) k h each =
       let t = drop (size * k) s in
-      let p = passed (ltb k limit && starts t) (firstBad starts size limit s (suc k) n) (suc k) e in
-      let q = rw (suc-add, mul-suc, ← drop-drop) at (all-written limit m s byte n (suc k) (rw (suc-add, ← add-suc) h) (p .1)) in
-      (rw add-suc (q .0), rw (q .1) (laws .back t (and-right (ltb k limit) (starts t) (p .0)) (each-drop (λ b. b < 256) (size * k) s byte)))
+      let q = rw (mul-suc, ← drop-drop) at (all-written s byte n (suc k) (rw (suc-add, ← add-suc) h) (λ i a b. each i (omega arith) (omega arith))) in
+      rw q (laws .back t (each k (omega arith) (omega arith)) (each-drop (λ b. b < 256) (size * k) s byte))
+
+  pub each-written : (n : ℕ) (s : List ℕ) → Bytes s → length s ≤ size * n → ((i : ℕ) → i < n → starts (drop (size * i) s) ≡ true)
+      → joined bytes (items size item n s) ≡ s
+  each-written n s byte h each = rw mul-zero at (all-written s byte n 0 (rw zero-add h) (λ i a b. each i (omega arith)))
 
   pub written : (limit n : ℕ) (s : List ℕ) → Bytes s → length s ≤ size * places size s → checked starts size limit s ≡ Good n
       → joined bytes (items size item n s) ≡ s
   unfolding checked
   written limit n s byte h e =
-      let q = rw (zero-add, mul-zero) at (all-written limit n s byte (places size s) 0 (rw zero-add h) e) in
-      rw (q .0) (q .1)
+      let m : n ≡ places size s = all-checked starts size limit s 0 (places size s) n e ∙ zero-add (places size s) in
+      each-written n s byte (rw m h) (λ i l. all-passed starts size limit s 0 (places size s) n e i (omega arith) l)

@@ -10,6 +10,8 @@ pub mod Copying  -- bytes copied one after the other
 pub mod Checking  -- the turns and the ends of a check of a list
 pub mod CodesRead  -- an instruction record that is read
 pub mod BindingsRead  -- a binding that is read
+pub mod ContextsRead  -- a context that is checked
+pub mod Flaws  -- the claim that what is told of a context is the earliest that is bad
 pub mod OrdersRead  -- an order that is read or written
 pub mod Each  -- what holds of each element of a list
 pub mod Digits  -- numbers and their bytes, both ways

@@ -1,14 +1,10 @@
 -- The causes of a refusal and their numbers, from document 01, 'Causes and numbers', and document 02. The one table of them: what gives an answer's number and values cites it.
--- Checked in rising order, but for 23, which comes first.
+-- Checked in rising order, but for 23, which comes first, and 15 to 17, which come next.
 use Prim.Native.Nat.{ℕ}
 
 -- the input is accepted
 abbrev pub ACCEPTED : ℕ
 ACCEPTED = 0
-
--- context not whole records, bad mark, kind or zero byte, over 4,096
-abbrev pub CONTEXT : ℕ
-CONTEXT = 1
 
 -- malformed instruction or order, field not zero, too many; heap not 2 to 1,048,576 whole blocks. With the record's place, 0 for the heap
 abbrev pub MALFORMED : ℕ
@@ -53,6 +49,18 @@ FAULT = 11
 -- step limit reached before the end. With the limit
 abbrev pub LIMIT : ℕ
 LIMIT = 12
+
+-- context or bindings not whole records, or over 4,096. With place 0
+abbrev pub CONTEXT-LENGTH : ℕ
+CONTEXT-LENGTH = 15
+
+-- the earliest bad binding's mark. With its place
+abbrev pub BINDING-MARK : ℕ
+BINDING-MARK = 16
+
+-- the earliest bad binding's kind or zero byte. With its place
+abbrev pub BINDING-KIND : ℕ
+BINDING-KIND = 17
 
 -- an edition other than 1 or 2
 abbrev pub EDITION : ℕ

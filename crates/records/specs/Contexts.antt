@@ -1,17 +1,18 @@
--- Binding records: their 8 bytes, which are well formed, and contexts of them. From document 01, 'Binding record'.
-use Prim.Native.Nat.{ℕ, _+_, _*_}
+-- Binding records: their 8 bytes, which are well formed, and contexts of them. From document 01, 'Binding record', and document 02, Job 2: what is bad in a context, and where.
+use Prim.Native.Nat.{ℕ, zero, suc, _+_, _*_, _/_, _%_}
 use mathlib.Core.Bool.{Bool, _&&_, cond}
 use mathlib.Core.List.{List, [], _∷_}
 use lib.Dec.{leb, eqb}
-use lib.ListN.{length, getD}
-use Rattle.records.specs.Causes.{ACCEPTED, CONTEXT}
-use Rattle.records.specs.declared.check.Checked.{Checked}
-use Rattle.records.specs.declared.check.Checked.the-variants.{Good, Malformed}
+use lib.ListN.{length, getD, drop}
+use Rattle.records.specs.Causes.{ACCEPTED, CONTEXT-LENGTH, BINDING-MARK, BINDING-KIND}
 use Rattle.records.specs.declared.binding.Kind.{Kind}
 use Rattle.records.specs.declared.binding.Kind.the-variants.{Linked, Ext}
 use Rattle.records.specs.declared.binding.Binding.{Binding}
+use Rattle.records.specs.declared.context.Flaw.{Flaw}
+use Rattle.records.specs.declared.context.Flaw.the-variants as flaw
+use Rattle.records.specs.declared.context.ContextRead.{ContextRead}
+use Rattle.records.specs.declared.context.ContextRead.the-variants.{Good, Bad}
 use Rattle.records.specs.Bytes.{le, number}
-use Rattle.records.specs.Checked.{checked}
 
 abbrev pub kindByte : Kind → ℕ
 kindByte Linked = 0
@@ -32,20 +33,54 @@ bindingBytes b = 0xA7 ∷ 0x01 ∷ kindByte (b .kind) ∷ 0 ∷ le 4 (b .id)
 unfoldable pub bindingIn : List ℕ → Binding
 bindingIn s = record { kind = kindOf (getD s 2 0); id = number 4 s 4 }
 
+-- the two bytes that mark a binding
+abbrev pub marked : List ℕ → Bool
+marked s = eqb (getD s 0 0) 0xA7 && eqb (getD s 1 0) 0x01
+
+-- its kind is 0 or 1, and its zero byte 0
+abbrev pub kindOk : List ℕ → Bool
+kindOk s = leb (getD s 2 0) 1 && eqb (getD s 3 0) 0
+
 -- whether a list starts with a whole, well-formed binding
 unfoldable pub bindingStarts : List ℕ → Bool
-bindingStarts s =
-    leb 8 (length s)
-    && eqb (getD s 0 0) 0xA7
-    && eqb (getD s 1 0) 0x01
-    && leb (getD s 2 0) 1
-    && eqb (getD s 3 0) 0
+bindingStarts s = leb 8 (length s) && (marked s && kindOk s)
 
--- a context is 0 to 4,096 bindings
-abbrev pub checkedContext : List ℕ → Checked
-checkedContext s = checked bindingStarts 8 4096 s
+-- of the n bindings of s, which come after k good ones, the earliest that is bad: its mark before its kind and zero byte. Places count from 1
+unfoldable pub firstFlaw : ℕ → ℕ → List ℕ → ContextRead
+firstFlaw k zero s = Good k
+firstFlaw k (suc n) s =
+    cond (marked s) (cond (kindOk s) (firstFlaw (suc k) n (drop 8 s)) (Bad (flaw.Kind (suc k)))) (Bad (flaw.Mark (suc k)))
 
--- document 01's number for each answer: 0 where the context is accepted; number 1 returns no place
-abbrev pub contextCause : Checked → List ℕ
+-- whole bindings, 0 to 4,096
+abbrev pub lengthOk : List ℕ → Bool
+lengthOk s = eqb (length s % 8) 0 && leb (length s) (8 * 4096)
+
+-- a context is checked for its length, then binding by binding
+unfoldable pub checkedContext : List ℕ → ContextRead
+checkedContext s = cond (lengthOk s) (firstFlaw 0 (length s / 8) s) (Bad flaw.Length)
+
+-- of bindings that come after k others, as an order's come after its context: their places count on; a bad length has none
+abbrev pub countedOn : ℕ → ContextRead → ContextRead
+countedOn k (Good n) = Good n
+countedOn k (Bad flaw.Length) = Bad flaw.Length
+countedOn k (Bad (flaw.Mark place)) = Bad (flaw.Mark (k + place))
+countedOn k (Bad (flaw.Kind place)) = Bad (flaw.Kind (k + place))
+
+-- document 02's number for what is bad, and its place: 0 for the length
+abbrev pub flawNumber : Flaw → ℕ
+flawNumber flaw.Length = CONTEXT-LENGTH
+flawNumber (flaw.Mark place) = BINDING-MARK
+flawNumber (flaw.Kind place) = BINDING-KIND
+
+abbrev pub flawPlace : Flaw → ℕ
+flawPlace flaw.Length = 0
+flawPlace (flaw.Mark place) = place
+flawPlace (flaw.Kind place) = place
+
+abbrev pub flawCause : Flaw → List ℕ
+flawCause f = flawNumber f ∷ flawPlace f ∷ []
+
+-- the number and place for each answer: 0 where the context is accepted
+abbrev pub contextCause : ContextRead → List ℕ
 contextCause (Good n) = ACCEPTED ∷ []
-contextCause (Malformed place) = CONTEXT ∷ []
+contextCause (Bad f) = flawCause f

@@ -6,6 +6,7 @@ use mathlib.Core.Bool.{true}
 use mathlib.Core.List.{List, [], _∷_, _++_}
 use lib.ListN.{length, getD, drop}
 use Rattle.records.specs.declared.check.Checked.the-variants.{Good}
+use Rattle.records.specs.declared.context.ContextRead.the-variants as context
 use Rattle.records.specs.declared.code.Code.{Code}
 use Rattle.records.specs.declared.code.Code.the-variants.{RET}
 use Rattle.records.specs.declared.code.CodeRead.the-variants.{Record}
@@ -81,9 +82,9 @@ pub record RecordsReadBack : Type 0 where
       → bindingIn (drop (8 * k) (joined bindingBytes bs ++ rest)) ≡ getD bs k d
   pub context-accepted :
       (bs : List Binding) → Each WellFormedBinding bs → length bs ≤ 4096
-      → checkedContext (joined bindingBytes bs) ≡ Good (length bs)
+      → checkedContext (joined bindingBytes bs) ≡ context.Good (length bs)
   pub context-written :
-      (n : ℕ) (s : List ℕ) → Bytes s → checkedContext s ≡ Good n
+      (n : ℕ) (s : List ℕ) → Bytes s → checkedContext s ≡ context.Good n
       → joined bindingBytes (items 8 bindingIn n s) ≡ s
   pub order-read : (o : Order) → WellFormedOrder o → orderRead (orderBytes (orderFieldsOf o)) ≡ Whole o
   pub order-written : (s : List ℕ) (o : Order) → Bytes s → orderRead s ≡ Whole o → orderBytes (orderFieldsOf o) ≡ s

@@ -1,12 +1,10 @@
-// Binding records and contexts.
+// Binding records.
 ghost use mathlib.Core.Path.{_≡_};
 ghost use Prim.Native.Nat.{_+_, _≤_};
 ghost use lib.ListN.{length, drop};
-ghost use Rattle.records.specs.Answers.{AnswersBy};
 ghost use Rattle.records.specs.Bytes.{stored};
-ghost use Rattle.records.specs.Contexts.{kindByte, kindOf, bindingBytes, bindingIn, bindingStarts, checkedContext, contextCause};
+ghost use Rattle.records.specs.Contexts.{kindByte, kindOf, bindingBytes, bindingIn};
 use crate::bytes;
-use crate::check::Checked;
 
 // What a variable holds: linked, for any Chirality but Ext, or an integer.
 pub enum Kind {
@@ -42,45 +40,6 @@ pub fn binding_at(s: &[u8], at: usize) -> Binding
     let kind = kind_of(s[at + 2]);
     let id = bytes::number4(s, at + 4);
     Binding { kind, id }
-}
-
-// Whether a whole, well-formed binding starts at byte `at`.
-fn binding_starts(s: &[u8], at: usize) -> bool
-    requires { ⌜ at ≤ length (now s) ⌝ }
-    ensures { λ r. ⌜ r ≡ bindingStarts (drop at (now (s .entry))) ⌝ }
-{
-    if s.len() - at < 8 {
-        return false;
-    }
-    if s[at] == 0xA7 {} else {
-        return false;
-    }
-    if s[at + 1] == 1 {} else {
-        return false;
-    }
-    if s[at + 2] <= 1 {} else {
-        return false;
-    }
-    s[at + 3] == 0
-}
-
-// A context: at most 4,096 bindings.
-pub fn check_context(s: &[u8]) -> Checked
-    ensures { λ r. ⌜ AnswersBy contextCause r (checkedContext (now (s .entry))) ⌝ }
-{
-    let mut at = 0;
-    let mut k = 0;
-    while at < s.len() {
-        if 4096 <= k {
-            return Checked::Malformed(k + 1);
-        }
-        if binding_starts(s, at) {} else {
-            return Checked::Malformed(k + 1);
-        }
-        at += 8;
-        k += 1;
-    }
-    Checked::Good(k)
 }
 
 // The record of b at byte `at`, whole, or nothing where it does not fit.

@@ -3,7 +3,8 @@ ghost use mathlib.Core.List.{_++_};
 ghost use Prim.Native.Nat.{ℕ, _+_, _-_, _≤_};
 ghost use lib.ListN.{length};
 ghost use Rattle.records.specs.Orders.{orderRead};
-ghost use Rattle.text.specs.Text.{ascii};
+ghost use Rattle.records.specs.Contexts.{flawCause};
+ghost use Rattle.text.specs.Text.{ascii, decimal};
 ghost use Rattle.text.specs.Putting.{farthest, Puts};
 ghost use Rattle.layout.specs.Config.{Supported, positions};
 ghost use Rattle.orders.specs.Answered.{causeOf};
@@ -13,6 +14,7 @@ use crate::parts;
 use layout::config::Choice;
 use layout::config::Shape;
 use orders::answer::Answer;
+use records::context::Flaw;
 use records::order::Order;
 use records::order::OrderRead;
 
@@ -70,6 +72,42 @@ fn put_refused(text: &mut [u8], at: usize, number: u64, words: &[u8]) -> usize
     text::put_bytes(text, next, words)
 }
 
+// A binding's number in words, its place, and what to look at.
+fn put_binding(text: &mut [u8], at: usize, number: &[u8], place: u64, words: &[u8]) -> usize
+    requires { ⌜ (length (now number) ≤ 20) × (length (now words) ≤ 56) × (at + 96 ≤ farthest) ⌝ }
+    ensures { λ r. ⌜ Puts 96 (now (text .entry)) at (now (text .exit)) r ((now (number .entry) ++ decimal place) ++ now (words .entry)) ⌝ }
+{
+    let next = parts::put_count(text, at, number, place);
+    text::put_bytes(text, next, words)
+}
+
+fn put_flaw(text: &mut [u8], at: usize, flaw: Flaw) -> usize
+    requires { ⌜ at + 96 ≤ farthest ⌝ }
+    ensures { λ r. ⌜ ((frame : ℕ) → Puts 96 (now (text .entry)) at (now (text .exit)) r (refusal frame (flawCause flaw))) ⌝ }
+{
+    match flaw {
+        Flaw::Length => text::put_bytes(
+            text,
+            at,
+            b"refused 15, bindings that are not whole, or more than 4096",
+        ),
+        Flaw::Mark(place) => put_binding(
+            text,
+            at,
+            b"refused 16, binding ",
+            place as u64,
+            b": its mark is not A7 01",
+        ),
+        Flaw::Kind(place) => put_binding(
+            text,
+            at,
+            b"refused 17, binding ",
+            place as u64,
+            b": its kind is neither 0 nor 1, or its zero byte is not 0",
+        ),
+    }
+}
+
 fn put_malformed(text: &mut [u8], at: usize, place: u64) -> usize
     requires { ⌜ at + 87 ≤ farthest ⌝ }
     ensures { λ r. ⌜ ((frame : ℕ) → Puts 87 (now (text .entry)) at (now (text .exit)) r (refusal frame (causeOf (Answer.Malformed place)))) ⌝ }
@@ -114,14 +152,14 @@ fn put_position(text: &mut [u8], at: usize, frame: u64) -> usize
 
 // What was answered; `before` is the label counter that went in.
 fn put_outcome(text: &mut [u8], at: usize, frame: u64, before: u64, answer: Answer) -> usize
-    requires { ⌜ at + 90 ≤ farthest ⌝ }
-    ensures { λ r. ⌜ Puts 90 (now (text .entry)) at (now (text .exit)) r (outcome frame before answer) ⌝ }
+    requires { ⌜ at + 96 ≤ farthest ⌝ }
+    ensures { λ r. ⌜ Puts 96 (now (text .entry)) at (now (text .exit)) r (outcome frame before answer) ⌝ }
 {
     match answer {
         Answer::Accepted(records, counter, _) => {
             put_acceptance(text, at, records as u64, parts::more(counter, before))
         }
-        Answer::Context => put_refused(text, at, 1, b", malformed context or bindings"),
+        Answer::Context(flaw) => put_flaw(text, at, flaw),
         Answer::Malformed(place) => put_malformed(text, at, place as u64),
         Answer::Frame => put_refused(text, at, 3, b", a frame has 256 or 512 spills"),
         Answer::Missing => put_refused(
@@ -154,8 +192,8 @@ pub fn put_order(
     before: u64,
     answer: Answer,
 ) -> usize
-    requires { ⌜ at + 121 ≤ farthest ⌝ }
-    ensures { λ r. ⌜ Puts 121 (now (text .entry)) at (now (text .exit)) r (orderLine frame number (now (order .entry)) before answer) ⌝ }
+    requires { ⌜ at + 127 ≤ farthest ⌝ }
+    ensures { λ r. ⌜ Puts 127 (now (text .entry)) at (now (text .exit)) r (orderLine frame number (now (order .entry)) before answer) ⌝ }
 {
     let said = put_start(text, at, number, order);
     let end = put_outcome(text, said, frame, before, answer);

@@ -8,10 +8,11 @@ use native.Mathlib.Omega.{arith}
 use lib.Dec.{ltb, leb, eqb}
 use lib.ListN.{length}
 use borrow.Author.Tests.{eqb-true, leb-true, le-ltb, lt-ltb}
-use Rattle.records.specs.declared.check.Checked.{Checked}
-use Rattle.records.specs.declared.check.Checked.the-variants as checked
-use Rattle.records.specs.Contexts.{checkedContext}
+use Rattle.records.specs.declared.context.ContextRead.{ContextRead}
+use Rattle.records.specs.declared.context.ContextRead.the-variants as checked
+use Rattle.records.specs.Contexts.{checkedContext, countedOn}
 use Rattle.records.specs.Orders.{orderStarts}
+use Rattle.records.proofs.ContextsRead.{counted-good, context-long}
 use Rattle.trees.specs.Tree.{Tree, labels, size}
 use Rattle.layout.specs.declared.config.Shape.{Shape}
 use Rattle.layout.specs.Config.{Supported, positions, mostVariables}
@@ -21,14 +22,14 @@ use Rattle.orders.specs.declared.answer.Answer.the-variants.{Accepted, Context,
 use Rattle.orders.specs.Writes.{wanted, countOk, treeOf, contextAfter, present, kindsOk, asked}
 use Rattle.orders.specs.Answered.{Asked, accepted, orderIs, placesIn, orderContext, granted, onContext, answerTo}
 use Rattle.orders.proofs.Accepting.{all-passed, all-judged}
-use Rattle.judging.proofs.Leaving.{context-long, after-long}
+use Rattle.judging.proofs.Leaving.{after-long}
 use Rattle.rooms.specs.Sizes.{roomForRecords, roomForContext}
 use Rattle.rooms.proofs.OrderSizes.{order-most, few-left}
 
--- 1 to 8
+-- before 9
 early : Answer → Bool
 early (Accepted records counter bindings) = false
-early Context = true
+early (Context flaw) = true
 early (Malformed place) = true
 early Frame = true
 early Missing = true
@@ -50,17 +51,18 @@ chosen : (b : Bool) (x y : Answer) → early y ≡ true → early (cond b x y) �
 chosen true x y r e = (refl, e)
 chosen false x y r e = let z : _≡_ {A = ℕ} 0 1 = cc in absurd (omega arith)
 
-on-good : (c : Checked) (f : ℕ → Answer) → early (onContext c f) ≡ false → (k : ℕ) × (c ≡ checked.Good k) × (early (f k) ≡ false)
+on-good : (c : ContextRead) (f : ℕ → Answer) → early (onContext c f) ≡ false → (k : ℕ) × (c ≡ checked.Good k) × (early (f k) ≡ false)
 unfolding early
 on-good (checked.Good k) f e = (k, refl, e)
-on-good (checked.Malformed place) f e = let z : _≡_ {A = ℕ} 0 1 = cc in absurd (omega arith)
+on-good (checked.Bad flaw) f e = let z : _≡_ {A = ℕ} 0 1 = cc in absurd (omega arith)
 
 passed : (g : Shape) (context : List ℕ) (q : Asked) → early (answerTo g context q) ≡ false → (k : ℕ) × (checkedContext context ≡ checked.Good k) × Passed g context q k
 unfolding answerTo early
 passed g context q e =
     let a = on-good (checkedContext context) _ e in
     let k : ℕ = a .0 in
-    let b = on-good (checkedContext (q .bindings)) _ (a .2) in
+    let b = on-good (countedOn k (checkedContext (q .bindings))) _ (a .2) in
+    let bindings = counted-good k (checkedContext (q .bindings)) (b .1) in
     let c = chosen (orderStarts (q .order)) _ (Malformed 1) refl (b .2) in
     let d = chosen (eqb (b .0) (wanted (orderIs q))) _ (Malformed 1) refl (c .1) in
     let f = chosen (eqb (length (q .order)) 24) _ (Malformed 2) refl (d .1) in
@@ -71,10 +73,10 @@ passed g context q e =
       k,
       a .1,
       record {
-        bindings-good = b .1 ∙ ap checked.Good (eqb-true (b .0) (wanted (orderIs q)) (d .0));
+        bindings-good = bindings ∙ ap checked.Good (eqb-true (b .0) (wanted (orderIs q)) (d .0));
         there = p .0;
         placed = leb-true (asked context k (q .bindings) (orderIs q)) (positions g) (h .0);
-        answer = all-passed g context q (a .1) (b .1) (c .0) (d .0) (f .0) ∙ all-judged g context q k (p .0) (s .0) (n .0) (h .0);
+        answer = all-passed g context q (a .1) bindings (c .0) (d .0) (f .0) ∙ all-judged g context q k (p .0) (s .0) (n .0) (h .0);
       },
     )
 
@@ -99,7 +101,7 @@ module _ (q : Asked) (t : Tree) (after : List ℕ) where
 accepted-late : (r : Answer) → accepted r ≡ true → early r ≡ false
 unfolding early
 accepted-late (Accepted records counter bindings) e = refl
-accepted-late Context e = sym e
+accepted-late (Context flaw) e = sym e
 accepted-late (Malformed place) e = sym e
 accepted-late Frame e = sym e
 accepted-late Missing e = sym e
@@ -113,9 +115,9 @@ accepted-late Edition e = sym e
 few-places : (g : Shape) (s : List ℕ) → length s ≤ 8 * mostVariables g → placesIn s ≤ mostVariables g
 few-places g s h = by (checkedContext s) refl
   where
-    by : (c : Checked) → checkedContext s ≡ c → variablesIn c ≤ mostVariables g
+    by : (c : ContextRead) → checkedContext s ≡ c → variablesIn c ≤ mostVariables g
     by (checked.Good n) e = omega (arith, context-long s n e)
-    by (checked.Malformed place) e = omega arith
+    by (checked.Bad flaw) e = omega arith
 
 module _ (g : Shape) (s : Supported g) (context : List ℕ) (q : Asked) (few : placesIn context ≤ mostVariables g) where
   context-few : (k : ℕ) → checkedContext context ≡ checked.Good k → Passed g context q k

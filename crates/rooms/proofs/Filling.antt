@@ -6,7 +6,7 @@ use mathlib.Core.List.{List, [], append-nil}
 use native.Mathlib.Omega.{arith}
 use lib.ListN.{replicate, length-replicate}
 use borrow.Author.Tests.{le-leb, ne-eqb}
-use Rattle.records.specs.declared.check.Checked.the-variants.{Good}
+use Rattle.records.specs.declared.context.ContextRead.the-variants.{Good}
 use Rattle.records.specs.declared.binding.Kind.{Kind}
 use Rattle.records.specs.declared.binding.Kind.the-variants.{Linked, Ext}
 use Rattle.records.specs.declared.binding.Binding.{Binding}
@@ -28,7 +28,8 @@ use Rattle.orders.specs.declared.answer.Answer.the-variants.{Room}
 use Rattle.orders.specs.Writes.{wanted, countOk, treeOf, contextAfter, present, kindsOk, asked}
 use Rattle.orders.specs.Answered.{Asked, orderIs, granted, answerTo}
 use Rattle.orders.proofs.Accepting.{all-passed, all-judged}
-use Rattle.judging.proofs.Leaving.{context-long, after-long}
+use Rattle.records.proofs.ContextsRead.{context-long}
+use Rattle.judging.proofs.Leaving.{after-long}
 use Rattle.rooms.specs.Sizes.{variables, storeOfAll, roomForRecords, roomForContext}
 use Rattle.rooms.specs.Claims.{ordering, RoomsByShape, OrdersFill}
 use Rattle.rooms.proofs.Answering.{records-short, context-short}

@@ -8,7 +8,8 @@ use native.Mathlib.Numerals.{add-one}
 use native.Mathlib.Omega.{arith}
 use lib.ListN.{length, getD}
 use borrow.Author.Tests.{lt-ltb, le-ltb}
-use Rattle.records.specs.declared.check.Checked.the-variants.{Good, Malformed}
+use Rattle.records.specs.declared.context.Flaw.{Flaw}
+use Rattle.records.specs.declared.context.ContextRead.the-variants.{Good, Bad}
 use Rattle.records.specs.Contexts.{checkedContext, extAt}
 use Rattle.text.specs.Putting.{Puts}
 use Rattle.text.proofs.Putting.{nothing, at-most, _⨟_}
@@ -72,9 +73,9 @@ module _ (g : Shape) (context registers stack : List ℕ) where
 
 -- what a context's check decides
 module _ (g : Shape) (s registers stack o : List ℕ) (i : ℕ) where
-  pub of-malformed : {place : ℕ} → checkedContext s ≡ Malformed place → Puts (83 * mostVariables g) o i o i (variableLines g s registers stack)
+  pub of-bad : {flaw : Flaw} → checkedContext s ≡ Bad flaw → Puts (83 * mostVariables g) o i o i (variableLines g s registers stack)
   unfolding variableLines firstLines cellLines
-  of-malformed e = rw (e, lt-ltb 0 (positions g) (omega arith)) (at-most (nothing o i) (omega arith))
+  of-bad e = rw (e, lt-ltb 0 (positions g) (omega arith)) (at-most (nothing o i) (omega arith))
 
   pub of-many : {n : ℕ} → checkedContext s ≡ Good n → positions g ≤ 2 * n → Puts (83 * mostVariables g) o i o i (variableLines g s registers stack)
   unfolding variableLines

@@ -16,7 +16,7 @@ ghost use Rattle.showing.specs.Cells.{blockName, cellWords, cellLine, li
 use layout::config::Shape;
 use layout::config::Shaped;
 use layout::utils::ENTRIES;
-use records::check::Checked;
+use records::context::ContextRead;
 use reporting::parts;
 
 fn put_block(text: &mut [u8], at: usize, g: Shape, pointer: u64) -> usize
@@ -172,10 +172,10 @@ fn put_variables_in(
     ensures { λ r. ⌜ Puts (83 * mostVariables g) (now (text .entry)) at (now (text .exit)) r (variableLines g (now (context .entry)) (now (registers .entry)) (now (stack .entry))) ⌝ }
 {
     let limit = g.spills + 11;
-    let checked = records::binding::check_context(context);
+    let checked = records::context::check_context(context);
     match checked {
-        Checked::Malformed(_) => at,
-        Checked::Good(count) => {
+        ContextRead::Bad(_) => at,
+        ContextRead::Good(count) => {
             if limit <= 2 * (count as u64) {
                 return at;
             }

@@ -12,8 +12,7 @@ use Rattle.records.specs.declared.binding.Kind.the-variants.{Ext}
 use Rattle.records.specs.declared.order.Order.{Order}
 use Rattle.records.specs.declared.order.Order.the-variants.{Put, Copy, Drop, Store, Load, Print}
 use Rattle.records.specs.Bytes.{le, number}
-use Rattle.records.specs.Checked.{checked, firstBad}
-use Rattle.records.specs.Contexts.{bindingBytes, bindingStarts}
+use Rattle.records.specs.Contexts.{bindingBytes, firstFlaw, checkedContext}
 use Rattle.records.specs.Orders.{orderFieldsOf, orderBytes, orderIn, orderOf, orderReaders, orderOk, orderOperandsOk, usedByOrder, orderStarts}
 use Rattle.records.specs.ReadBack.{Bytes}
 use Rattle.records.proofs.Conditions.{and-left, and-right}
@@ -106,15 +105,15 @@ pub record WorkedListIsSound : Type 0 where
       × (unused : List Cell) × (stateAfter base 4 workedList .memory .fields (c .fst) ≡ unused ++ (cell 0 7 ∷ cell 0 120 ∷ []))
 
 two : acquired base 4 workedList ≡ 2
-unfolding answerTo orderBytes le number checked firstBad bindingStarts bindingBytes orderIn orderOf orderReaders orderOk orderOperandsOk usedByOrder orderStarts treeOf contextAfter present kindsOk asked plainly location stackOffset putSeven storeOne copyIt loadShared dropIt nothing loadReleased printIt putMore storeTwo
+unfolding answerTo orderBytes le number checkedContext firstFlaw bindingBytes orderIn orderOf orderReaders orderOk orderOperandsOk usedByOrder orderStarts treeOf contextAfter present kindsOk asked plainly location stackOffset putSeven storeOne copyIt loadShared dropIt nothing loadReleased printIt putMore storeTwo
 two = refl
 
 plain : values base 4 workedList ≡ workedValues
-unfolding answerTo orderBytes le number checked firstBad bindingStarts bindingBytes orderIn orderOf orderReaders orderOk orderOperandsOk usedByOrder orderStarts treeOf contextAfter present kindsOk asked plainly location stackOffset putSeven storeOne copyIt loadShared dropIt nothing loadReleased printIt putMore storeTwo
+unfolding answerTo orderBytes le number checkedContext firstFlaw bindingBytes orderIn orderOf orderReaders orderOk orderOperandsOk usedByOrder orderStarts treeOf contextAfter present kindsOk asked plainly location stackOffset putSeven storeOne copyIt loadShared dropIt nothing loadReleased printIt putMore storeTwo
 plain = refl
 
 owed : AllOwed base 4 workedList
-unfolding answerTo orderBytes le number checked firstBad bindingStarts bindingBytes orderIn orderOf orderReaders orderOk orderOperandsOk usedByOrder orderStarts treeOf contextAfter present kindsOk asked plainly location stackOffset putSeven storeOne copyIt loadShared dropIt nothing loadReleased printIt putMore storeTwo
+unfolding answerTo orderBytes le number checkedContext firstFlaw bindingBytes orderIn orderOf orderReaders orderOk orderOperandsOk usedByOrder orderStarts treeOf contextAfter present kindsOk asked plainly location stackOffset putSeven storeOne copyIt loadShared dropIt nothing loadReleased printIt putMore storeTwo
 owed =
     ((λ e. (tt, tt)), ((λ e. (tt, tt)), ((λ e. (tt, tt)), ((λ e. ((refl, (refl, tt)), tt)), ((λ e. absurd (no e)), ((λ e. (tt, tt)), ((λ e. ((refl, (refl, tt)), tt)), ((λ e. (tt, tt)), ((λ e. (tt, tt)), ((λ e. (tt, tt)), tt))))))))))
   where

@@ -6,8 +6,7 @@ use mathlib.Core.Path.{_≡_, refl, sym, _∙_, ap}
 use Prim.Native.Nat.{ℕ, _+_, _≤_}
 use native.Mathlib.Omega.{arith}
 use Rattle.records.specs.Bytes.{le, number}
-use Rattle.records.specs.Checked.{checked, firstBad}
-use Rattle.records.specs.Contexts.{bindingBytes, bindingStarts}
+use Rattle.records.specs.Contexts.{bindingBytes, firstFlaw, checkedContext}
 use Rattle.records.specs.Orders.{orderBytes, orderIn, orderOf, orderReaders, orderOk, orderOperandsOk, usedByOrder, orderStarts}
 use Rattle.layout.specs.Config.{base, stackOffset}
 use Rattle.layout.proofs.Placing.{base-supported}
@@ -40,11 +39,11 @@ pub record SeasonIsSound : Type 0 where
   pub after : After base 3 season
 
 three : acquired base 3 season ≡ 3
-unfolding answerTo orderBytes le number checked firstBad bindingStarts bindingBytes orderIn orderOf orderReaders orderOk orderOperandsOk usedByOrder orderStarts treeOf contextAfter present kindsOk asked plainly location stackOffset putSeven storeOne loadReleased
+unfolding answerTo orderBytes le number checkedContext firstFlaw bindingBytes orderIn orderOf orderReaders orderOk orderOperandsOk usedByOrder orderStarts treeOf contextAfter present kindsOk asked plainly location stackOffset putSeven storeOne loadReleased
 three = refl
 
 plain : values base 3 season ≡ cons (integer 7) nil
-unfolding answerTo orderBytes le number checked firstBad bindingStarts bindingBytes orderIn orderOf orderReaders orderOk orderOperandsOk usedByOrder orderStarts treeOf contextAfter present kindsOk asked plainly location stackOffset putSeven storeOne loadReleased
+unfolding answerTo orderBytes le number checkedContext firstFlaw bindingBytes orderIn orderOf orderReaders orderOk orderOperandsOk usedByOrder orderStarts treeOf contextAfter present kindsOk asked plainly location stackOffset putSeven storeOne loadReleased
 plain = refl
 
 -- an integer variable leads nowhere
@@ -52,12 +51,12 @@ none-led : (fields : ℕ → List Cell) (count : ℕ) → ReachableCount fields 
 none-led fields count k = omega (arith, nothing-led fields (0 ∷ []) (λ b nz. omega (arith, same-other nz)) count k)
 
 within : PeakWithin base 3 1 season
-unfolding answerTo orderBytes le number checked firstBad bindingStarts bindingBytes orderIn orderOf orderReaders orderOk orderOperandsOk usedByOrder orderStarts treeOf contextAfter present kindsOk asked plainly location stackOffset putSeven storeOne loadReleased
+unfolding answerTo orderBytes le number checkedContext firstFlaw bindingBytes orderIn orderOf orderReaders orderOk orderOperandsOk usedByOrder orderStarts treeOf contextAfter present kindsOk asked plainly location stackOffset putSeven storeOne loadReleased
 within =
     ((λ e z. absurd (z refl)), ((λ e z count k. none-led _ count k), ((λ e z. absurd (z refl)), ((λ e z count k. none-led _ count k), ((λ e z. absurd (z refl)), ((λ e z count k. none-led _ count k), ((λ e z. absurd (z refl)), tt)))))))
 
 owed : AllOwed base 3 season
-unfolding answerTo orderBytes le number checked firstBad bindingStarts bindingBytes orderIn orderOf orderReaders orderOk orderOperandsOk usedByOrder orderStarts treeOf contextAfter present kindsOk asked plainly location stackOffset putSeven storeOne loadReleased
+unfolding answerTo orderBytes le number checkedContext firstFlaw bindingBytes orderIn orderOf orderReaders orderOk orderOperandsOk usedByOrder orderStarts treeOf contextAfter present kindsOk asked plainly location stackOffset putSeven storeOne loadReleased
 owed = ((λ e. ((refl, (refl, tt)), tt)), ((λ e. (tt, tt)), ((λ e. ((refl, (refl, tt)), tt)), ((λ e. (tt, tt)), ((λ e. ((refl, (refl, tt)), tt)), ((λ e. (tt, tt)), ((λ e. (tt, tt)), tt)))))))
 
 pub season-is-sound : SeasonIsSound
@@ -70,7 +69,7 @@ abbrev short : List Item
 short = storeOne ∷ putSeven ∷ []
 
 short-within : PeakWithin base 2 1 short
-unfolding answerTo orderBytes le number checked firstBad bindingStarts bindingBytes orderIn orderOf orderReaders orderOk orderOperandsOk usedByOrder orderStarts treeOf contextAfter present kindsOk asked plainly location stackOffset putSeven storeOne
+unfolding answerTo orderBytes le number checkedContext firstFlaw bindingBytes orderIn orderOf orderReaders orderOk orderOperandsOk usedByOrder orderStarts treeOf contextAfter present kindsOk asked plainly location stackOffset putSeven storeOne
 short-within = ((λ e z count k. none-led _ count k), ((λ e z. absurd (z refl)), tt))
 
 short-owed : AllOwed base 2 short
@@ -78,7 +77,7 @@ unfolding putSeven storeOne orderBytes le number orderOf orderIn orderReaders
 short-owed = ((λ e. (tt, tt)), ((λ e. (tt, tt)), tt))
 
 short-values : values base 2 short ≡ cons (object 5 (cons (integer 7) nil)) nil
-unfolding answerTo orderBytes le number checked firstBad bindingStarts bindingBytes orderIn orderOf orderReaders orderOk orderOperandsOk usedByOrder orderStarts treeOf contextAfter present kindsOk asked plainly location stackOffset putSeven storeOne
+unfolding answerTo orderBytes le number checkedContext firstFlaw bindingBytes orderIn orderOf orderReaders orderOk orderOperandsOk usedByOrder orderStarts treeOf contextAfter present kindsOk asked plainly location stackOffset putSeven storeOne
 short-values = refl
 
 -- runs that ended have met no fault

@@ -70,7 +70,7 @@ module _ (G : Shape) (sup : Supported G) where
     where
       by : (r : Answer) → accepted r ≡ false → counterAfter (it .asked .counter) r ≡ it .asked .counter
       by (answers.Accepted records after bindings) e = let z : _≡_ {A = ℕ} 0 1 = cc in absurd (omega arith)
-      by answers.Context e = refl
+      by (answers.Context flaw) e = refl
       by (answers.Malformed place) e = refl
       by answers.Frame e = refl
       by answers.Missing e = refl

@@ -6,8 +6,7 @@ use native.Mathlib.Omega.{arith}
 use lib.ListN.{length}
 use Rattle.records.specs.declared.binding.Kind.the-variants.{Ext}
 use Rattle.records.specs.Bytes.{le, number}
-use Rattle.records.specs.Checked.{checked, firstBad}
-use Rattle.records.specs.Contexts.{bindingBytes, bindingStarts}
+use Rattle.records.specs.Contexts.{bindingBytes, firstFlaw, checkedContext}
 use Rattle.records.specs.Orders.{orderBytes, orderIn, orderOf, orderReaders, orderOk, orderOperandsOk, usedByOrder, orderStarts}
 use Rattle.trees.specs.Tree.{Tree}
 use Rattle.layout.specs.Config.{base, stackOffset}
@@ -50,11 +49,11 @@ pub record WorkedOperations : Type 0 where
   pub erased : (words : ℕ → ℕ) → Leaves words (eraseBlock base (location 0)) (λ past vs. Erased base 4 past channel vs 0)
 
 one : acquired base 4 oneStored ≡ 1
-unfolding answerTo orderBytes le number checked firstBad bindingStarts bindingBytes orderIn orderOf orderReaders orderOk orderOperandsOk usedByOrder orderStarts treeOf contextAfter present kindsOk asked plainly location stackOffset putSeven storeOne
+unfolding answerTo orderBytes le number checkedContext firstFlaw bindingBytes orderIn orderOf orderReaders orderOk orderOperandsOk usedByOrder orderStarts treeOf contextAfter present kindsOk asked plainly location stackOffset putSeven storeOne
 one = refl
 
 plain : values base 4 oneStored ≡ cons (object 5 (cons (integer 7) nil)) nil
-unfolding answerTo orderBytes le number checked firstBad bindingStarts bindingBytes orderIn orderOf orderReaders orderOk orderOperandsOk usedByOrder orderStarts treeOf contextAfter present kindsOk asked plainly location stackOffset putSeven storeOne
+unfolding answerTo orderBytes le number checkedContext firstFlaw bindingBytes orderIn orderOf orderReaders orderOk orderOperandsOk usedByOrder orderStarts treeOf contextAfter present kindsOk asked plainly location stackOffset putSeven storeOne
 plain = refl
 
 owed : AllOwed base 4 oneStored
@@ -62,7 +61,7 @@ unfolding putSeven storeOne orderBytes le number orderOf orderIn orderReaders
 owed = ((λ e. (tt, tt)), ((λ e. (tt, tt)), tt))
 
 pub worked-operations : WorkedOperations
-unfolding OperationsDoWhatTheyNameOnAcquired answerTo orderBytes le number checked firstBad bindingStarts bindingBytes orderIn orderOf orderReaders orderOk orderOperandsOk usedByOrder orderStarts treeOf contextAfter present kindsOk asked plainly location stackOffset putSeven storeOne storeAnswer loadAnswer shareAnswer eraseAnswer granted operandOk
+unfolding OperationsDoWhatTheyNameOnAcquired answerTo orderBytes le number checkedContext firstFlaw bindingBytes orderIn orderOf orderReaders orderOk orderOperandsOk usedByOrder orderStarts treeOf contextAfter present kindsOk asked plainly location stackOffset putSeven storeOne storeAnswer loadAnswer shareAnswer eraseAnswer granted operandOk
 worked-operations = record {
   plain-values = plain;
   stored = λ words. does words .stores 1 (omega (arith, one)) refl;

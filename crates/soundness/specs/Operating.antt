@@ -12,7 +12,7 @@ use lib.Seq.{length-take-le}
 use borrow.Author.Tests.{ltb-true, lt-ltb, le-leb, ne-eqb}
 use Rattle.records.specs.declared.binding.Kind.the-variants.{Linked}
 use Rattle.records.specs.declared.order.Order.the-variants.{Store, Load}
-use Rattle.records.specs.declared.check.Checked.the-variants.{Good}
+use Rattle.records.specs.declared.context.ContextRead.the-variants.{Good}
 use Rattle.records.specs.Contexts.{checkedContext, extAt}
 use Rattle.trees.specs.Tree.{Tree, labels, size}
 use Rattle.layout.specs.declared.config.Shape.{Shape}

@@ -5,7 +5,7 @@ ghost use mathlib.Core.Bool.{_&&_};
 ghost use Prim.Native.Nat.{_+_, _*_, _-_, _<_, _≤_, _^_};
 ghost use lib.Dec.{ltb, leb};
 ghost use lib.ListN.{length};
-ghost use Rattle.records.specs.declared.check.Checked.the-variants.{Good};
+ghost use Rattle.records.specs.declared.context.ContextRead.the-variants.{Good};
 ghost use Rattle.records.specs.Contexts.{checkedContext};
 ghost use Rattle.trees.specs.Tree.{flat};
 ghost use Rattle.emit.specs.Emitted.{Emits};
@@ -22,7 +22,7 @@ use layout::config::Shape;
 use layout::config::Shaped;
 use layout::utils::ENTRIES;
 use memory::block;
-use records::check::Checked;
+use records::context::ContextRead;
 use records::number::MOVIM;
 
 // A zero in the Fst of each of the first n fields.
@@ -334,8 +334,8 @@ fn store_in(out: &mut [u8], g: Shape, counter: u64, context: &[u8], n: u64) -> A
     requires { ⌜ Supported g ⌝ }
     ensures { λ r. ⌜ Answers (now (out .entry)) (now (out .exit)) r (storeAnswer g counter (length (now (out .entry))) (now (context .entry)) n) (flat (storeTree g (now (context .entry)) n) counter) ⌝ }
 {
-    match records::binding::check_context(context) {
-        Checked::Good(k) => store_last(out, g, counter, context, k as u64, n),
-        Checked::Malformed(_) => Answer::Context,
+    match records::context::check_context(context) {
+        ContextRead::Good(k) => store_last(out, g, counter, context, k as u64, n),
+        ContextRead::Bad(flaw) => Answer::Context(flaw),
     }
 }

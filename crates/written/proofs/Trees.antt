@@ -4,8 +4,8 @@ use mathlib.Core.Path.{_≡_, sym, ap, subst, _∙_}
 use mathlib.Core.Bool.{Bool, true}
 use mathlib.Core.List.{List}
 use native.Mathlib.Omega.{arith}
-use Rattle.records.specs.declared.check.Checked.the-variants.{Good, Malformed}
-use Rattle.records.specs.declared.check.Checked.{Checked}
+use Rattle.records.specs.declared.context.ContextRead.the-variants.{Good, Bad}
+use Rattle.records.specs.declared.context.ContextRead.{ContextRead}
 use Rattle.records.specs.Contexts.{checkedContext, extAt}
 use Rattle.records.specs.ReadBack.{Bytes}
 use Rattle.records.proofs.OrdersBack.{order-well-formed}
@@ -71,10 +71,10 @@ module _ (G : Shape) (sup : Supported G) where
       let z = print-size G newline w (extAt context) n in
       tree-readable (printI64 G newline w (extAt context) n) 0 (formed-print G sup newline w (extAt context) n) (omega arith) (omega arith)
 
-  pub print-reads : (room : ℕ) (newline : Bool) (w : ℕ) (context : List ℕ) (c : Checked) → accepted (printAnswer G room newline w context c) ≡ true
+  pub print-reads : (room : ℕ) (newline : Bool) (w : ℕ) (context : List ℕ) (c : ContextRead) → accepted (printAnswer G room newline w context c) ≡ true
       → Readable (printRecords G newline w context c)
   print-reads room newline w context (Good n) e = print-readable newline w context n
-  print-reads room newline w context (Malformed place) e = let z : _≡_ {A = ℕ} 0 1 = cc in absurd (omega arith)
+  print-reads room newline w context (Bad flaw) e = let z : _≡_ {A = ℕ} 0 1 = cc in absurd (omega arith)
 
   pub order-reads : (context : List ℕ) (q : Asked) → Bytes (q .order) → order.accepted (answerTo G context q) ≡ true
       → Readable (flat (orderTree G context q) (q .counter))

@@ -5,7 +5,7 @@
 use super::{BINDING, Order, SIZE, binding, kinds};
 use crate::answer::Answer;
 use crate::context::{Kind, Kinds};
-use crate::reading::{Refusal, check_context};
+use crate::reading::{Refusal, check_bindings, check_context};
 use crate::record::{self, LAST_FRESH, Record};
 use crate::request::{Emission, Operand, Operation, Request};
 use crate::rust_side;
@@ -39,14 +39,14 @@ fn refused<T>(number: u64, value: Option<u64>) -> Result<T, Refusal> {
     Err(Refusal { number, value })
 }
 
-/// All causes but 10: "23 for an edition other than 1 or 2, checked first of all", then in rising
-/// order. "The frame may be 256 or 512 spills (another number is 3)."
+/// All causes but 10: "23 for an edition other than 1 or 2, checked first of all"; what is bad in the
+/// context, "wholly before its bindings, whose places count on"; then in rising order. "The frame may be 256 or 512 spills (another number is 3)."
 pub fn given(chosen: Chosen, context: &[u8], asked: &Asked) -> Result<Given, Refusal> {
     let Some(edition) = chosen.edition() else {
         return refused(23, None);
     };
     check_context(context)?;
-    check_context(&asked.bindings)?;
+    check_bindings(context.len() / BINDING, &asked.bindings)?;
     let order = well_formed(asked)?;
     let Some(frame) = chosen.frame() else {
         return refused(3, None);

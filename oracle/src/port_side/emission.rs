@@ -161,7 +161,7 @@ impl List {
     }
 
     /// Asks for operands by position first. One past the last is refused with 8, unless the
-    /// operation itself is refused with 23 or a lower number.
+    /// operation itself is refused with 23, for its context or with a lower number.
     fn on_operands<const N: usize>(
         &mut self,
         operands: [&Operand; N],
@@ -174,14 +174,14 @@ impl List {
             return self.append(ample, |counter, out| call(located, counter, out));
         }
         let mut counter = self.counter;
-        let number = call(located, &mut counter, &mut []).number;
+        let Returned { number, value } = call(located, &mut counter, &mut []);
         let past = words.into_iter().find_map(Result::err).unwrap_or(number);
-        let refused = match number {
-            0 => past,
-            23 => 23,
-            _ => past.min(number),
-        };
-        Err(Answer::Refused(refused, None))
+        Err(match number {
+            0 => Answer::Refused(past, None),
+            15..=17 => Answer::Refused(number, Some(value)),
+            23 => Answer::Refused(23, None),
+            _ => Answer::Refused(past.min(number), None),
+        })
     }
 
     /// Lends an output to an operation and appends what it wrote.
@@ -218,7 +218,7 @@ impl List {
         match number {
             0 => Ok(written.to_vec()),
             10 => Err(Answer::Refused(10, Some(before + value))),
-            2 => Err(Answer::Refused(2, Some(value))),
+            2 | 15..=17 => Err(Answer::Refused(number, Some(value))),
             _ => Err(Answer::Refused(number, None)),
         }
     }

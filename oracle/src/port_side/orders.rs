@@ -91,7 +91,7 @@ fn play(channel: &mut Channel, asked: &Asked, rooms: Rooms, words: &[u64; 9]) ->
     }
 }
 
-/// A place goes with 2, the bytes needed with 10.
+/// A place goes with 2 and with 15 to 17, the bytes needed with 10.
 fn refused(number: u64, value: u64) -> Answer {
-    Answer::Refused(number, matches!(number, 2 | 10).then_some(value))
+    Answer::Refused(number, matches!(number, 2 | 10 | 15..=17).then_some(value))
 }

@@ -3,6 +3,7 @@
 use super::{TOO_LONG, context};
 use crate::answer::Answer;
 use crate::context::{Ids, Kind};
+use crate::orders::BINDING;
 use crate::port::{self, Returned};
 use crate::request::{Form, Query};
 use crate::shape::Chosen;
@@ -44,17 +45,18 @@ fn variables(ids: &Ids) -> Option<Vec<u8>> {
 }
 
 /// What the port answers where no binding can hold an id: the edition comes before, then the
-/// context, which is malformed if it would have to hold one, and the frame.
+/// context, which is not of whole bindings if it would have to hold one, and the frame.
 fn missing(chosen: Chosen, context: Option<Vec<u8>>) -> Returned {
     let shape = port::query(chosen, &port::Query::Position(0)).number;
-    let context = context.map_or(1, |context| port::check(Form::Context, &context).number);
-    let number = match (shape, context) {
-        (23, _) => 23,
-        (0, 0) => 4,
-        (_, 0) => shape,
-        _ => context,
+    let context = context.unwrap_or(vec![0; BINDING + 1]);
+    let context = port::check(Form::Context, &context);
+    let (number, value) = match (shape, context.number) {
+        (23, _) => (23, 0),
+        (0, 0) => (4, 0),
+        (_, 0) => (shape, 0),
+        (_, number) => (number, context.value),
     };
-    Returned { number, value: 0 }
+    Returned { number, value }
 }
 
 fn located(chosen: Chosen, returned: Returned) -> Answer {
@@ -66,6 +68,7 @@ fn located(chosen: Chosen, returned: Returned) -> Answer {
             }
             refusal => Answer::Refused(refusal.number, None),
         },
+        number @ 15..=17 => Answer::Refused(number, Some(returned.value)),
         number => Answer::Refused(number, None),
     }
 }

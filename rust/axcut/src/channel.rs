@@ -108,9 +108,9 @@ impl Channel {
         })
     }
 
-    /// Emits an order's records and runs them. A refusal with 1 to 10 changes nothing. A fault (11:
-    /// a division by zero or of the least integer by -1, a heap too small) ends the channel: every
-    /// later order is refused with it. A load must name the kinds that its object was stored with:
+    /// Emits an order's records and runs them. A refusal with 2 to 10 or 15 to 17 changes nothing. A
+    /// fault (11: a division by zero or of the least integer by -1, a heap too small) ends the
+    /// channel: every later order is refused with it. A load must name the kinds that its object was stored with:
     /// other kinds are not noticed here, and what the variables hold is then no longer theirs.
     pub fn order(&mut self, order: &Order) -> Result<Accepted, Refusal> {
         self.order_bytes(&order.bytes(), &order.bindings(self.bindings()))
@@ -399,7 +399,7 @@ mod tests {
             channel.heap().to_vec(),
         );
         let refused = [
-            (Order::Load(vec![Kind::Ext; 4_097]), 1),
+            (Order::Load(vec![Kind::Ext; 4_097]), 15),
             (Order::Print(1, false), 4),
             (Order::Compute(Arithmetic::Add, 0, 0), 5),
             (Order::Copy(0, 1 << 31), 7),

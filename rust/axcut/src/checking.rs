@@ -14,8 +14,8 @@ pub enum Form {
     Order = 3,
 }
 
-/// Whether bytes are well formed; a refusal has the place of the first bad or surplus record, but
-/// for a context.
+/// Whether bytes are well formed; a refusal has the place of the first bad binding, or of the first
+/// bad or surplus record.
 pub fn check(form: Form, bytes: &[u8]) -> Result<(), Refusal> {
     match ffi::check(form as u64, bytes) {
         ffi::Told { number: 0, .. } => Ok(()),
@@ -45,8 +45,20 @@ mod tests {
     #[test]
     fn bad_bytes_are_refused_with_their_place() {
         assert_eq!(check(Form::Context, &[]), Ok(()));
+        let context = [[0xA7, 1, 0, 0, 0, 0, 0, 0]; 3].concat();
+        let bad = |at: usize, byte| {
+            let mut bytes = context.clone();
+            bytes[at] = byte;
+            let refusal = check(Form::Context, &bytes).unwrap_err();
+            (refusal.number, refusal.place)
+        };
+        assert_eq!(check(Form::Context, &context), Ok(()));
+        assert_eq!(bad(8, 0), (16, 2));
+        assert_eq!(bad(17, 0), (16, 3));
+        assert_eq!(bad(2, 2), (17, 1));
+        assert_eq!(bad(19, 1), (17, 3));
         let refusal = check(Form::Context, &[0xA7]).unwrap_err();
-        assert_eq!((refusal.number, refusal.place), (1, 0));
+        assert_eq!((refusal.number, refusal.place), (15, 0));
         let refusal = check(Form::Records, &[0; 24]).unwrap_err();
         assert_eq!((refusal.number, refusal.place), (2, 1));
         let refusal = check(Form::Order, &[0xA8; 3]).unwrap_err();

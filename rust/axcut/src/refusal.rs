@@ -6,8 +6,6 @@ use std::fmt;
 #[derive(Debug, Clone, Copy, PartialEq, Eq)]
 #[repr(u64)]
 pub enum Cause {
-    /// Context not whole records, bad mark, kind or zero byte, over 4,096.
-    Context = 1,
     /// Malformed instruction or order, too many, or a heap of the wrong size.
     Malformed = 2,
     /// An operand or label that may not be given, or a stack that has not the frame's words.
@@ -30,12 +28,17 @@ pub enum Cause {
     Fault = 11,
     /// Step limit reached before the end.
     Limit = 12,
+    /// A context, or bindings, not of whole records, or of more than 4,096.
+    ContextLength = 15,
+    /// The first bad binding's mark.
+    BindingMark = 16,
+    /// The first bad binding's kind or zero byte.
+    BindingKind = 17,
     /// An edition other than 1 or 2; checked before every other cause.
     Edition = 23,
 }
 
-const CAUSES: [(Cause, &str); 13] = [
-    (Cause::Context, "malformed context"),
+const CAUSES: [(Cause, &str); 15] = [
     (
         Cause::Malformed,
         "malformed record, or a heap of the wrong size",
@@ -53,17 +56,27 @@ const CAUSES: [(Cause, &str); 13] = [
     (Cause::Room, "output too short"),
     (Cause::Fault, "machine fault"),
     (Cause::Limit, "step limit reached"),
+    (
+        Cause::ContextLength,
+        "bindings that are not whole, or more than 4096",
+    ),
+    (Cause::BindingMark, "its mark is not A7 01"),
+    (
+        Cause::BindingKind,
+        "its kind is neither 0 nor 1, or its zero byte is not 0",
+    ),
     (Cause::Edition, "no such edition"),
 ];
 
 /// A refusal: nothing was written, and no label was drawn.
 #[derive(Debug, Clone, Copy, PartialEq, Eq)]
 pub struct Refusal {
-    /// 1 to 12, or 23.
+    /// 2 to 12, 15 to 17, or 23.
     pub number: u64,
     /// The bytes needed (10), the steps done (11) or the limit (12); else 0.
     pub value: u64,
-    /// The record's place, from 1 (2, 11), or 0 for a heap of the wrong size; else 0.
+    /// The record's place, from 1 (2, 11), or 0 for a heap of the wrong size; the first bad binding's, from 1
+    /// (16, 17), where those of bindings, or of variables to load, count on from the context's; else 0.
     pub place: u64,
 }
 
@@ -76,10 +89,10 @@ impl Refusal {
         }
     }
 
-    /// A refusal by number with the one word beside it: a place for 2, else a value.
+    /// A refusal by number with the one word beside it: a place for 2 and 15 to 17, else a value.
     pub(crate) fn told(number: u64, word: u64) -> Refusal {
         match number {
-            2 => Refusal {
+            2 | 15..=17 => Refusal {
                 number,
                 value: 0,
                 place: word,
@@ -111,7 +124,11 @@ impl Refusal {
 
 impl fmt::Display for Refusal {
     fn fmt(&self, f: &mut fmt::Formatter) -> fmt::Result {
-        write!(f, "refused with {}: {}", self.number, self.words())
+        write!(f, "refused with {}: ", self.number)?;
+        if let Some(Cause::BindingMark | Cause::BindingKind) = self.cause() {
+            write!(f, "binding {}: ", self.place)?;
+        }
+        f.write_str(self.words())
     }
 }
 
@@ -131,6 +148,28 @@ mod tests {
         let refusal = Refusal::told(23, 0);
         assert_eq!(refusal.cause(), Some(Cause::Edition));
         assert_eq!(refusal.to_string(), "refused with 23: no such edition");
+        assert_eq!(Refusal::told(1, 0).cause(), None);
         assert_eq!(Refusal::told(13, 0).cause(), None);
+    }
+
+    #[test]
+    fn a_bad_binding_is_named_by_its_place() {
+        let refusal = Refusal::told(15, 0);
+        assert_eq!(refusal.cause(), Some(Cause::ContextLength));
+        assert_eq!(
+            refusal.to_string(),
+            "refused with 15: bindings that are not whole, or more than 4096"
+        );
+        let refusal = Refusal::told(16, 7);
+        assert_eq!(refusal.cause(), Some(Cause::BindingMark));
+        assert_eq!((refusal.value, refusal.place), (0, 7));
+        assert_eq!(
+            refusal.to_string(),
+            "refused with 16: binding 7: its mark is not A7 01"
+        );
+        assert_eq!(
+            Refusal::told(17, 100).to_string(),
+            "refused with 17: binding 100: its kind is neither 0 nor 1, or its zero byte is not 0"
+        );
     }
 }

@@ -1,7 +1,6 @@
 use mathlib.Core.Path.{refl}
 use Rattle.records.specs.Bytes.{le, number}
-use Rattle.records.specs.Checked.{checked, firstBad}
-use Rattle.records.specs.Contexts.{bindingBytes, bindingStarts}
+use Rattle.records.specs.Contexts.{bindingBytes, firstFlaw, checkedContext}
 use Rattle.records.specs.Orders.{orderBytes, orderIn, orderOf, orderReaders, orderOk, orderOperandsOk, usedByOrder, orderStarts}
 use Rattle.emit.specs.Answers.{granted}
 use Rattle.layout.specs.Config.{base, stackOffset}
@@ -16,7 +15,7 @@ use Rattle.worked.proofs.worked_numbers.Statement.{statement}
 use Rattle.worked.proofs.worked_numbers.Tie as tie
 
 holds : WorkedNumbers
-unfolding le checked firstBad bindingBytes bindingStarts granted stackOffset location positionAnswer storeAnswer loadAnswer answerTo number orderBytes orderIn orderOf orderReaders orderOk orderOperandsOk usedByOrder orderStarts present kindsOk asked
+unfolding le checkedContext firstFlaw bindingBytes granted stackOffset location positionAnswer storeAnswer loadAnswer answerTo number orderBytes orderIn orderOf orderReaders orderOk orderOperandsOk usedByOrder orderStarts present kindsOk asked
 holds = record {
   position-11 = refl;
   position-12 = refl;

@@ -1,8 +1,7 @@
 use mathlib.Core.Path.{refl}
 use native.Mathlib.Omega.{arith}
 use Rattle.records.specs.Bytes.{le, number}
-use Rattle.records.specs.Checked.{checked, firstBad}
-use Rattle.records.specs.Contexts.{bindingBytes, bindingStarts}
+use Rattle.records.specs.Contexts.{bindingBytes, firstFlaw, checkedContext}
 use Rattle.records.specs.Orders.{orderBytes, orderIn, orderOf, orderReaders, orderOk, orderOperandsOk, usedByOrder, orderStarts}
 use Rattle.emit.specs.Answers.{granted}
 use Rattle.layout.specs.Config.{larger, frameOf, stackOffset}
@@ -17,7 +16,7 @@ use Rattle.worked.proofs.worked_numbers_of_larger.Statement.{statement}
 use Rattle.worked.proofs.worked_numbers_of_larger.Tie as tie
 
 holds : WorkedNumbersOfLarger
-unfolding treeOf contextAfter frameOf le checked firstBad bindingBytes bindingStarts granted stackOffset location positionAnswer operandOk eraseAnswer storeAnswer loadAnswer answerTo number orderBytes orderIn orderOf orderReaders orderOk orderOperandsOk usedByOrder orderStarts present kindsOk asked
+unfolding treeOf contextAfter frameOf le checkedContext firstFlaw bindingBytes granted stackOffset location positionAnswer operandOk eraseAnswer storeAnswer loadAnswer answerTo number orderBytes orderIn orderOf orderReaders orderOk orderOperandsOk usedByOrder orderStarts present kindsOk asked
 holds = record {
   frame-256 = refl;
   frame-512 = refl;

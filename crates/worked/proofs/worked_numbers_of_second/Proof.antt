@@ -1,7 +1,6 @@
 use mathlib.Core.Path.{refl}
 use Rattle.records.specs.Bytes.{le}
-use Rattle.records.specs.Checked.{checked, firstBad}
-use Rattle.records.specs.Contexts.{bindingBytes, bindingStarts}
+use Rattle.records.specs.Contexts.{bindingBytes, firstFlaw, checkedContext}
 use Rattle.emit.specs.Answers.{granted}
 use Rattle.layout.specs.Config.{second, frameOf, editionOf, shapeOf, stackOffset}
 use Rattle.layout.specs.Positions.{location, operandOk}
@@ -14,7 +13,7 @@ use Rattle.worked.proofs.worked_numbers_of_second.Statement.{statement}
 use Rattle.worked.proofs.worked_numbers_of_second.Tie as tie
 
 holds : WorkedNumbersOfSecond
-unfolding le checked firstBad bindingBytes bindingStarts granted stackOffset location operandOk eraseAnswer storeAnswer loadAnswer frameOf editionOf shapeOf fieldOffset
+unfolding le checkedContext firstFlaw bindingBytes granted stackOffset location operandOk eraseAnswer storeAnswer loadAnswer frameOf editionOf shapeOf fieldOffset
 holds = record {
   first-256 = refl;
   first-512 = refl;

@@ -1,7 +1,7 @@
 use borrow.Author.Needs.{needs}
 use native.Mathlib.Omega.{arith}
 use mathlib.Core.Path.{refl, sym, _∙_}
-use Rattle.records.proofs.BindingsRead.{context-within}
+use Rattle.records.proofs.ContextsRead.{context-within}
 use Rattle.answering.proofs.Judging.{left-alone, leaves-as, missing, wrong-kind, too-often, no-position, all-judged}
 use Rattle.answering.proofs.order.judge.Statement.{statement}
 use Rattle.answering.proofs.order.judge.Tie as tie

@@ -2,12 +2,12 @@ use borrow.Author.Needs.{needs}
 use native.Mathlib.Omega.{arith}
 use Prim.Native.Nat.{ℕ, _*_}
 use mathlib.Core.Path.{refl, sym, ap, _∙_}
-use Rattle.records.proofs.BindingsRead.{context-within}
+use Rattle.records.proofs.ContextsRead.{context-within, context-long}
 use Rattle.orders.specs.Writes.{treeOf, contextAfter}
 use Rattle.answering.specs.Decided.{written}
 use Rattle.judging.proofs.Asking.{few-after}
 use Rattle.ordering.proofs.Extent.{order-extent}
-use Rattle.judging.proofs.Leaving.{context-long, after-long}
+use Rattle.judging.proofs.Leaving.{after-long}
 use Rattle.answering.proofs.Judging.{bounds, not-written, all-written}
 use Rattle.answering.proofs.order.write_order.Statement.{statement}
 use Rattle.answering.proofs.order.write_order.Tie as tie

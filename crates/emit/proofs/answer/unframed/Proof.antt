@@ -11,4 +11,4 @@ unframed-spec =
     (λ c. search needs)
     (λ c. search needs)
     (λ c. (rw (sym (c .before .before .check-context .ensures .answer) ∙ c .enum-told .given .1), refl))
-    (λ c. (rw (sym (c .before .before .check-context .ensures .answer) ∙ c .enum-told2 .given .1), refl)))
+    (λ c. (rw (sym (c .before .before .before .check-context .ensures .answer) ∙ c .before .flaw .given .1), refl)))

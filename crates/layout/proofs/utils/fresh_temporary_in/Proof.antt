@@ -1,9 +1,9 @@
 use borrow.Author.Needs.{needs}
 use mathlib.Core.Path.{sym, _∙_}
 use native.Mathlib.Omega.{arith}
-use Rattle.records.proofs.BindingsRead.{context-within}
+use Rattle.records.proofs.ContextsRead.{context-within}
 use Rattle.records.proofs.Answers.{answers-by}
-use Rattle.layout.proofs.Placing.{fresh, fresh-malformed}
+use Rattle.layout.proofs.Placing.{fresh, fresh-bad}
 use Rattle.layout.proofs.utils.fresh_temporary_in.Statement.{statement}
 use Rattle.layout.proofs.utils.fresh_temporary_in.Tie as tie
 
@@ -19,4 +19,4 @@ fresh-temporary-in-spec =
     (λ c κs. search needs)
     (λ c. search needs)
     (λ c. answers-by (fresh _ _ _ _ (sym (c .before .before .before .before .check-context .ensures .answer) ∙ c .before .before .n .given .1) (c .before .before .before .before .before .number-of .ensures .0) (c .position-in .ensures .answer)))
-    (λ c. answers-by (fresh-malformed _ _ _ _ (sym (c .before .before .check-context .ensures .answer) ∙ c .enum-told .given .1))))
+    (λ c. answers-by (fresh-bad _ _ _ _ (sym (c .before .before .before .check-context .ensures .answer) ∙ c .before .flaw .given .1))))

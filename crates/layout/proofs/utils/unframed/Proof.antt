@@ -12,4 +12,4 @@ unframed-spec =
     (λ c. search needs)
     (λ c. search needs)
     (λ c. answers-by (rw (sym (c .before .before .check-context .ensures .answer) ∙ c .enum-told .given .1)))
-    (λ c. answers-by (rw (sym (c .before .before .check-context .ensures .answer) ∙ c .enum-told2 .given .1))))
+    (λ c. answers-by (rw (sym (c .before .before .before .check-context .ensures .answer) ∙ c .before .flaw .given .1))))

@@ -9,5 +9,6 @@ check-context-spec =
     (λ c κs. search needs)
     (λ c. search needs)
     (λ c. search needs)
+    (λ c κs. search needs)
     (λ c. rw (← (c .before .before .check-context .ensures .answer), c .enum-told .given .1))
-    (λ c. rw (← (c .before .before .check-context .ensures .answer), c .enum-told2 .given .1)))
+    (λ c. rw (← (c .before .before .before .before .before .check-context .ensures .answer), c .before .before .before .flaw .given .1) (c .flaw-told .ensures)))

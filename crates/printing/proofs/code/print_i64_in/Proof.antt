@@ -1,7 +1,7 @@
 use borrow.Author.Needs.{needs}
 use mathlib.Core.Path.{refl, sym, _∙_}
 use Rattle.emit.specs.Wrote.{refused}
-use Rattle.records.proofs.BindingsRead.{context-within}
+use Rattle.records.proofs.ContextsRead.{context-within}
 use Rattle.printing.proofs.code.print_i64_in.Statement.{statement}
 use Rattle.printing.proofs.code.print_i64_in.Tie as tie
 
@@ -15,4 +15,4 @@ print-i64-in-spec =
     (λ c. search needs)
     (λ c. search needs)
     (λ c. rw (sym (c .before .before .before .before .before .before .before .check-context .ensures .answer) ∙ c .before .before .before .before .before .n .given .1) (c .before .before .print-checked .ensures))
-    (λ c. rw (sym (c .before .before .check-context .ensures .answer) ∙ c .enum-told .given .1) (refused refl refl refl)))
+    (λ c. rw (sym (c .before .before .before .check-context .ensures .answer) ∙ c .before .flaw .given .1) (refused refl refl refl)))

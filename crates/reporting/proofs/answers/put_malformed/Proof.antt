@@ -1,12 +1,12 @@
 use borrow.Author.Needs.{needs}
 use Rattle.text.specs.Text.{digits}
 use Rattle.text.proofs.Putting.{_⨟_}
-use Rattle.reporting.specs.Answers.{causeWords, causeValue, refusal}
+use Rattle.reporting.specs.Answers.{causeWords, causeValue, separator, refusal}
 use Rattle.reporting.proofs.answers.put_malformed.Statement.{statement}
 use Rattle.reporting.proofs.answers.put_malformed.Tie as tie
 
 pub put-malformed-spec : {M : Type 1} → statement M
-unfolding digits causeWords causeValue refusal
+unfolding digits causeWords causeValue separator refusal
 put-malformed-spec =
     tie.close
     (tie.spec

@@ -4,12 +4,12 @@ use native.Mathlib.Omega.{arith}
 use Rattle.text.specs.Text.{digits}
 use Rattle.text.proofs.Putting.{at-most, _⨟_}
 use Rattle.layout.proofs.Placing.{framed-supported}
-use Rattle.reporting.specs.Answers.{positionWords, causeWords, refusal}
+use Rattle.reporting.specs.Answers.{positionWords, causeWords, separator, refusal}
 use Rattle.reporting.proofs.answers.put_position.Statement.{statement}
 use Rattle.reporting.proofs.answers.put_position.Tie as tie
 
 pub put-position-spec : {M : Type 1} → statement M
-unfolding digits positionWords causeWords refusal
+unfolding digits positionWords causeWords separator refusal
 put-position-spec =
     tie.close
     (tie.spec

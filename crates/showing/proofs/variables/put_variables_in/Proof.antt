@@ -1,8 +1,8 @@
 use borrow.Author.Needs.{needs}
 use mathlib.Core.Path.{sym, _∙_}
 use native.Mathlib.Omega.{arith}
-use Rattle.records.proofs.BindingsRead.{context-within}
-use Rattle.showing.proofs.Rows.{of-malformed, of-many, of-few}
+use Rattle.records.proofs.ContextsRead.{context-within}
+use Rattle.showing.proofs.Rows.{of-bad, of-many, of-few}
 use Rattle.showing.proofs.variables.put_variables_in.Statement.{statement}
 use Rattle.showing.proofs.variables.put_variables_in.Tie as tie
 
@@ -18,6 +18,6 @@ put-variables-in-spec =
     (λ c. let a = c .before .before .before .before .before .before .before .before .before .before .args in of-many (a .g) (a .context .now) (a .registers .now) (a .stack .now) _ _ (sym (c .before .before .before .before .check-context .ensures .answer) ∙ c .before .before .checked .given .1) (c .if1 .taken))
     (λ c κs. search needs)
     (λ c κs. let w = c .before .before .before .before .before .before .before .before .before .before .before .before .before .pre in let l = c .before .before .before .if1 .left in let h = context-within _ _ (sym (c .before .before .before .before .before .before .before .check-context .ensures .answer) ∙ c .before .before .before .before .before .checked .given .1) in (h .1, l, w .0, c .before .before .positions .ensures, omega (arith, w .1), w .2))
-    (λ c. let a = c .before .before .before .before .before .before .before .before .args in of-malformed (a .g) (a .context .now) (a .registers .now) (a .stack .now) _ _ (sym (c .before .before .check-context .ensures .answer) ∙ c .enum-told .given .1))
+    (λ c. let a = c .before .before .before .before .before .before .before .before .args in of-bad (a .g) (a .context .now) (a .registers .now) (a .stack .now) _ _ (sym (c .before .before .check-context .ensures .answer) ∙ c .enum-told .given .1))
     (λ c. search needs)
     (λ c. let a = c .before .before .before .before .before .before .before .before .before .before .before .before .before .before .before .before .args in of-few (a .g) (a .context .now) (a .registers .now) (a .stack .now) _ _ (sym (c .before .before .before .before .before .before .before .before .before .before .check-context .ensures .answer) ∙ c .before .before .before .before .before .before .before .before .checked .given .1) (c .before .before .before .before .before .before .if1 .left) (c .before .before .put-first .ensures)))

@@ -16,4 +16,4 @@ store-in-spec =
     (λ c. search needs)
     (λ c. search needs)
     (λ c. c .before .before .store-last .ensures)
-    (λ c. rw (sym (c .before .before .check-context .ensures .answer) ∙ c .enum-told .given .1) (refused refl refl refl)))
+    (λ c. rw (sym (c .before .before .before .check-context .ensures .answer) ∙ c .before .flaw .given .1) (refused refl refl refl)))

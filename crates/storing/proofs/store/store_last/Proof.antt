@@ -1,7 +1,7 @@
 use borrow.Author.Needs.{needs}
 use mathlib.Core.Path.{refl, sym, _∙_}
 use native.Mathlib.Omega.{arith}
-use Rattle.records.proofs.BindingsRead.{context-within}
+use Rattle.records.proofs.ContextsRead.{context-within}
 use Rattle.emit.specs.Wrote.{refused}
 use Rattle.storing.proofs.Answering.{answers-as, missing, no-position, tree, stored, fits}
 use Rattle.storing.proofs.AtOnce.{ample-if}
