@@ -7,7 +7,6 @@ use mathlib.Core.List.{List, [], _∷_}
 use lib.Dec.{ltb}
 use lib.Seq.{sets}
 use Rattle.records.specs.Causes.{ACCEPTED, MALFORMED, OPERAND, MISSING, ARGUMENTS, COUNT, POSITION, LABELS, ROOM, EDITION}
-use Rattle.records.specs.declared.context.Flaw.{Flaw}
 use Rattle.records.specs.declared.context.ContextRead.{ContextRead}
 use Rattle.records.specs.declared.context.ContextRead.the-variants.{Good, Bad}
 use Rattle.records.specs.declared.code.Code.{Code}

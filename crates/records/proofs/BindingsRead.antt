@@ -1,23 +1,15 @@
 -- A binding read at a byte, and stored.
-use Prim.Native.Nat.{ℕ, _+_, _*_, _≤_, _<_}
-use mathlib.Core.Path.{_≡_, sym, _∙_}
-use mathlib.Core.Bool.{Bool, true, false, _&&_}
+use Prim.Native.Nat.{ℕ, _+_, _≤_, _<_}
+use mathlib.Core.Path.{_≡_, _∙_}
 use mathlib.Core.List.{List, [], _∷_}
 use native.Mathlib.Omega.{arith}
-use lib.Dec.{leb, eqb}
-use lib.ListN.{length, getD, drop, length-drop}
+use lib.ListN.{length, getD, drop}
 use lib.Seq.{getD-drop, sets}
-use borrow.Author.Tests.{eq-eqb, ne-eqb, le-leb, lt-leb, leb-true}
 use Rattle.records.specs.declared.binding.Kind.{Kind}
 use Rattle.records.specs.declared.binding.Binding.{Binding}
 use Rattle.records.specs.Bytes.{le, number, stored}
-use Rattle.records.specs.declared.check.Checked.the-variants.{Good}
-use Rattle.records.specs.Checked.{places, checked}
-use Rattle.records.specs.Contexts.{kindByte, kindOf, bindingBytes, bindingIn, bindingStarts, checkedContext}
-use Rattle.records.proofs.Checking.{good-within}
-use Rattle.records.proofs.Conditions.{and-left}
+use Rattle.records.specs.Contexts.{kindByte, kindOf, bindingBytes, bindingIn}
 use Rattle.records.proofs.Numbers.{number-drop}
-use Rattle.records.proofs.Starting.{too-short, long-enough, first-byte}
 use Rattle.records.proofs.Storing.{sets-then, stored-whole, stored-nothing}
 
 module _ (s : List ℕ) (i : ℕ) where

@@ -9,7 +9,6 @@ use lib.Dec.{leb, eqb}
 use lib.ListN.{length, drop}
 use lib.Seq.{drop-drop}
 use borrow.Author.Tests.{eqb-true}
-use Rattle.records.specs.declared.context.ContextRead.the-variants.{Good}
 use Rattle.records.specs.Contexts.{lengthOk, firstFlaw, checkedContext}
 use Rattle.records.specs.Flaws.{GoodBefore, BadBindingsAreTold}
 use Rattle.records.proofs.Conditions.{both}
