@@ -7,10 +7,10 @@
  * it are set (`place`, `value`, `count`, `steps`). The exceptions are AXCUT_FAULT and AXCUT_LIMIT of axcut_run, which leave the
  * state that the steps done reached.
  *
- * Contexts. Where a function reads a context, its length is checked first (AXCUT_CONTEXT_LENGTH, place 0); then the first bad binding
- * is answered with its place from 1, for its mark (AXCUT_BINDING_MARK) before its kind and zero byte (AXCUT_BINDING_KIND). Where
- * bindings come after a context, as an order's do and the variables to load, the context comes wholly before them, and their places
- * count on: the second binding after a context of 12 is place 14. `value` is then the place.
+ * Contexts. Where a function reads a context, its length is checked first (AXCUT_CONTEXT_LENGTH, place 0); then the first bad
+ * binding is told with its place from 1, for its mark (AXCUT_BINDING_MARK) before its kind and zero byte (AXCUT_BINDING_KIND).
+ * Where bindings come after a context, as an order's do and the variables to load, the context comes wholly before them, and
+ * their places count on: the second binding after a context of 12 is place 14.
  *
  * Editions. A routine or a channel has blocks of 3 fields (edition 1) or of 7 (edition 2), throughout. What depends on it takes
  * the edition's number first; another number is AXCUT_EDITION, whatever is asked.
@@ -192,9 +192,9 @@ enum {
 
 /*
  * Checks bytes: a context, a list of at most 65,536 instruction records, or an order (one record). A bad context is
- * AXCUT_CONTEXT_LENGTH, which is checked first, or at the first bad binding AXCUT_BINDING_MARK, then AXCUT_BINDING_KIND; bad records
- * are AXCUT_MALFORMED; a kind that is none of the three is AXCUT_OPERAND. `place` is the place of the first bad binding or of the
- * first bad or surplus record, from 1; 0 for a bad length, for another kind, and where the bytes are accepted.
+ * AXCUT_CONTEXT_LENGTH, AXCUT_BINDING_MARK or AXCUT_BINDING_KIND, as above; bad records are AXCUT_MALFORMED; a kind that is none of
+ * the three is AXCUT_OPERAND. `place` is the place of the first bad binding or of the first bad or surplus record, from 1; 0 for a
+ * bad length, for another kind, and where the bytes are accepted.
  */
 uint64_t axcut_check(uint64_t kind, const uint8_t *bytes, size_t length, uint64_t *place);
 
@@ -325,8 +325,8 @@ enum {
 
 /*
  * Where a variable or field stands: a field by the edition, all else by the frame, and a field's offset does not ask whether there
- * is such a frame. What else a query does not take is not read. On a refusal `value` is the place of the context's first bad binding
- * (AXCUT_BINDING_MARK, AXCUT_BINDING_KIND), else 0.
+ * is such a frame. What else a query does not take is not read. On a refusal `value` is the place of the context's first bad
+ * binding (AXCUT_BINDING_MARK, AXCUT_BINDING_KIND), else 0.
  */
 uint64_t axcut_query(uint64_t edition, uint64_t frame, uint64_t query, bool second, uint64_t at, uint32_t id,
                      const uint8_t *context, size_t length, uint64_t *value);
@@ -355,8 +355,9 @@ enum {
  * Answers one order on a context: its records into `records_out`, the context after it into `context_out`. `bindings` are the n
  * that a load makes of its object, else none; another number of them is AXCUT_MALFORMED, place 1. `counter` is the last label
  * drawn before; where the answer is 0 it becomes the last one drawn by this order. Accepted, `value` is the number of records
- * and `count` the number of bindings written; else `value` is the place (AXCUT_MALFORMED; AXCUT_BINDING_MARK and AXCUT_BINDING_KIND,
- * where a place above the number of the context's variables is a binding's), the bytes needed (AXCUT_ROOM) or 0, and `count` is 0.
+ * and `count` the number of bindings written; else `value` is the place (AXCUT_MALFORMED; AXCUT_BINDING_MARK and
+ * AXCUT_BINDING_KIND, where a place above the number of the context's variables is one of `bindings`), the bytes needed
+ * (AXCUT_ROOM) or 0, and `count` is 0.
  *
  * The records are then run by axcut_run with `value` as the limit, on the state and the heap that the last run left; the next
  * order goes in with the context answered here.
