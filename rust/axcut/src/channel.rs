@@ -428,7 +428,7 @@ mod tests {
         assert_eq!(channel.order_bytes(&print, &[]).unwrap().prints.len(), 1);
         assert_eq!(channel.order_bytes(&print[..23], &[]).unwrap_err().place, 1);
         assert_eq!(channel.order_bytes(&[], &[]).unwrap_err().number, 2);
-        assert_eq!(channel.order_bytes(&print, &[0xA7]).unwrap_err().number, 1);
+        assert_eq!(channel.order_bytes(&print, &[0xA7]).unwrap_err().number, 15);
         assert_eq!(
             channel
                 .order_bytes(&print, &context(false, 1))
