@@ -1,5 +1,6 @@
 use borrow.Author.Needs.{needs}
 use mathlib.Core.Path.{sym, ap, _∙_}
+use native.Mathlib.Omega.{arith}
 use Rattle.records.specs.Orders.{orderOf}
 use Rattle.records.proofs.ContextsRead.{context-within, counted-good}
 use Rattle.records.proofs.OrdersRead.{ok-code, starts-ok}
@@ -12,7 +13,7 @@ bad-context c = context-bad _ _ _ _ (sym (c .before .before .before .check-conte
 
 -- the bindings come after the context's variables
 within : tie.Need-check-after-requires
-within c κs = context-within (c .before .before .before .before .before .before .before .args .context .now) _ (sym (c .before .before .before .check-context .ensures .answer) ∙ c .before .k .given .1) .0
+within c κs = let w = context-within (c .before .before .before .before .before .before .before .args .context .now) _ (sym (c .before .before .before .check-context .ensures .answer) ∙ c .before .k .given .1) in omega arith
 
 bad-bindings : tie.Need-returns-2
 bad-bindings c = bindings-bad _ _ _ _ (sym (c .before .before .before .before .before .before .before .check-context .ensures .answer) ∙ c .before .before .before .before .before .k .given .1) _ (sym (c .before .before .before .check-after .ensures .answer) ∙ c .before .flaw2 .given .1)
