@@ -12,6 +12,6 @@ fn stored_answers_are_the_rusts() {
 #[test]
 fn replayed_answers_are_the_rusts() {
     let requests = include_str!("../vectors/requests.txt");
-    let stored: &[u8] = include_bytes!("../../crates/replay/stdin");
+    let stored: &[u8] = include_bytes!("../../crates/test_replay/stdin");
     assert!(side::run(&["replay-file"], requests) == stored);
 }

@@ -2,15 +2,15 @@
 // and the variables and blocks at the end, unless a run did not end. An argument `listing` asks for the instructions too, `edition N` for the blocks of an edition
 // and `frame N` for a frame of so many spills, of the files after it; the edition is 1 and a frame has 256 where none is asked.
 ghost use Prim.Native.Nat.{_<_, _≤_};
-use chains::Counted;
+use heap_chains::Counted;
 use libc::STDERR_FILENO;
 use libc::STDIN_FILENO;
 use libc::STDOUT_FILENO;
-use options::Heard;
-use options::Options;
-use options::Said;
-use orders::answer::Answer;
-use playing::channel::Channel;
+use program_options::Heard;
+use program_options::Options;
+use program_options::Said;
+use order_spec::answer::Answer;
+use channel_step::channel::Channel;
 
 // What print calls leave in registers: nothing depends on it.
 const LEFT: u64 = 0x5A5A5A5A5A5A5A5A;
@@ -26,7 +26,7 @@ struct Going {
 }
 
 fn start(edition: u64, frame: u64) -> Going {
-    let channel = playing::channel::fresh(edition, frame);
+    let channel = channel_step::channel::fresh(edition, frame);
     Going {
         at: 0,
         number: 1,
@@ -80,13 +80,13 @@ fn is_ended(ran: machine::run::Answer) -> bool {
 
 fn tell(frame: u64, number: u64, order: &[u8], before: u64, answer: Answer) {
     let mut line = [0u8; 256];
-    let size = reporting::answers::put_order(&mut line, 0, frame, number, order, before, answer);
+    let size = report::answers::put_order(&mut line, 0, frame, number, order, before, answer);
     show(&line, size);
 }
 
 fn tell_stop(number: u64, order: &[u8], ran: machine::run::Answer) {
     let mut line = [0u8; 256];
-    let size = reporting::stops::put_stop(&mut line, 0, number, order, ran);
+    let size = report::stops::put_stop(&mut line, 0, number, order, ran);
     show(&line, size);
 }
 
@@ -110,12 +110,12 @@ fn print(
     registers: &[u64; 16],
     stack: &[u64],
 ) -> usize {
-    let words = playing::channel::stack_words(frame);
+    let words = channel_step::channel::stack_words(frame);
     if stack.len() < words {
         return printed;
     }
     if printed < 262144 {
-        return showing::prints::put_print(
+        return report_state::prints::put_print(
             prints,
             printed,
             frame,
@@ -159,7 +159,7 @@ fn item(
     next: usize,
 ) -> Going {
     let before = g.channel;
-    let played = playing::channel::play(
+    let played = channel_step::channel::play(
         before,
         heap,
         records,
@@ -210,7 +210,7 @@ fn turn(
     if input.len() <= at {
         return g;
     }
-    let found = playing::list::item_at(input, at);
+    let found = channel_step::list::item_at(input, at);
     let middle = found.order_end;
     let end = found.end;
     item(
@@ -268,12 +268,12 @@ fn show_context(
     stack: &[u64],
     text: &mut [u8],
 ) {
-    let words = playing::channel::stack_words(frame);
+    let words = channel_step::channel::stack_words(frame);
     if stack.len() < words {
         return;
     }
     if used <= context.len() {
-        let size = showing::variables::put_variables(
+        let size = report_state::variables::put_variables(
             text,
             0,
             edition,
@@ -304,11 +304,11 @@ fn show_variables(channel: Channel, text: &mut [u8]) {
 
 fn show_blocks(channel: Channel, heap: &[u64]) {
     let registers = channel.registers;
-    let Counted::Of(blocks) = chains::count_blocks(channel.edition, &registers, heap) else {
+    let Counted::Of(blocks) = heap_chains::count_blocks(channel.edition, &registers, heap) else {
         return;
     };
     let mut line = [0u8; 256];
-    let size = reporting::put_blocks(
+    let size = report::put_blocks(
         &mut line,
         0,
         blocks.linear,
@@ -323,7 +323,7 @@ fn show_blocks(channel: Channel, heap: &[u64]) {
 // than the 10,922 orders of the longest list can print.
 fn channel(input: &[u8], text: &mut [u8], listed: bool, edition: u64, frame: u64) {
     let mut heap = [0u64; 65536];
-    let mut records = [0u8; playing::channel::RECORDS];
+    let mut records = [0u8; channel_step::channel::RECORDS];
     let mut prints = [0u8; 262144];
     let g = play(
         input,
@@ -381,14 +381,14 @@ struct Asked {
 // What is wrong with an edition or a frame.
 fn warn(said: Said) {
     let mut line = [0u8; 32];
-    let size = options::put_said(&mut line, 0, said);
+    let size = program_options::put_said(&mut line, 0, said);
     show_on(STDERR_FILENO, &line, size);
 }
 
 // A list is played where there are such an edition and such a frame.
 fn play_file(name: &[u8], a: Asked) -> Asked {
     let chosen = a.options;
-    if options::is_played(chosen) {
+    if program_options::is_played(chosen) {
         channel_of(name, a.listed, chosen.edition, chosen.frame);
     }
     Asked {
@@ -411,7 +411,7 @@ fn read_other(word: &[u8], a: Asked) -> Asked {
 }
 
 fn read_word(word: &[u8], a: Asked) -> Asked {
-    match options::hear(word, a.options) {
+    match program_options::hear(word, a.options) {
         Heard::Choice(chosen, said) => {
             warn(said);
             Asked {
@@ -433,7 +433,7 @@ fn read_argument(i: usize, a: Asked) -> Asked {
 // The files are played as they are named.
 fn read_arguments(count: usize) -> Asked {
     let mut a = Asked {
-        options: options::at_first(),
+        options: program_options::at_first(),
         listed: false,
         named: false,
     };
@@ -448,11 +448,11 @@ fn read_arguments(count: usize) -> Asked {
 fn main() {
     let a = read_arguments(os::arg_count());
     let chosen = a.options;
-    warn(options::still_to_come(chosen));
+    warn(program_options::still_to_come(chosen));
     if a.named {
         return;
     }
-    if options::is_played(chosen) {
+    if program_options::is_played(chosen) {
         channel_from(STDIN_FILENO, a.listed, chosen.edition, chosen.frame);
     }
 }

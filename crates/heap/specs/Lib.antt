@@ -1,4 +1,4 @@
--- Definitions first, in the order in which to read them: `Claims` and those before it are all that the promises say. Lemmas follow.
+-- The abstract heap, in the order in which to read it. `Claims` and those before it are all that the promises say.
 pub mod Counting  -- how often an address stands in a list or in fields
 pub mod Blocks  -- block addresses, fields, the memory with its two free lists
 pub mod Reachability  -- the blocks that pointers lead to, and their number
@@ -7,19 +7,3 @@ pub mod Operations  -- what erase, acquire, store, load and share do to the memo
 pub mod Orders  -- the orders, the plain machine, and runs from the fresh heap
 pub mod Claims  -- the sound heap, and the claims
 pub mod Words  -- the memory that the heap's words show
-pub mod Invariant  -- what the proofs carry from one operation to the next
-pub mod CountingLemmas  -- counts of joined, repeated and shortened lists
-pub mod BlockLemmas  -- distinct blocks, and frames for chains and counts
-pub mod WordLemmas  -- address arithmetic, and changes of words
-pub mod OperationLemmas  -- erase, release and acquire keep the invariant
-pub mod ReachabilityLemmas  -- held is reachable, and reachable is held
-pub mod ValueLemmas  -- values stay held where what they reach is the same
-pub mod ConsistencyLemmas  -- changes of roots and counts, drop, and what is preserved
-pub mod StoreLemmas  -- the store of an object of any number of blocks
-pub mod LoadLemmas  -- copy, and both loads
-pub mod SoundLemmas  -- consistent is sound; one frontier; counts bounded; the full heap
-pub mod RoomLemmas  -- the number of reachable blocks, and the room that a store needs
-pub mod OrderLemmas  -- each order takes the plain machine's step
-pub mod GrowthLemmas  -- the frontier stays below a bound that leaves room for the blocks acquired
-pub mod RunLemmas  -- the claims, by induction over a run
-pub mod Example  -- a run of three orders

@@ -4,7 +4,10 @@ use mathlib.Core.List.{List, [], _∷_}
 use Prim.Native.Nat.{ℕ, zero, suc, _+_, _-_, _*_, _/_}
 use mathlib.Core.Bool.{cond}
 use lib.Dec.{eqb}
-use Rattle.heap.specs.Blocks.{Cell, cell, Memory}
+use mathlib.Core.Path.{_≡_, sym, ap, _∙_}
+use native.Mathlib.Nat.{mul-div-cancel-left}
+use native.Mathlib.Omega.{arith}
+use Rattle.heap.specs.Blocks.{Layout, Cell, cell, Memory}
 
 -- the words of a block
 abbrev pub stride : ℕ → ℕ
@@ -17,6 +20,14 @@ wordAt fieldCount j w = stride fieldCount * j + w
 -- block j's address, and the number of the block at an address
 abbrev pub addressOf : ℕ → ℕ → ℕ
 addressOf fieldCount j = 65536 + 8 * (stride fieldCount * j)
+
+-- the blocks' addresses: none is 0, and no two are the same
+abbrev pub layout : ℕ → Layout
+layout fieldCount = record {
+  address = addressOf fieldCount;
+  nonzero = λ j. omega arith;
+  distinct = λ i j e. let same : stride fieldCount * i ≡ stride fieldCount * j = omega arith in sym (mul-div-cancel-left i (omega arith)) ∙ ap (λ (x : ℕ). x / stride fieldCount) same ∙ mul-div-cancel-left j (omega arith);
+}
 
 unfoldable pub numberOf : ℕ → ℕ → ℕ
 numberOf fieldCount b = ((b - 65536) / 8) / stride fieldCount

@@ -15,8 +15,8 @@ use Rattle.records.proofs.Conditions.{and-right}
 use Rattle.records.proofs.CodesRead.{starts-whole}
 use Rattle.machine.specs.declared.run.Answer.{Answer}
 use Rattle.machine.specs.declared.run.Answer.the-variants.{Malformed}
-use Rattle.instructions.specs.View.{View, view}
-use Rattle.instructions.specs.Memory.{heapOk}
+use Rattle.machine_step.specs.View.{View, view}
+use Rattle.machine_step.specs.Memory.{heapOk}
 use Rattle.machine.specs.Run.{Done, causeOf, Leaves, codesOf, started, ran}
 use Rattle.machine.specs.Loop.{Listed, EndsBy}
 use Rattle.machine.proofs.Running.{unlike}

@@ -6,7 +6,7 @@ use native.Mathlib.Omega.{arith}
 use borrow.Author.Tests.{lt-ltb}
 use lib.ListN.{length, getD}
 use lib.Seq.{ext-getD}
-use Rattle.instructions.specs.View.{View, fromEnd}
+use Rattle.machine_step.specs.View.{View, fromEnd}
 use Rattle.machine.specs.Claims.{ViewsDetermine}
 
 end-at : (l : List ℕ) (i : ℕ) → i < length l → fromEnd l (length l - suc i) ≡ getD l i 0

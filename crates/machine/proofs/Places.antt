@@ -3,8 +3,8 @@ use Prim.Native.Nat.{ℕ, _≤_}
 use mathlib.Core.Path.{_≡_}
 use native.Mathlib.Omega.{arith}
 use borrow.Author.Tests.{lt-ltb}
-use Rattle.instructions.specs.declared.memory.Place.the-variants.{Stack}
-use Rattle.instructions.specs.Memory.{placeOf}
+use Rattle.machine_step.specs.declared.memory.Place.the-variants.{Stack}
+use Rattle.machine_step.specs.Memory.{placeOf}
 
 module _ (depth size : ℕ) (h : 7 ≤ depth) where
   pub place-1 : placeOf depth size 1099511627760 ≡ Stack 1

@@ -15,24 +15,24 @@ use Rattle.records.specs.Codes.{codeOf}
 use Rattle.records.specs.Instructions.{fieldsIn, fieldsOk}
 use Rattle.records.specs.ReadBack.{codeIn}
 use Rattle.records.proofs.CodesRead.{starts-ok}
-use Rattle.instructions.specs.declared.instruction.Compared.{Compared}
-use Rattle.instructions.specs.declared.instruction.Compared.the-variants.{Absent}
-use Rattle.instructions.specs.declared.instruction.Pair.{Pair}
-use Rattle.instructions.specs.declared.instruction.Went.{Went}
-use Rattle.instructions.specs.declared.instruction.Went.the-variants.{Next, Called, Jump, End, Fault}
-use Rattle.instructions.specs.declared.instruction.Moved.{Moved}
+use Rattle.machine_step.specs.declared.instruction.Compared.{Compared}
+use Rattle.machine_step.specs.declared.instruction.Compared.the-variants.{Absent}
+use Rattle.machine_step.specs.declared.instruction.Pair.{Pair}
+use Rattle.machine_step.specs.declared.instruction.Went.{Went}
+use Rattle.machine_step.specs.declared.instruction.Went.the-variants.{Next, Called, Jump, End, Fault}
+use Rattle.machine_step.specs.declared.instruction.Moved.{Moved}
 use Rattle.machine.specs.declared.run.Answer.{Answer}
 use Rattle.machine.specs.declared.run.Answer.the-variants as answer
 use Rattle.machine.specs.declared.run.Found.{Found}
 use Rattle.machine.specs.declared.run.Found.the-variants as found
 use Rattle.machine.specs.declared.run.Turn.{Turn}
 use Rattle.machine.specs.declared.run.Turn.the-variants as turn
-use Rattle.instructions.specs.View.{View, view}
-use Rattle.instructions.specs.Step.{Call, Config, config, outcomeOf, step}
+use Rattle.machine_step.specs.View.{View, view}
+use Rattle.machine_step.specs.Step.{Call, Config, config, outcomeOf, step}
 use Rattle.machine.specs.Run.{Done, done, onFound, find, follow, runs, codesOf, started}
-use Rattle.instructions.specs.Forms.{comparedOf, Goes}
+use Rattle.machine_step.specs.Forms.{comparedOf, Goes}
 use Rattle.machine.specs.Loop.{Listed, turnTo, turnOf, Turns, EndsBy}
-use Rattle.instructions.proofs.Flow.{jump-keeps}
+use Rattle.machine_step.proofs.Flow.{jump-keeps}
 
 pub listed-ok : {s : List ℕ} {n k : ℕ} {f : Fields} → Listed s n → k < n → f ≡ fieldsIn (drop (24 * k) s) → fieldsOk f ≡ true
 listed-ok {k} z h e = rw e (starts-ok _ (z .starts k h))

@@ -13,12 +13,12 @@ use Rattle.records.specs.declared.code.Fields.{Fields}
 use Rattle.records.specs.Codes.{readers, codeOf}
 use Rattle.records.specs.Instructions.{fieldsOk}
 use Rattle.records.proofs.CodesRead.{ok-code}
-use Rattle.instructions.specs.declared.instruction.Moved.{Moved}
-use Rattle.instructions.specs.declared.instruction.Pair.{Pair}
-use Rattle.instructions.specs.Step.{Config, Outcome, fault, arithmetic, step}
-use Rattle.instructions.specs.Forms.{operandOf, resultOf, holdsOf, Goes}
-use Rattle.instructions.proofs.Forms.{NoneFrom, none-from}
-use Rattle.instructions.proofs.Instructions.{goes-as}
+use Rattle.machine_step.specs.declared.instruction.Moved.{Moved}
+use Rattle.machine_step.specs.declared.instruction.Pair.{Pair}
+use Rattle.machine_step.specs.Step.{Config, Outcome, fault, arithmetic, step}
+use Rattle.machine_step.specs.Forms.{operandOf, resultOf, holdsOf, Goes}
+use Rattle.machine_step.proofs.Forms.{NoneFrom, none-from}
+use Rattle.machine_step.proofs.Instructions.{goes-as}
 use Rattle.machine.specs.Tables.{tabled, performed}
 
 -- the record f, where its code is k + 1

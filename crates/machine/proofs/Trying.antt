@@ -19,14 +19,14 @@ use Rattle.records.specs.Answers.{AnswersBy}
 use Rattle.records.proofs.Conditions.{and-left, and-right}
 use Rattle.records.proofs.CodesRead.{starts-ok}
 use Rattle.records.proofs.CodesBack.{code-fields, fields-code}
-use Rattle.instructions.specs.declared.instruction.Compared.{Compared}
-use Rattle.instructions.specs.declared.instruction.Pair.{Pair}
-use Rattle.instructions.specs.declared.instruction.Moved.{Moved}
-use Rattle.instructions.specs.declared.instruction.Went.{Went}
-use Rattle.instructions.specs.View.{View, view}
-use Rattle.instructions.specs.Memory.{heapOk}
-use Rattle.instructions.specs.Step.{Call, config, Outcome, step}
-use Rattle.instructions.specs.Forms.{comparedOf, Goes}
+use Rattle.machine_step.specs.declared.instruction.Compared.{Compared}
+use Rattle.machine_step.specs.declared.instruction.Pair.{Pair}
+use Rattle.machine_step.specs.declared.instruction.Moved.{Moved}
+use Rattle.machine_step.specs.declared.instruction.Went.{Went}
+use Rattle.machine_step.specs.View.{View, view}
+use Rattle.machine_step.specs.Memory.{heapOk}
+use Rattle.machine_step.specs.Step.{Call, config, Outcome, step}
+use Rattle.machine_step.specs.Forms.{comparedOf, Goes}
 use Rattle.machine.specs.declared.step.Tried.the-variants.{Took, Malformed}
 use Rattle.machine.specs.declared.run.Turn.{Turn}
 use Rattle.machine.specs.declared.step.Tried.{Tried}

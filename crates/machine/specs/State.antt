@@ -5,8 +5,8 @@ use mathlib.Core.List.{List, [], _∷_}
 use lib.ListN.{replicate}
 use Rattle.layout.specs.declared.config.Shape.{Shape}
 use Rattle.layout.specs.Config.{stackDepth, framePointer, blockBytes}
-use Rattle.instructions.specs.View.{View, view}
-use Rattle.instructions.specs.Memory.{stackEntry, heapStart}
+use Rattle.machine_step.specs.View.{View, view}
+use Rattle.machine_step.specs.Memory.{stackEntry, heapStart}
 use Rattle.machine.specs.declared.state.State.{State}
 
 -- a state beside a heap, as functions

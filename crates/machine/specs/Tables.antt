@@ -6,9 +6,9 @@ use mathlib.Core.List.{List, [], _∷_}
 use lib.Dec.{ltb, eqb}
 use Rattle.records.specs.declared.code.Fields.{Fields}
 use Rattle.word.specs.Words.{signs}
-use Rattle.instructions.specs.View.{putReg}
-use Rattle.instructions.specs.Step.{Config, Outcome, next, jump, fault, changed, dropped, arithmetic, move, compare, divide, branch, push, pop, call, return}
-use Rattle.instructions.specs.Forms.{operandOf, resultOf, holdsOf}
+use Rattle.machine_step.specs.View.{putReg}
+use Rattle.machine_step.specs.Step.{Config, Outcome, next, jump, fault, changed, dropped, arithmetic, move, compare, divide, branch, push, pop, call, return}
+use Rattle.machine_step.specs.Forms.{operandOf, resultOf, holdsOf}
 
 -- a conditional jump's condition stands as its target's form
 abbrev pub tabled : List ℕ

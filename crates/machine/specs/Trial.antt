@@ -6,10 +6,10 @@ use Rattle.records.specs.Causes.{ACCEPTED, MALFORMED, FAULT}
 use Rattle.records.specs.declared.code.Code.{Code}
 use Rattle.records.specs.Codes.{fieldsOf}
 use Rattle.records.specs.Instructions.{fieldsOk}
-use Rattle.instructions.specs.declared.instruction.Compared.{Compared}
-use Rattle.instructions.specs.View.{View}
-use Rattle.instructions.specs.Memory.{heapOk}
-use Rattle.instructions.specs.Step.{Call, Config, config, Outcome, next, jump, end, fault, step, outcomeOf}
+use Rattle.machine_step.specs.declared.instruction.Compared.{Compared}
+use Rattle.machine_step.specs.View.{View}
+use Rattle.machine_step.specs.Memory.{heapOk}
+use Rattle.machine_step.specs.Step.{Call, Config, config, Outcome, next, jump, end, fault, step, outcomeOf}
 use Rattle.machine.specs.declared.step.Tried.{Tried}
 use Rattle.machine.specs.declared.step.Tried.the-variants.{Took, Malformed}
 

@@ -3,6 +3,4 @@ pub mod Blocks  -- one block: erased, shared, acquired, a field stored or loaded
 pub mod Objects  -- objects of many blocks, stored and loaded
 pub mod Answered  -- what the operations answer
 pub mod LoadAnswered  -- what a load answers
-pub mod Sizes  -- lemmas: how many records and labels
-pub mod Flattened  -- the two runs of records of nextBlock
-pub mod Unfolded  -- lemmas: one step of a store
+pub mod NextBlock  -- the two runs of records of nextBlock

@@ -4,7 +4,7 @@
 use Prim.Native.Nat.{ℕ, zero, suc, _+_, _*_, _-_, _/_}
 use mathlib.Core.Path.{refl}
 use mathlib.Core.Bool.{Bool, true, false, not, _&&_, cond}
-use mathlib.Core.List.{List}
+use mathlib.Core.List.{List, [], _∷_}
 use lib.Dec.{ltb, eqb}
 use Rattle.records.specs.declared.code.Code.the-variants.{ADDIM, MOVS, MOVL, MOVIM, CMPIM}
 use Rattle.records.specs.Contexts.{extAt}
@@ -33,6 +33,19 @@ storeZeros (suc n) = seq (storeZeros n) (leaf (MOVIM HEAP (fstOffset n) 0) refl)
 -- how many blocks of c variables n of them fill
 abbrev pub chunks : ℕ → ℕ → ℕ
 chunks c n = (n + (c - 1)) / c
+
+-- how an object's variables lie in its blocks, first block first: as many as a block has fields in the last one, one fewer in each other one but the first, and what is left in the first.
+-- n variables in m blocks of c, before the blocks of the sizes xs
+abbrev pub otherSizes : ℕ → ℕ → ℕ → List ℕ → List ℕ
+otherSizes c zero n xs = xs
+otherSizes c (suc m) n xs = otherSizes c m (n - c) ((n - (n - c)) ∷ xs)
+
+abbrev pub someSizes : Shape → ℕ → List ℕ
+someSizes g n = otherSizes (g .fields - 1) (chunks (g .fields - 1) (n - g .fields)) (n - g .fields) ((n - (n - g .fields)) ∷ [])
+
+abbrev pub objectSizes : Shape → ℕ → List ℕ
+objectSizes g zero = []
+objectSizes g (suc n) = someSizes g (suc n)
 
 -- how many records are enough for a store or a load of n variables: for each block those that store its fields and acquire it, since to load them twice takes fewer
 abbrev pub objectRecords : Shape → ℕ → ℕ

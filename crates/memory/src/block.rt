@@ -5,7 +5,7 @@ ghost use lib.ListN.{length};
 ghost use Rattle.emit.specs.Answers.{Answers};
 ghost use Rattle.layout.specs.Config.{Supported, operands};
 ghost use Rattle.memory.specs.Answered.{eraseAnswer, eraseIn, eraseRecordsIn, shareAnswer, shareIn, shareRecordsIn};
-ghost use Rattle.memory.specs.Flattened.{nextBegin, nextEnd};
+ghost use Rattle.memory.specs.NextBlock.{nextBegin, nextEnd};
 ghost use Rattle.trees.specs.Tree.{flat};
 ghost use Rattle.memory.specs.Blocks.{eraseRegister, shareRegister, eraseBlock, shareSpill, shareBlock, eraseChild, eraseFields, takeBlock, nextBlock, acquireBlock, storeField, loadField, releaseBlock};
 use emit::answer::Answer;

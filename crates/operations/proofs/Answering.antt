@@ -10,8 +10,8 @@ use Rattle.emit.specs.declared.cursor.Cursor.{Cursor}
 use Rattle.emit.specs.declared.answer.Answer.{Answer}
 use Rattle.emit.specs.Emitted.{fieldsList, Emitted}
 use Rattle.emit.specs.Answers.{granted, accepted, Answers}
-use Rattle.emit.specs.Laws.{length-fields}
-use Rattle.emit.specs.Wrote.{answers, written-whole, granted-if, refused}
+use Rattle.emit.proofs.Laws.{length-fields}
+use Rattle.emit.proofs.Wrote.{answers, written-whole, granted-if, refused}
 
 module _ {o₀ o₁ : List ℕ} {p need : Cursor} (cs : List Code) (d : Emitted o₀ p o₁ need (fieldsList cs) 0) (a : p .at ≡ 0) (c : p .counter ≡ 0) (o : List ℕ)
     {r : Answer} (e : r ≡ granted 0 (length o) (need .at) (need .counter)) {b : Bool} (f : b ≡ accepted r) where

@@ -3,18 +3,18 @@
 use libc::STDERR_FILENO;
 use libc::STDIN_FILENO;
 use libc::STDOUT_FILENO;
-use planning::Planned;
-use wording::wrong::Wrong;
+use plan::Planned;
+use plan_line::wrong::Wrong;
 
 fn say_wrong(line: usize, wrong: Wrong) {
     let mut message = [0u8; 59];
-    let size = planning::put_wrong(&mut message, 0, line, wrong);
+    let size = plan::put_wrong(&mut message, 0, line, wrong);
     io::write_all(STDERR_FILENO, &message[..size]);
 }
 
 // The records of a text, by way of `records`, or what is wrong with it.
 fn write_plan(text: &[u8], records: &mut [u8]) {
-    match planning::plan(text, records) {
+    match plan::plan(text, records) {
         Planned::Written(size) => {
             io::write_all(STDOUT_FILENO, &records[..size]);
         }

@@ -14,10 +14,10 @@ use Rattle.layout.specs.declared.config.Shaped.the-variants.{In, NoFrame, NoEdi
 use Rattle.layout.specs.declared.config.Shape.{Shape}
 use Rattle.layout.specs.Config.{stackDepth, blockWords}
 use Rattle.machine.specs.declared.run.Answer.{Answer}
-use Rattle.instructions.specs.View.{View}
-use Rattle.instructions.specs.Memory.{heapOk}
+use Rattle.machine_step.specs.View.{View}
+use Rattle.machine_step.specs.Memory.{heapOk}
 use Rattle.machine.specs.Run.{ran, Leaves}
-use Rattle.numbered.specs.Run.{runNumbers}
+use Rattle.port_numbers.specs.Run.{runNumbers}
 use Rattle.port.specs.Run.{startState, Starts, unrun, Gives}
 
 start-stack : (g : Shape) (fresh : Bool) → replicate (stackDepth g) 0 ≡ startState g fresh .stack

@@ -7,11 +7,11 @@ use Rattle.layout.specs.declared.config.Shaped.{Shaped}
 use Rattle.emit.specs.declared.answer.Answer.{Answer}
 use Rattle.emit.specs.Answers.{Answers}
 use Rattle.routine.specs.Routine.{Assembles}
-use Rattle.orders.specs.declared.answer.Answer as order
-use Rattle.orders.specs.Answered.{Asked, counterAfter}
-use Rattle.answering.specs.Answers.{AnswersOrder}
-use Rattle.numbered.specs.Emission.{answerNumbers}
-use Rattle.numbered.specs.Order.{orderNumbers}
+use Rattle.order_spec.specs.declared.answer.Answer as order
+use Rattle.order_spec.specs.Answered.{Asked, counterAfter}
+use Rattle.order.specs.Answers.{AnswersOrder}
+use Rattle.port_numbers.specs.Emission.{answerNumbers}
+use Rattle.port_numbers.specs.Order.{orderNumbers}
 use Rattle.port.specs.Emission.{Tells, TellsRoutine}
 use Rattle.port.specs.Order.{TellsOrder}
 

@@ -5,9 +5,9 @@ use mathlib.Core.List.{List, [], _∷_}
 use Rattle.records.specs.Causes.{ACCEPTED, EDITION}
 use Rattle.layout.specs.declared.config.Choice.{Choice}
 use Rattle.layout.specs.Config.{inChoice, blockWords}
-use Rattle.chains.specs.declared.Blocks.{Blocks}
-use Rattle.chains.specs.declared.Fit.{Fit}
-use Rattle.chains.specs.Blocks.{counted, fitIn}
+use Rattle.heap_chains.specs.declared.Blocks.{Blocks}
+use Rattle.heap_chains.specs.declared.Fit.{Fit}
+use Rattle.heap_chains.specs.Blocks.{counted, fitIn}
 
 -- on HEAP's list, lazily freed, held, never used; and the most that were reachable at once
 abbrev pub blockNumbers : Blocks → Fit → List ℕ

@@ -7,7 +7,7 @@ use Rattle.records.specs.Checked.{causeOf}
 use Rattle.records.specs.Contexts.{checkedContext, contextCause}
 use Rattle.records.specs.Instructions.{checkedCodes}
 use Rattle.records.specs.Orders.{orderRead, orderCause}
-use Rattle.numbered.specs.Numbers.{numbersIn, unknown}
+use Rattle.port_numbers.specs.Numbers.{numbersIn, unknown}
 
 -- the checks: 1 a context, 2 a list of instruction records, 3 an order; any other number is refused
 unfoldable pub checkNumbers : ℕ → List ℕ → List ℕ

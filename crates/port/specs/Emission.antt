@@ -7,7 +7,7 @@ use lib.Seq.{sets}
 use Rattle.records.specs.declared.code.Code.{Code}
 use Rattle.emit.specs.declared.answer.Answer.{Answer}
 use Rattle.emit.specs.Answers.{accepted, output}
-use Rattle.numbered.specs.Emission.{answerNumbers}
+use Rattle.port_numbers.specs.Emission.{answerNumbers}
 
 -- number and value, beside an output before and after, are those of an operation that answers so and writes the records cs
 pub record Tells (o o′ : List ℕ) (number value : ℕ) (expected : Answer) (cs : List Code) : Type 0 where

@@ -8,8 +8,8 @@ use Rattle.layout.specs.declared.utils.Temporary.the-variants.{Frame}
 use Rattle.layout.specs.Config.{inFrame, inEdition}
 use Rattle.layout.specs.Positions.{positionAnswer}
 use Rattle.layout.specs.Queries.{freshTemporary, variableTemporary, unframed, spillOffset, fieldOffset}
-use Rattle.numbered.specs.Numbers.{unknown}
-use Rattle.numbered.specs.Query.{temporaryNumbers, offsetNumbers, halfOf}
+use Rattle.port_numbers.specs.Numbers.{unknown}
+use Rattle.port_numbers.specs.Query.{temporaryNumbers, offsetNumbers, halfOf}
 
 -- the queries: 1 position, 2 fresh_temporary, 3 variable_temporary, 4 stack_offset, 5 field_offset, which no frame changes; any other number is refused with 3.
 -- 23 is asked for first, whatever the number

@@ -11,12 +11,12 @@ use Rattle.layout.specs.declared.config.Choice.{Choice}
 use Rattle.layout.specs.declared.config.Shaped.{Shaped}
 use Rattle.layout.specs.declared.config.Shape.{Shape}
 use Rattle.layout.specs.Config.{inChoice, inShape, blockWords}
-use Rattle.instructions.specs.View.{View}
-use Rattle.instructions.specs.Memory.{heapOk}
+use Rattle.machine_step.specs.View.{View}
+use Rattle.machine_step.specs.Memory.{heapOk}
 use Rattle.machine.specs.declared.state.State.{State}
 use Rattle.machine.specs.State.{entryState, freshState}
 use Rattle.machine.specs.Run.{ran}
-use Rattle.numbered.specs.Run.{runNumbers}
+use Rattle.port_numbers.specs.Run.{runNumbers}
 
 -- the state to start from: the fresh routine's, else the one at a routine's entry
 abbrev pub startState : Shape → Bool → State

@@ -9,9 +9,9 @@ pub extern "C" fn axcut_check(kind: u64, bytes: &[u8], place: &mut u64) -> u64
     ensures { λ r. ⌜ r ∷ now (place .exit) ∷ [] ≡ checkNumbers kind (now (bytes .entry)) ⌝ }
 {
     match kind {
-        1 => numbered::check::check_context(bytes, place),
-        2 => numbered::check::check_records(bytes, place),
-        3 => numbered::check::check_order(bytes, place),
+        1 => port_numbers::check::check_context(bytes, place),
+        2 => port_numbers::check::check_records(bytes, place),
+        3 => port_numbers::check::check_order(bytes, place),
         _ => {
             *place = 0;
             3

@@ -3,9 +3,9 @@
 ghost use mathlib.Core.Path.{_≡_};
 ghost use lib.ListN.{length};
 ghost use Rattle.operations.specs.Operations.{operateIn, recordsIn};
-ghost use Rattle.printing.specs.Print.{printIn, printRecordsIn};
+ghost use Rattle.print_i64.specs.Print.{printIn, printRecordsIn};
 ghost use Rattle.routine.specs.Routine.{routineIn, routineBytesIn};
-ghost use Rattle.numbered.specs.Emission.{counterAfter, operationNumbered, memoryAnswer, memoryRecords};
+ghost use Rattle.port_numbers.specs.Emission.{counterAfter, operationNumbered, memoryAnswer, memoryRecords};
 ghost use Rattle.port.specs.Emission.{Tells, TellsRoutine};
 
 // The operations of code.rs but print_i64. Operands stand in the Rust's sequence, the target first; those that an operation lacks are not read.
@@ -23,7 +23,7 @@ pub extern "C" fn axcut_operation(
 ) -> u64
     ensures { λ r. ⌜ Tells (now (out .entry)) (now (out .exit)) r (now (value .exit)) (operateIn frame (length (now (out .entry))) (operationNumbered operation first second third label immediate)) (recordsIn frame (operationNumbered operation first second third label immediate)) ⌝ }
 {
-    let chosen = numbered::emission::operation_numbered(
+    let chosen = port_numbers::emission::operation_numbered(
         operation,
         first,
         second,
@@ -32,7 +32,7 @@ pub extern "C" fn axcut_operation(
         immediate,
     );
     let answer = operations::operation::operate(out, frame, chosen);
-    numbered::emission::told(answer, value)
+    port_numbers::emission::told(answer, value)
 }
 
 // The operations of memory.rs: erase_block and share_block_n of an operand; a store of the context's last n variables and a load after the context, in the blocks
@@ -54,7 +54,7 @@ pub extern "C" fn axcut_memory(
     ensures counter { λ r. ⌜ now (counter .exit) ≡ counterAfter (now (counter .entry)) (memoryAnswer edition frame operation (now (counter .entry)) (length (now (out .entry))) operand n (now (context .entry)) (now (loaded .entry))) ⌝ }
 {
     let before = *counter;
-    let answer = numbered::emission::memory(
+    let answer = port_numbers::emission::memory(
         out,
         edition,
         frame,
@@ -65,9 +65,9 @@ pub extern "C" fn axcut_memory(
         context,
         loaded,
     );
-    let after = numbered::emission::counter_after(answer, before);
+    let after = port_numbers::emission::counter_after(answer, before);
     *counter = after;
-    numbered::emission::told(answer, value)
+    port_numbers::emission::told(answer, value)
 }
 
 #[no_mangle]
@@ -81,8 +81,8 @@ pub extern "C" fn axcut_print(
 ) -> u64
     ensures { λ r. ⌜ Tells (now (out .entry)) (now (out .exit)) r (now (value .exit)) (printIn frame (length (now (out .entry))) newline source (now (context .entry))) (printRecordsIn frame newline source (now (context .entry))) ⌝ }
 {
-    let answer = printing::code::print_i64(out, frame, newline, source, context);
-    numbered::emission::told(answer, value)
+    let answer = print_i64::code::print_i64(out, frame, newline, source, context);
+    port_numbers::emission::told(answer, value)
 }
 
 #[no_mangle]
@@ -97,5 +97,5 @@ pub extern "C" fn axcut_routine(
     ensures { λ r. ⌜ TellsRoutine (now (out .entry)) (now (out .exit)) r (now (value .exit)) (routineIn edition frame (length (now (out .entry))) arguments (now (body .entry))) (routineBytesIn edition frame arguments (now (body .entry))) ⌝ }
 {
     let answer = routine::into_routine::into_x86_64_routine(out, edition, frame, body, arguments);
-    numbered::emission::told(answer, value)
+    port_numbers::emission::told(answer, value)
 }

@@ -5,9 +5,9 @@ ghost use lib.ListN.{length, replicate};
 ghost use Rattle.records.specs.Bytes.{stored};
 ghost use Rattle.listing.specs.Names.{codeNames};
 ghost use Rattle.listing.specs.Listing.{listed, listedText};
-ghost use Rattle.instructions.specs.View.{view, wordsOf};
-ghost use Rattle.numbered.specs.Numbers.{numberIn, valueIn};
-ghost use Rattle.numbered.specs.List.{listedNumbers};
+ghost use Rattle.machine_step.specs.View.{view, wordsOf};
+ghost use Rattle.port_numbers.specs.Numbers.{numberIn, valueIn};
+ghost use Rattle.port_numbers.specs.List.{listedNumbers};
 ghost use Rattle.layout.specs.Config.{Supported, editionOf, frameOn, shapeOn, HEAP, FREE};
 ghost use Rattle.port.specs.Blocks.{TellsBlocks};
 ghost use Rattle.port.specs.Run.{startState, Starts, unrun, Gives};
@@ -17,7 +17,7 @@ pub mod emission; // the operations of code.rs, memory.rs and into_routine.rs
 pub mod query; // the queries of utils.rs and config.rs
 pub mod order; // the seven orders
 
-use instructions::memory;
+use machine_step::memory;
 use layout::config;
 use layout::config::Choice;
 use layout::config::Shape;
@@ -33,7 +33,7 @@ pub extern "C" fn axcut_list(records: &[u8], text: &mut [u8], value: &mut u64) -
     ensures written { λ r. ⌜ now (text .exit) ≡ stored (now (text .entry)) 0 (listedText codeNames (now (records .entry))) ⌝ }
 {
     let answer = listing::list_records(records, text);
-    numbered::list::told(answer, value)
+    port_numbers::list::told(answer, value)
 }
 
 fn registers_of(g: Shape, fresh: bool) -> [u64; 16]
@@ -132,7 +132,7 @@ pub extern "C" fn axcut_run(
                 words,
                 limit,
             );
-            numbered::run::told(answer, steps, place)
+            port_numbers::run::told(answer, steps, place)
         }
     }
 }
@@ -150,8 +150,8 @@ pub extern "C" fn axcut_blocks(
     let Choice::Of(g) = config::edition_of(edition) else {
         return 23;
     };
-    let blocks = chains::count_blocks_in(g, registers, heap);
-    let fit = chains::to_fit_in(g, registers, heap);
+    let blocks = heap_chains::count_blocks_in(g, registers, heap);
+    let fit = heap_chains::to_fit_in(g, registers, heap);
     *counts = [
         blocks.linear,
         blocks.lazy,

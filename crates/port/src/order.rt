@@ -1,5 +1,5 @@
 // The seven orders for C and Rust: an order's bytes with the context, the label counter and the bindings that follow it.
-ghost use Rattle.answering.specs.Answers.{asking};
+ghost use Rattle.order.specs.Answers.{asking};
 ghost use Rattle.layout.specs.Config.{shapeOf};
 ghost use Rattle.port.specs.Order.{TellsOrder};
 
@@ -20,7 +20,7 @@ pub extern "C" fn axcut_order(
     ensures { λ r. ⌜ TellsOrder (shapeOf edition frame) (now (context .entry)) (asking (now (order .entry)) (now (bindings .entry)) (now (counter .entry)) (now («records_out» .entry)) (now («context_out» .entry))) r (now (value .exit)) (now (count .exit)) (now (counter .exit)) (now («records_out» .entry)) (now («records_out» .exit)) (now («context_out» .entry)) (now («context_out» .exit)) ⌝ }
 {
     let before = *counter;
-    let answer = answering::order::order(
+    let answer = order::order::order(
         records_out,
         context_out,
         edition,
@@ -30,7 +30,7 @@ pub extern "C" fn axcut_order(
         order,
         bindings,
     );
-    let after = numbered::order::counter_after(answer, before);
+    let after = port_numbers::order::counter_after(answer, before);
     *counter = after;
-    numbered::order::told(answer, value, count)
+    port_numbers::order::told(answer, value, count)
 }

@@ -24,16 +24,16 @@ pub extern "C" fn axcut_query(
         *value = 0;
         return 23;
     };
-    let half = numbered::query::half_of(second);
+    let half = port_numbers::query::half_of(second);
     match query {
-        1 => numbered::query::located(layout::utils::position(frame, at), value),
-        2 => numbered::query::located(layout::utils::fresh_temporary(frame, half, context), value),
-        3 => numbered::query::located(
+        1 => port_numbers::query::located(layout::utils::position(frame, at), value),
+        2 => port_numbers::query::located(layout::utils::fresh_temporary(frame, half, context), value),
+        3 => port_numbers::query::located(
             layout::utils::variable_temporary(frame, half, context, id),
             value,
         ),
-        4 => numbered::query::measured(config::stack_offset(frame, at), value),
-        5 => numbered::query::measured(config::field_offset(edition, half, at), value),
+        4 => port_numbers::query::measured(config::stack_offset(frame, at), value),
+        5 => port_numbers::query::measured(config::field_offset(edition, half, at), value),
         _ => {
             *value = 0;
             3

@@ -17,8 +17,8 @@ use Rattle.emit.specs.declared.answer.Answer.{Answer}
 use Rattle.emit.specs.declared.cursor.Cursor.{Cursor}
 use Rattle.emit.specs.Answers.{causeOf, granted, accepted}
 use Rattle.emit.specs.Emitted.{fieldsList, Emitted}
-use Rattle.emit.specs.Laws.{length-fields}
-use Rattle.emit.specs.Wrote.{written-whole, granted-if}
+use Rattle.emit.proofs.Laws.{length-fields}
+use Rattle.emit.proofs.Wrote.{written-whole, granted-if}
 use Rattle.layout.specs.declared.config.Shape.{Shape}
 use Rattle.routine.specs.Routine.{moveArguments, head, cleanup, routineBytes, accepting, Assembles}
 use Rattle.routine.specs.Records.{RoutineIsRecords}

@@ -18,18 +18,17 @@ use Rattle.trees.specs.Tree.{Tree, labels, size}
 use Rattle.layout.specs.declared.config.Shape.{Shape}
 use Rattle.layout.specs.Config.{Supported, positions, mostVariables}
 use Rattle.heap.specs.Values.{integer, Values, nil, cons, countOf, joined}
-use Rattle.memory.specs.Objects.{snd, extIn, objectRecords}
-use Rattle.memory.specs.Sizes.{immediate-size, store-object-records}
-use Rattle.bridge.specs.Sizes.{objectSizes}
-use Rattle.contexts.specs.Bindings.{good-none, good-length}
-use Rattle.orders.specs.declared.answer.Answer.the-variants.{Position}
-use Rattle.orders.specs.Answered.{Asked, orderIs, accepted, causeOf, granted, decided, answerTo}
-use Rattle.orders.specs.Plain.{plainly}
-use Rattle.orders.specs.Writes.{made, treeOf, contextAfter, present, kindsOk, asked}
-use Rattle.orders.proofs.Accepting.{all-passed, all-judged}
+use Rattle.memory.specs.Objects.{snd, extIn, objectRecords, objectSizes}
+use Rattle.memory.proofs.Sizes.{immediate-size, store-object-records}
+use Rattle.order_context_proof.proofs.Bindings.{good-none, good-length}
+use Rattle.order_spec.specs.declared.answer.Answer.the-variants.{Position}
+use Rattle.order_spec.specs.Answered.{Asked, orderIs, accepted, causeOf, granted, decided, answerTo}
+use Rattle.order_spec.specs.Plain.{plainly}
+use Rattle.order_spec.specs.Writes.{made, treeOf, contextAfter, present, kindsOk, asked}
+use Rattle.order_spec.proofs.Accepting.{all-passed, all-judged}
 use Rattle.soundness.specs.Claims.{Item, isAccepted, reached, values, acquired, AllOwed, After, HeapStaysSoundOnAcquired}
 use Rattle.soundness.specs.Example.{putSeven}
-use Rattle.soundness.specs.Induction.{heap-stays-sound-on-acquired}
+use Rattle.soundness.proofs.Induction.{heap-stays-sound-on-acquired}
 use Rattle.soundness.specs.Puts.{puts, sevens}
 
 count-sevens : (n : ℕ) → countOf (sevens n) ≡ n

@@ -9,17 +9,17 @@ use lib.ListN.{length, length-append}
 use Rattle.layout.specs.declared.config.Shape.{Shape}
 use Rattle.layout.specs.Config.{blockWords, HEAP, FREE}
 use Rattle.heap.specs.Counting.{occ}
-use Rattle.heap.specs.CountingLemmas.{occ-append, length-le}
+use Rattle.heap.proofs.CountingLemmas.{occ-append, length-le}
 use Rattle.heap.specs.Blocks.{Layout, blocks}
-use Rattle.heap.specs.BlockLemmas.{block-nonzero}
-use Rattle.heap.specs.Words.{headers, memoryOf}
-use Rattle.heap.specs.WordLemmas.{layout, number-of-address}
+use Rattle.heap.proofs.BlockLemmas.{block-nonzero}
+use Rattle.heap.specs.Words.{headers, memoryOf, layout}
+use Rattle.heap.proofs.WordLemmas.{number-of-address}
 use Rattle.heap.specs.Claims.{Sound}
-use Rattle.chains.specs.Blocks.{chainLength, chainEnd, counted, fitFor, fitIn}
-use Rattle.chains.specs.Walks.{list-is, chain-is}
+use Rattle.heap_chains.specs.Blocks.{chainLength, chainEnd, counted, fitFor, fitIn}
+use Rattle.heap_chains.proofs.Walks.{list-is, chain-is}
 use Rattle.soundness.specs.Claims.{reached}
 use Rattle.soundness.specs.Counts.{CountsAreTrue, fitOn, FitIsForPeak}
-use Rattle.soundness.specs.Induction.{left-by-runs}
+use Rattle.soundness.proofs.Induction.{left-by-runs}
 
 blocks-long : (L : Layout) (n : ℕ) → length (blocks L n) ≡ n
 blocks-long L zero = refl

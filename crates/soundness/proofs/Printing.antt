@@ -11,20 +11,20 @@ use Rattle.records.specs.Contexts.{extAt}
 use Rattle.records.specs.Orders.{orderRead}
 use Rattle.layout.specs.declared.config.Shape.{Shape}
 use Rattle.layout.specs.Config.{Supported, positions}
-use Rattle.printing.specs.Print.{printName}
+use Rattle.print_i64.specs.Print.{printName}
 use Rattle.heap.specs.Orders.{State}
 use Rattle.heap.specs.Values.{Values, countOf, valueAt}
-use Rattle.bridge.specs.Shown.{heapOf}
-use Rattle.orders.specs.Answered.{orderIs, placesIn}
-use Rattle.orders.specs.Plain.{integerOf}
-use Rattle.orders.specs.Writes.{present, kindsOk, asked}
-use Rattle.playing.specs.Playing.{Channel}
-use Rattle.orders.proofs.Accepting.{Taken, taken}
-use Rattle.showing.specs.Prints.{printedText, wordOf, printsOf, prints}
+use Rattle.memory_proof.proofs.Shown.{heapOf}
+use Rattle.order_spec.specs.Answered.{orderIs, placesIn}
+use Rattle.order_spec.specs.Plain.{integerOf}
+use Rattle.order_spec.specs.Writes.{present, kindsOk, asked}
+use Rattle.channel_step.specs.Playing.{Channel}
+use Rattle.order_spec.proofs.Accepting.{Taken, taken}
+use Rattle.report_state.specs.Prints.{printedText, wordOf, printsOf, prints}
 use Rattle.soundness.specs.Claims.{Item, isAccepted, runOf, reached, values, callsOf, Ran, SoundAt, SoundChannel, SoundBefore, AllRan}
-use Rattle.soundness.specs.Ending.{start}
-use Rattle.soundness.specs.Carried.{places-are}
-use Rattle.soundness.specs.Changing.{integer-there}
+use Rattle.soundness.proofs.Ending.{start}
+use Rattle.soundness.proofs.Carried.{places-are}
+use Rattle.soundness.proofs.Changing.{integer-there}
 use Rattle.soundness.specs.Prints.{callTexts, putFor, calledFor, putIn, calledIn, PrintedIsCalled}
 
 -- an accepted order on a sound channel

@@ -1,5 +1,5 @@
 -- Demand 3: the heap stays sound for every list of orders, in every supported shape of blocks and frame. One claim on the whole list; this file and the definitions it cites are all that it says.
--- `fresh` and what an item does to a channel are what the contracts of `playing::channel` cite.
+-- `fresh` and what an item does to a channel are what the contracts of `channel_step::channel` cite.
 -- From document 01, 'Order record', 'Plain machine of demand 3' and the lines on the heap in 'Instruction record'.
 use Prim.Native.Nat.{ℕ, _+_, _*_, _≤_, _<_}
 use mathlib.Core.Path.{_≡_}
@@ -14,21 +14,20 @@ use Rattle.records.specs.Contexts.{checkedContext, extAt}
 use Rattle.records.specs.ReadBack.{Bytes}
 use Rattle.layout.specs.declared.config.Shape.{Shape}
 use Rattle.layout.specs.Config.{Supported, stackDepth, blockWords, STACK, HEAP, FREE}
-use Rattle.printing.specs.Print.{printName}
-use Rattle.instructions.specs.Step.{Call}
+use Rattle.print_i64.specs.Print.{printName}
+use Rattle.machine_step.specs.Step.{Call}
 use Rattle.machine.specs.declared.run.Answer.the-variants.{Ended}
 use Rattle.machine.specs.Run.{Done}
 use Rattle.heap.specs.Values.{Values, nil, countOf, valueAt, KindsFrom}
-use Rattle.heap.specs.Words.{memoryOf}
-use Rattle.heap.specs.WordLemmas.{layout}
+use Rattle.heap.specs.Words.{memoryOf, layout}
 use Rattle.heap.specs.Orders.{State}
 use Rattle.heap.specs.Claims.{HeapAfter, Reaches}
-use Rattle.bridge.specs.Sizes.{objectSizes}
-use Rattle.bridge.specs.Variables.{variablesIn}
-use Rattle.orders.specs.Answered.{Asked, orderIs, placesIn, answerTo, recordsOutput, contextOutput, counterAfter}
-use Rattle.orders.specs.Plain.{integerOf, plainly, OwedKinds, OwedResult}
-use Rattle.playing.specs.Playing.{Channel, fresh}
-use Rattle.playing.specs.Playing as play
+use Rattle.memory.specs.Objects.{objectSizes}
+use Rattle.layout.specs.Frame.{variablesIn}
+use Rattle.order_spec.specs.Answered.{Asked, orderIs, placesIn, answerTo, recordsOutput, contextOutput, counterAfter}
+use Rattle.order_spec.specs.Plain.{integerOf, plainly, OwedKinds, OwedResult}
+use Rattle.channel_step.specs.Playing.{Channel, fresh}
+use Rattle.channel_step.specs.Playing as play
 
 -- one item of a list: any bytes as order and bindings, any counter and output lengths, any nine words
 pub record Item : Type 0 where
@@ -118,7 +117,7 @@ module _ (g : Shape) where
     pub stack-there : ch .view .reg STACK ≡ fresh g blocks .view .reg STACK
 
   -- A refused order leaves the channel, its two outputs, whatever they held, and the counter as they were: by the definitions that the contracts of
-  -- `playing::channel::play`, of the order function and of the library's order cite.
+  -- `channel_step::channel::play`, of the order function and of the library's order cite.
   pub record Refused (ch : Channel) (it : Item) : Type 0 where
     pub channel-kept : next ch it ≡ ch
     pub records-kept : (o : List ℕ) → recordsOutput g (ch .context) (it .asked) o ≡ o

@@ -1,14 +1,14 @@
--- The blocks that `chains::count_blocks` counts on the words of a sound channel are those of its heap, and the heap that `chains::to_fit` tells is for its peak.
+-- The blocks that `heap_chains::count_blocks` counts on the words of a sound channel are those of its heap, and the heap that `heap_chains::to_fit` tells is for its peak.
 use Prim.Native.Nat.{ℕ, _-_, _/_}
 use mathlib.Core.Path.{_≡_}
 use mathlib.Core.List.{List}
 use lib.ListN.{length}
 use Rattle.layout.specs.declared.config.Shape.{Shape}
 use Rattle.layout.specs.Config.{Supported, blockWords, HEAP, FREE}
-use Rattle.instructions.specs.View.{View}
-use Rattle.chains.specs.declared.Blocks.{Blocks}
-use Rattle.chains.specs.declared.Fit.{Fit}
-use Rattle.chains.specs.Blocks.{counted, fitFor, fitIn}
+use Rattle.machine_step.specs.View.{View}
+use Rattle.heap_chains.specs.declared.Blocks.{Blocks}
+use Rattle.heap_chains.specs.declared.Fit.{Fit}
+use Rattle.heap_chains.specs.Blocks.{counted, fitFor, fitIn}
 use Rattle.soundness.specs.Claims.{Item, reached, SoundChannel}
 use Rattle.soundness.specs.Peak.{PeakOf, Unfaulted}
 

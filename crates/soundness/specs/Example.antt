@@ -1,32 +1,25 @@
 -- The claim speaks of something: a list of orders that meets its premises, and what it then says.
 -- put 7; store 1 with tag 5; copy 0; load (shared); drop; an order of no bytes, refused; load (released); print; put 120; store 2 with tag 9.
-use mathlib.Core.Bool.{Bool, true, false, _&&_}
-use mathlib.Core.List.{List, [], _∷_, _++_, append-nil}
-use mathlib.Core.Logic.{_≢_}
-use mathlib.Core.Path.{_≡_, refl, sym, _∙_, ap}
-use Prim.Native.Nat.{ℕ, _*_}
-use native.Mathlib.Omega.{arith}
+use mathlib.Core.Bool.{Bool, true, _&&_, false}
+use mathlib.Core.List.{List, [], _∷_, _++_}
+use mathlib.Core.Path.{_≡_, refl}
+use Prim.Native.Nat.{ℕ, _*_, _<_}
 use lib.Dec.{ltb}
 use borrow.Author.Tests.{ltb-true}
+use mathlib.Core.Logic.{_≢_}
 use Rattle.records.specs.declared.binding.Kind.the-variants.{Ext}
 use Rattle.records.specs.declared.order.Order.{Order}
 use Rattle.records.specs.declared.order.Order.the-variants.{Put, Copy, Drop, Store, Load, Print}
-use Rattle.records.specs.Bytes.{le, number}
-use Rattle.records.specs.Contexts.{bindingBytes, firstFlaw, checkedContext}
-use Rattle.records.specs.Orders.{orderFieldsOf, orderBytes, orderIn, orderOf, orderReaders, orderOk, orderOperandsOk, usedByOrder, orderStarts}
+use Rattle.records.specs.Bytes.{le}
+use Rattle.records.specs.Contexts.{bindingBytes}
+use Rattle.records.specs.Orders.{orderFieldsOf, orderBytes}
 use Rattle.records.specs.ReadBack.{Bytes}
-use Rattle.records.proofs.Conditions.{and-left, and-right}
-use Rattle.layout.specs.Config.{base, stackOffset}
-use Rattle.layout.proofs.Placing.{base-supported}
-use Rattle.layout.specs.Positions.{location}
+use Rattle.heap.specs.Values.{integer, object, Values, nil, cons}
+use Rattle.order_spec.specs.Answered.{Asked}
+use Rattle.order_spec.specs.Writes.{made, asked}
+use Rattle.soundness.specs.Claims.{Item, values, acquired, stateAfter, After}
+use Rattle.layout.specs.Config.{base}
 use Rattle.heap.specs.Blocks.{Cell, cell}
-use Rattle.heap.specs.Values.{integer, object, Values, nil, cons, concat, lengths, Object, HoldAll}
-use Rattle.bridge.specs.Sizes.{objectSizes}
-use Rattle.orders.specs.Answered.{Asked, answerTo}
-use Rattle.orders.specs.Plain.{plainly}
-use Rattle.orders.specs.Writes.{made, treeOf, contextAfter, present, kindsOk, asked}
-use Rattle.soundness.specs.Claims.{Item, values, acquired, AllOwed, stateAfter, After, HeapStaysSoundOnAcquired}
-use Rattle.soundness.specs.Induction.{heap-stays-sound-on-acquired}
 
 -- a list of bytes, by a test of each
 unfoldable pub below : List ℕ → Bool
@@ -36,7 +29,13 @@ below (b ∷ s) = ltb b 256 && below s
 pub bytes : (s : List ℕ) → below s ≡ true → Bytes s
 unfolding below
 bytes [] e = tt
-bytes (b ∷ s) e = (ltb-true b 256 (and-left (ltb b 256) (below s) e), bytes s (and-right (ltb b 256) (below s) e))
+bytes (b ∷ s) e = both (ltb b 256) (below s) (ltb-true b 256) (bytes s) e
+  where
+    both : (x y : Bool) → (x ≡ true → b < 256) → (y ≡ true → Bytes s) → x && y ≡ true → (b < 256) × Bytes s
+    both true true first rest e = (first refl, rest refl)
+    both true false first rest e = (first refl, rest e)
+    both false true first rest e = (first e, rest refl)
+    both false false first rest e = (first e, rest e)
 
 abbrev pub bytesOf : Order → List ℕ
 bytesOf o = orderBytes (orderFieldsOf o)
@@ -103,42 +102,3 @@ pub record WorkedListIsSound : Type 0 where
   -- what it says of the variables: one, linked, with tag 9, whose block holds 7 and 120 in its last two fields
   pub shown : (c : Cell) × (stateAfter base 4 workedList .variables ≡ c ∷ []) × (c .snd ≡ 9) × (c .fst ≢ 0)
       × (unused : List Cell) × (stateAfter base 4 workedList .memory .fields (c .fst) ≡ unused ++ (cell 0 7 ∷ cell 0 120 ∷ []))
-
-two : acquired base 4 workedList ≡ 2
-unfolding answerTo orderBytes le number checkedContext firstFlaw bindingBytes orderIn orderOf orderReaders orderOk orderOperandsOk usedByOrder orderStarts treeOf contextAfter present kindsOk asked plainly location stackOffset putSeven storeOne copyIt loadShared dropIt nothing loadReleased printIt putMore storeTwo
-two = refl
-
-plain : values base 4 workedList ≡ workedValues
-unfolding answerTo orderBytes le number checkedContext firstFlaw bindingBytes orderIn orderOf orderReaders orderOk orderOperandsOk usedByOrder orderStarts treeOf contextAfter present kindsOk asked plainly location stackOffset putSeven storeOne copyIt loadShared dropIt nothing loadReleased printIt putMore storeTwo
-plain = refl
-
-owed : AllOwed base 4 workedList
-unfolding answerTo orderBytes le number checkedContext firstFlaw bindingBytes orderIn orderOf orderReaders orderOk orderOperandsOk usedByOrder orderStarts treeOf contextAfter present kindsOk asked plainly location stackOffset putSeven storeOne copyIt loadShared dropIt nothing loadReleased printIt putMore storeTwo
-owed =
-    ((λ e. (tt, tt)), ((λ e. (tt, tt)), ((λ e. (tt, tt)), ((λ e. ((refl, (refl, tt)), tt)), ((λ e. absurd (no e)), ((λ e. (tt, tt)), ((λ e. ((refl, (refl, tt)), tt)), ((λ e. (tt, tt)), ((λ e. (tt, tt)), ((λ e. (tt, tt)), tt))))))))))
-  where
-    no : false ≡ true → ⊥
-    no e = let z : _≡_ {A = ℕ} 0 1 = cc in omega arith
-
--- an object of two integers has one block
-two-held : (fields : ℕ → List Cell) (linked : ℕ → ℕ) (c : Cell) (chunks : List (List Cell)) → Object fields linked (c .fst) chunks → lengths chunks ≡ 2 ∷ []
-    → HoldAll (objectSizes base) fields linked (cons (integer 7) (cons (integer 120) nil)) (concat chunks) → (c .fst ≢ 0) × (unused : List Cell) × (fields (c .fst) ≡ unused ++ (cell 0 7 ∷ cell 0 120 ∷ []))
-two-held fields linked c [] o l h = let z : _≡_ {A = ℕ} 0 1 = cc in absurd (omega arith)
-two-held fields linked c (d ∷ e ∷ chunks) o l h = let z : _≡_ {A = ℕ} 0 1 = cc in absurd (omega arith)
-two-held fields linked c (d ∷ []) o l h =
-    let first = h .0 in
-    let second = h .4 .0 in
-    let is : d ≡ cell 0 7 ∷ cell 0 120 ∷ []
-    = sym (append-nil d) ∙ h .2 ∙ ap (λ (r : List Cell). first ∷ r) (h .4 .2 ∙ ap (λ (r : List Cell). second ∷ r) (h .4 .4))
-    ∙ rw (h .3 .0, h .3 .1, h .4 .3 .0, h .4 .3 .1) in
-    (o .0, o .1, o .3 ∙ ap (λ (x : List Cell). o .1 ++ x) is)
-
-pub worked-list-is-sound : WorkedListIsSound
-unfolding HeapStaysSoundOnAcquired
-worked-list-is-sound =
-    let a = heap-stays-sound-on-acquired base base-supported 4 workedList (rw two (omega arith)) (omega arith) owed in
-    let s = a .sound .heap in
-    let h : HoldAll (objectSizes base) (stateAfter base 4 workedList .memory .fields) (s .linked) workedValues (stateAfter base 4 workedList .variables) = rw plain at (s .holds) in
-    let o = h .3 in
-    let t = two-held (stateAfter base 4 workedList .memory .fields) (s .linked) (h .0) (o .2) (o .3) (o .5) (o .4) in
-    record { acquires-two = two; plain-values = plain; after = a; shown = (h .0, h .2 ∙ ap (λ (r : List Cell). h .0 ∷ r) (h .4), o .0, t .0, t .1, t .2) }

@@ -7,7 +7,7 @@ use Rattle.records.specs.Contexts.{bindingBytes}
 use Rattle.records.specs.Orders.{orderBytes}
 use Rattle.layout.specs.Config.{base, larger}
 use Rattle.heap.specs.Values.{object, nil, cons}
-use Rattle.orders.specs.Answered.{causeOf, answerTo}
+use Rattle.order_spec.specs.Answered.{causeOf, answerTo}
 use Rattle.soundness.specs.Claims.{Item, reached, values, After}
 use Rattle.soundness.specs.Example.{below, bytesOf, item, putSeven}
 use Rattle.soundness.specs.Puts.{puts, sevens}

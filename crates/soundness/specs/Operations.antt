@@ -19,7 +19,7 @@ use Rattle.emit.specs.Answers.{accepted}
 use Rattle.memory.specs.Answered.{eraseAnswer, shareAnswer, storeTree, storeAnswer}
 use Rattle.memory.specs.Blocks.{eraseBlock, shareBlock}
 use Rattle.memory.specs.LoadAnswered.{loadTree, loadAnswer}
-use Rattle.instructions.specs.View.{View}
+use Rattle.machine_step.specs.View.{View}
 use Rattle.machine.specs.declared.run.Answer.the-variants.{Ended}
 use Rattle.machine.specs.Run.{Done, ran}
 use Rattle.heap.specs.Blocks.{Cell, pointers, children, Memory}
@@ -29,15 +29,14 @@ use Rattle.heap.specs.Operations.{Elsewhere, Erase}
 use Rattle.heap.specs.Orders.{State}
 use Rattle.heap.specs.Values as values
 use Rattle.heap.specs.Values.{Values, countOf, firstOf, restOf, valueAt, copies, HoldAll}
-use Rattle.heap.specs.Words.{stride, wordAt, memoryOf}
-use Rattle.heap.specs.WordLemmas.{layout}
-use Rattle.positions.specs.Held.{heldIn, NoSpill}
-use Rattle.bridge.specs.Sizes.{objectSizes}
-use Rattle.bridge.specs.Variables.{variableIn, variablesIn}
-use Rattle.orders.specs.Answered.{placesIn}
-use Rattle.orders.specs.Plain.{plainly, AsStored}
-use Rattle.orders.specs.Writes.{made}
-use Rattle.playing.specs.Playing.{Channel}
+use Rattle.heap.specs.Words.{stride, wordAt, memoryOf, layout}
+use Rattle.layout_proof.specs.Held.{NoSpill}
+use Rattle.layout.specs.Frame.{heldIn, variableIn, variablesIn}
+use Rattle.memory.specs.Objects.{objectSizes}
+use Rattle.order_spec.specs.Answered.{placesIn}
+use Rattle.order_spec.specs.Plain.{plainly, AsStored}
+use Rattle.order_spec.specs.Writes.{made}
+use Rattle.channel_step.specs.Playing.{Channel}
 use Rattle.soundness.specs.Claims.{Item, reached, values, acquired, PeakWithin, AllOwed, stateAfter, statesBefore, stateOf, SoundAt}
 
 -- the word at position p of a state, 2v for variable v's Fst and 2v+1 for its Snd; and the heap that its words show

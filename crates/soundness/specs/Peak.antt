@@ -8,11 +8,11 @@ use mathlib.Core.List.{List, [], _∷_}
 use Rattle.layout.specs.declared.config.Shape.{Shape}
 use Rattle.layout.specs.Config.{Supported, base}
 use Rattle.machine.specs.declared.run.Answer.the-variants.{Fault}
-use Rattle.heap.specs.WordLemmas.{layout}
+use Rattle.heap.specs.Words.{layout}
 use Rattle.heap.specs.Claims.{HeapAfter, ReachesAtMost, Peak}
-use Rattle.bridge.specs.Sizes.{objectSizes}
-use Rattle.orders.specs.Answered.{orderIs}
-use Rattle.orders.specs.Plain.{OwedKinds}
+use Rattle.memory.specs.Objects.{objectSizes}
+use Rattle.order_spec.specs.Answered.{orderIs}
+use Rattle.order_spec.specs.Plain.{OwedKinds}
 use Rattle.soundness.specs.Claims.{Item, isAccepted, runOf, reached, values, stateAfter, AllOwed, PeakWithin, statesBefore, After}
 
 module _ (g : Shape) where

@@ -1,4 +1,4 @@
--- What `channel` prints under `printed` is what the print calls of the runs were given. `prints` is what the contract of `showing::prints::put_print` cites: the program
+-- What `channel` prints under `printed` is what the print calls of the runs were given. `prints` is what the contract of `report_state::prints::put_print` cites: the program
 -- puts it for each accepted order, one after the other, from the registers and the stack before the order.
 use Prim.Native.Nat.{ℕ}
 use mathlib.Core.Path.{_≡_}
@@ -8,10 +8,10 @@ use lib.Dec.{eqb}
 use Rattle.layout.specs.declared.config.Shape.{Shape}
 use Rattle.layout.specs.Config.{Supported}
 use Rattle.records.specs.Orders.{orderRead}
-use Rattle.printing.specs.Print.{printName}
-use Rattle.instructions.specs.Step.{Call}
-use Rattle.playing.specs.Playing.{Channel}
-use Rattle.showing.specs.Prints.{printedText, prints}
+use Rattle.print_i64.specs.Print.{printName}
+use Rattle.machine_step.specs.Step.{Call}
+use Rattle.channel_step.specs.Playing.{Channel}
+use Rattle.report_state.specs.Prints.{printedText, prints}
 use Rattle.soundness.specs.Claims.{Item, isAccepted, runOf, reached, After}
 
 -- what a call writes: the word in register 7, and a newline if its name asks for one

@@ -8,7 +8,7 @@ use Rattle.records.specs.Contexts.{bindingBytes}
 use Rattle.records.specs.Orders.{orderBytes}
 use Rattle.layout.specs.Config.{base, second}
 use Rattle.heap.specs.Values.{object, nil, cons}
-use Rattle.bridge.specs.Sizes.{objectSizes}
+use Rattle.memory.specs.Objects.{objectSizes}
 use Rattle.soundness.specs.Claims.{Item, values, After}
 use Rattle.soundness.specs.Example.{below, bytesOf, item}
 use Rattle.soundness.specs.Puts.{puts, sevens}

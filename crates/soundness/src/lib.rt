@@ -78,12 +78,12 @@ pub fn printed_is_called()
     ensures { λ r. ⌜ PrintedIsCalled ⌝ }
 {}
 
-// what `chains::count_blocks` counts of it
+// what `heap_chains::count_blocks` counts of it
 pub fn counts_are_true()
     ensures { λ r. ⌜ CountsAreTrue ⌝ }
 {}
 
-// what `chains::to_fit` tells
+// what `heap_chains::to_fit` tells
 pub fn fit_is_for_peak()
     ensures { λ r. ⌜ FitIsForPeak ⌝ }
 {}

@@ -1,4 +1,4 @@
-use Rattle.heap.specs.RunLemmas.{abstract-frontier-is-peak}
+use Rattle.heap.proofs.RunLemmas.{abstract-frontier-is-peak}
 use Rattle.heap.proofs.abstract_frontier_is_peak.Statement.{statement}
 use Rattle.heap.proofs.abstract_frontier_is_peak.Tie as tie
 

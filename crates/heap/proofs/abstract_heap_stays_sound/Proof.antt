@@ -1,4 +1,4 @@
-use Rattle.heap.specs.RunLemmas.{abstract-heap-stays-sound}
+use Rattle.heap.proofs.RunLemmas.{abstract-heap-stays-sound}
 use Rattle.heap.proofs.abstract_heap_stays_sound.Statement.{statement}
 use Rattle.heap.proofs.abstract_heap_stays_sound.Tie as tie
 

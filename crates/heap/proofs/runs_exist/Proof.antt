@@ -1,4 +1,4 @@
-use Rattle.heap.specs.Example.{runs-exist}
+use Rattle.heap.proofs.Example.{runs-exist}
 use Rattle.heap.proofs.runs_exist.Statement.{statement}
 use Rattle.heap.proofs.runs_exist.Tie as tie
 

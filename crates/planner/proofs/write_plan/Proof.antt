@@ -2,7 +2,7 @@ use borrow.Author.Needs.{needs}
 use mathlib.Core.Path.{sym, _∙_}
 use lib.Seq.{length-take-le}
 use Rattle.planner.proofs.Lent.{fits}
-use Rattle.planning.proofs.Texts.{written-fits}
+use Rattle.plan.proofs.Texts.{written-fits}
 use Rattle.planner.proofs.write_plan.Statement.{statement}
 use Rattle.planner.proofs.write_plan.Tie as tie
 

@@ -1,7 +1,7 @@
 use borrow.Author.Needs.{needs}
 use mathlib.Core.Path.{refl, sym, ap, _∙_}
 use Rattle.layout.proofs.Placing.{edited-supported}
-use Rattle.chains.specs.declared.Blocks.{Blocks}
+use Rattle.heap_chains.specs.declared.Blocks.{Blocks}
 use Rattle.port.specs.Blocks.{blockNumbers}
 use Rattle.port.proofs.axcut_blocks.Statement.{statement}
 use Rattle.port.proofs.axcut_blocks.Tie as tie

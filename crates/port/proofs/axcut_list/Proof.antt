@@ -1,7 +1,7 @@
 use borrow.Author.Needs.{needs}
 use mathlib.Core.Path.{ap, _∙_}
-use Rattle.numbered.specs.Numbers.{numberIn, valueIn}
-use Rattle.numbered.specs.List.{listedNumbers}
+use Rattle.port_numbers.specs.Numbers.{numberIn, valueIn}
+use Rattle.port_numbers.specs.List.{listedNumbers}
 use Rattle.port.proofs.axcut_list.Statement.{statement}
 use Rattle.port.proofs.axcut_list.Tie as tie
 

@@ -1,4 +1,4 @@
-use Rattle.soundness.specs.Induction.{every-shape-stays-sound}
+use Rattle.soundness.proofs.Induction.{every-shape-stays-sound}
 use Rattle.soundness.proofs.every_shape_stays_sound.Statement.{statement}
 use Rattle.soundness.proofs.every_shape_stays_sound.Tie as tie
 

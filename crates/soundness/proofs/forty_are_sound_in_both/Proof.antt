@@ -4,7 +4,7 @@ use Rattle.records.specs.Bytes.{le, number}
 use Rattle.records.specs.Orders.{orderBytes, orderIn, orderOf, orderReaders, orderOk, orderOperandsOk, usedByOrder, orderStarts}
 use Rattle.layout.specs.Config.{base, second}
 use Rattle.layout.proofs.Placing.{base-supported, second-supported}
-use Rattle.orders.specs.Plain.{plainly}
+use Rattle.order_spec.specs.Plain.{plainly}
 use Rattle.soundness.proofs.AllStored.{Stores, all-stored, after-all}
 use Rattle.soundness.specs.Second.{storeForty, FortyAreSoundInBoth}
 use Rattle.soundness.proofs.forty_are_sound_in_both.Statement.{statement}

@@ -1,4 +1,4 @@
-use Rattle.soundness.specs.Induction.{frontier-is-peak}
+use Rattle.soundness.proofs.Induction.{frontier-is-peak}
 use Rattle.soundness.proofs.frontier_is_peak.Statement.{statement}
 use Rattle.soundness.proofs.frontier_is_peak.Tie as tie
 

@@ -1,4 +1,4 @@
-use Rattle.soundness.specs.Induction.{frontier-within-peak-of-lists}
+use Rattle.soundness.proofs.Induction.{frontier-within-peak-of-lists}
 use Rattle.soundness.proofs.frontier_within_peak_of_lists.Statement.{statement}
 use Rattle.soundness.proofs.frontier_within_peak_of_lists.Tie as tie
 

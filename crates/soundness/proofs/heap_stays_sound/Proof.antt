@@ -1,4 +1,4 @@
-use Rattle.soundness.specs.Induction.{heap-stays-sound}
+use Rattle.soundness.proofs.Induction.{heap-stays-sound}
 use Rattle.soundness.proofs.heap_stays_sound.Statement.{statement}
 use Rattle.soundness.proofs.heap_stays_sound.Tie as tie
 

@@ -1,4 +1,4 @@
-use Rattle.soundness.specs.Induction.{heap-stays-sound-on-acquired}
+use Rattle.soundness.proofs.Induction.{heap-stays-sound-on-acquired}
 use Rattle.soundness.proofs.heap_stays_sound_on_acquired.Statement.{statement}
 use Rattle.soundness.proofs.heap_stays_sound_on_acquired.Tie as tie
 

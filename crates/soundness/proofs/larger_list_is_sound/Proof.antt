@@ -4,7 +4,7 @@ use Rattle.records.specs.Bytes.{le, number}
 use Rattle.records.specs.Orders.{orderBytes, orderIn, orderOf, orderReaders, orderOk, orderOperandsOk, usedByOrder, orderStarts}
 use Rattle.layout.specs.Config.{base, larger}
 use Rattle.layout.proofs.Placing.{base-supported, larger-supported}
-use Rattle.orders.specs.Plain.{plainly}
+use Rattle.order_spec.specs.Plain.{plainly}
 use Rattle.soundness.proofs.AllStored.{held, next-refused, Stores, all-stored, after-all}
 use Rattle.soundness.specs.Larger.{storeAll, LargerListIsSound}
 use Rattle.soundness.proofs.larger_list_is_sound.Statement.{statement}

@@ -1,4 +1,4 @@
-use Rattle.soundness.specs.Fewest.{one-fewer-is-too-few}
+use Rattle.soundness.proofs.Fewest.{one-fewer-is-too-few}
 use Rattle.soundness.proofs.one_fewer_is_too_few.Statement.{statement}
 use Rattle.soundness.proofs.one_fewer_is_too_few.Tie as tie
 

@@ -1,4 +1,4 @@
-use Rattle.soundness.specs.Operating.{operations-do-what-they-name}
+use Rattle.soundness.proofs.Operating.{operations-do-what-they-name}
 use Rattle.soundness.proofs.operations_do_what_they_name.Statement.{statement}
 use Rattle.soundness.proofs.operations_do_what_they_name.Tie as tie
 

@@ -1,4 +1,4 @@
-use Rattle.soundness.specs.Operating.{operations-do-what-they-name-on-acquired}
+use Rattle.soundness.proofs.Operating.{operations-do-what-they-name-on-acquired}
 use Rattle.soundness.proofs.operations_do_what_they_name_on_acquired.Statement.{statement}
 use Rattle.soundness.proofs.operations_do_what_they_name_on_acquired.Tie as tie
 

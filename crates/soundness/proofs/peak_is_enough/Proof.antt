@@ -1,4 +1,4 @@
-use Rattle.soundness.specs.Fitting.{peak-is-enough}
+use Rattle.soundness.proofs.Fitting.{peak-is-enough}
 use Rattle.soundness.proofs.peak_is_enough.Statement.{statement}
 use Rattle.soundness.proofs.peak_is_enough.Tie as tie
 

@@ -1,4 +1,4 @@
-use Rattle.soundness.specs.Fewest.{season-is-sound}
+use Rattle.soundness.proofs.Fewest.{season-is-sound}
 use Rattle.soundness.proofs.season_is_sound.Statement.{statement}
 use Rattle.soundness.proofs.season_is_sound.Tie as tie
 

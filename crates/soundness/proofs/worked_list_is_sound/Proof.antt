@@ -1,4 +1,4 @@
-use Rattle.soundness.specs.Example.{worked-list-is-sound}
+use Rattle.soundness.proofs.Example.{worked-list-is-sound}
 use Rattle.soundness.proofs.worked_list_is_sound.Statement.{statement}
 use Rattle.soundness.proofs.worked_list_is_sound.Tie as tie
 

@@ -1,4 +1,4 @@
-use Rattle.soundness.specs.Operated.{worked-operations}
+use Rattle.soundness.proofs.Operated.{worked-operations}
 use Rattle.soundness.proofs.worked_operations.Statement.{statement}
 use Rattle.soundness.proofs.worked_operations.Tie as tie
 

@@ -2,9 +2,9 @@ use borrow.Author.Needs.{needs}
 use mathlib.Core.Path.{refl}
 use Rattle.records.specs.declared.code.Code.the-variants.{CMPI, CMPIM}
 use Rattle.trees.specs.Tree.{leaf}
-use Rattle.emit.specs.Laws.{grown}
+use Rattle.emit.proofs.Laws.{grown}
 use Rattle.layout.specs.Config.{STACK}
-use Rattle.code.specs.Choices.{on-register, on-spill}
+use Rattle.code.proofs.Choices.{on-register, on-spill}
 use Rattle.code.proofs.emitters.emit_compare_immediate.Statement.{statement}
 use Rattle.code.proofs.emitters.emit_compare_immediate.Tie as tie
 

@@ -1,5 +1,5 @@
 use borrow.Author.Needs.{needs}
-use Rattle.code.specs.Listed.{jump-fields}
+use Rattle.code.proofs.Listed.{jump-fields}
 use Rattle.code.proofs.emitters.emit_jump_if.Statement.{statement}
 use Rattle.code.proofs.emitters.emit_jump_if.Tie as tie
 

@@ -1,10 +1,10 @@
 use borrow.Author.Needs.{needs}
 use mathlib.Core.List.{[], _∷_}
 use Rattle.trees.specs.Tree.{flat}
-use Rattle.emit.specs.Laws.{_⨾_, fields-append}
+use Rattle.emit.proofs.Laws.{_⨾_, fields-append}
 use Rattle.code.specs.Code.{compareImmediate, jumpIf}
-use Rattle.code.specs.Sizes.{plain-compare-immediate}
-use Rattle.code.specs.Listed.{plain-list}
+use Rattle.code.proofs.Sizes.{plain-compare-immediate}
+use Rattle.code.proofs.Listed.{plain-list}
 use native.Mathlib.Omega.{arith}
 use Rattle.code.proofs.emitters.emit_jump_label_if_zero.Statement.{statement}
 use Rattle.code.proofs.emitters.emit_jump_label_if_zero.Tie as tie

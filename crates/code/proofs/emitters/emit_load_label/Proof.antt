@@ -2,9 +2,9 @@ use borrow.Author.Needs.{needs}
 use mathlib.Core.Path.{refl}
 use Rattle.records.specs.declared.code.Code.the-variants.{LEAL, MOVS}
 use Rattle.trees.specs.Tree.{leaf, seq}
-use Rattle.emit.specs.Laws.{grown}
+use Rattle.emit.proofs.Laws.{grown}
 use Rattle.layout.specs.Config.{STACK, TEMP}
-use Rattle.code.specs.Choices.{on-register, on-spill}
+use Rattle.code.proofs.Choices.{on-register, on-spill}
 use Rattle.code.proofs.emitters.emit_load_label.Statement.{statement}
 use Rattle.code.proofs.emitters.emit_load_label.Tie as tie
 

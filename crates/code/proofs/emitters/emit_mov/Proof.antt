@@ -1,8 +1,8 @@
 use borrow.Author.Needs.{needs}
-use Rattle.emit.specs.Laws.{_⨟_}
+use Rattle.emit.proofs.Laws.{_⨟_}
 use Rattle.layout.specs.Config.{TEMP}
-use Rattle.code.specs.Choices.{on-register, on-spill}
-use Rattle.code.specs.Sizes.{plain-move-to}
+use Rattle.code.proofs.Choices.{on-register, on-spill}
+use Rattle.code.proofs.Sizes.{plain-move-to}
 use native.Mathlib.Omega.{arith}
 use Rattle.code.proofs.emitters.emit_mov.Statement.{statement}
 use Rattle.code.proofs.emitters.emit_mov.Tie as tie

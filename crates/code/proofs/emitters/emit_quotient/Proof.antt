@@ -2,9 +2,9 @@ use borrow.Author.Needs.{needs}
 use mathlib.Core.Path.{refl}
 use Rattle.records.specs.declared.code.Code.the-variants.{MOV}
 use Rattle.trees.specs.Tree.{leaf}
-use Rattle.emit.specs.Laws.{_⨟_, grown}
+use Rattle.emit.proofs.Laws.{_⨟_, grown}
 use Rattle.layout.specs.Config.{RETURN1, RETURN2}
-use Rattle.code.specs.Sizes.{plain-divide-kept}
+use Rattle.code.proofs.Sizes.{plain-divide-kept}
 use native.Mathlib.Omega.{arith}
 use Rattle.code.proofs.emitters.emit_quotient.Statement.{statement}
 use Rattle.code.proofs.emitters.emit_quotient.Tie as tie

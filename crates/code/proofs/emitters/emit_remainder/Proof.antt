@@ -1,6 +1,6 @@
 use borrow.Author.Needs.{needs}
-use Rattle.emit.specs.Laws.{_⨟_}
-use Rattle.code.specs.Sizes.{plain-divide-kept}
+use Rattle.emit.proofs.Laws.{_⨟_}
+use Rattle.code.proofs.Sizes.{plain-divide-kept}
 use native.Mathlib.Omega.{arith}
 use Rattle.code.proofs.emitters.emit_remainder.Statement.{statement}
 use Rattle.code.proofs.emitters.emit_remainder.Tie as tie

@@ -1,5 +1,5 @@
 use borrow.Author.Needs.{needs}
-use Rattle.code.specs.Choices.{on-register, on-spill, on-same, on-other}
+use Rattle.code.proofs.Choices.{on-register, on-spill, on-same, on-other}
 use Rattle.code.proofs.emitters.emit_subtraction.Statement.{statement}
 use Rattle.code.proofs.emitters.emit_subtraction.Tie as tie
 

@@ -2,7 +2,7 @@ use borrow.Author.Needs.{needs}
 use mathlib.Core.Path.{refl}
 use Rattle.records.specs.declared.code.Code.the-variants.{CQO, IDIV, IDIVM}
 use Rattle.trees.specs.Tree.{leaf, seq}
-use Rattle.emit.specs.Laws.{grown}
+use Rattle.emit.proofs.Laws.{grown}
 use Rattle.layout.specs.Config.{STACK, TEMP}
 use borrow.Author.Tests.{lt-ltb, le-ltb, eq-eqb, ne-eqb}
 use Rattle.code.proofs.parts.divide.Statement.{statement}

@@ -1,6 +1,6 @@
 use borrow.Author.Needs.{needs}
-use Rattle.emit.specs.Laws.{_⨟_}
-use Rattle.code.specs.Sizes.{plain-move-to}
+use Rattle.emit.proofs.Laws.{_⨟_}
+use Rattle.code.proofs.Sizes.{plain-move-to}
 use native.Mathlib.Omega.{arith}
 use Rattle.code.proofs.parts.into_register.Statement.{statement}
 use Rattle.code.proofs.parts.into_register.Tie as tie

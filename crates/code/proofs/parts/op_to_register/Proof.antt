@@ -1,6 +1,6 @@
 use borrow.Author.Needs.{needs}
-use Rattle.code.specs.Choices.{on-register, on-spill}
-use Rattle.code.specs.Numbered.{register-register, register-spill}
+use Rattle.code.proofs.Choices.{on-register, on-spill}
+use Rattle.code.proofs.Numbered.{register-register, register-spill}
 use Rattle.code.proofs.parts.op_to_register.Statement.{statement}
 use Rattle.code.proofs.parts.op_to_register.Tie as tie
 

@@ -2,10 +2,10 @@ use borrow.Author.Needs.{needs}
 use mathlib.Core.Path.{refl}
 use Rattle.records.specs.declared.code.Code.the-variants.{MOVL}
 use Rattle.trees.specs.Tree.{leaf}
-use Rattle.emit.specs.Laws.{_⨟_, grown}
+use Rattle.emit.proofs.Laws.{_⨟_, grown}
 use Rattle.layout.specs.Config.{STACK, TEMP}
-use Rattle.code.specs.Choices.{on-register, on-spill}
-use Rattle.code.specs.Numbered.{spill-register}
+use Rattle.code.proofs.Choices.{on-register, on-spill}
+use Rattle.code.proofs.Numbered.{spill-register}
 use Rattle.code.proofs.parts.op_to_spill.Statement.{statement}
 use Rattle.code.proofs.parts.op_to_spill.Tie as tie
 

@@ -2,9 +2,9 @@ use borrow.Author.Needs.{needs}
 use mathlib.Core.Path.{refl}
 use Rattle.records.specs.declared.code.Code.the-variants.{MOV}
 use Rattle.trees.specs.Tree.{leaf}
-use Rattle.emit.specs.Laws.{_⨟_, grown}
+use Rattle.emit.proofs.Laws.{_⨟_, grown}
 use Rattle.layout.specs.Config.{TEMP, RETURN1, RETURN2}
-use Rattle.code.specs.Sizes.{plain-move-from, plain-move-to}
+use Rattle.code.proofs.Sizes.{plain-move-from, plain-move-to}
 use native.Mathlib.Omega.{arith}
 use Rattle.code.proofs.parts.restore.Statement.{statement}
 use Rattle.code.proofs.parts.restore.Tie as tie

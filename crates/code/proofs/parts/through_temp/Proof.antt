@@ -1,7 +1,7 @@
 use borrow.Author.Needs.{needs}
-use Rattle.emit.specs.Laws.{_⨟_}
+use Rattle.emit.proofs.Laws.{_⨟_}
 use Rattle.layout.specs.Config.{TEMP}
-use Rattle.code.specs.Sizes.{plain-into-register}
+use Rattle.code.proofs.Sizes.{plain-into-register}
 use native.Mathlib.Omega.{arith}
 use Rattle.code.proofs.parts.through_temp.Statement.{statement}
 use Rattle.code.proofs.parts.through_temp.Tie as tie

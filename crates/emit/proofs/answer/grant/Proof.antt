@@ -1,6 +1,6 @@
 use borrow.Author.Needs.{needs}
 use native.Mathlib.Omega.{arith}
-use Rattle.emit.specs.Wrote.{no-labels, no-room, granted-all}
+use Rattle.emit.proofs.Wrote.{no-labels, no-room, granted-all}
 use Rattle.emit.proofs.answer.grant.Statement.{statement}
 use Rattle.emit.proofs.answer.grant.Tie as tie
 

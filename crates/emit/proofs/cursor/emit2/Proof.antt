@@ -1,5 +1,5 @@
 use borrow.Author.Needs.{needs}
-use Rattle.emit.specs.Laws.{_⨾_}
+use Rattle.emit.proofs.Laws.{_⨾_}
 use Rattle.emit.proofs.cursor.emit2.Statement.{statement}
 use Rattle.emit.proofs.cursor.emit2.Tie as tie
 

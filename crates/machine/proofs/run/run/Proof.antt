@@ -1,6 +1,6 @@
 use borrow.Author.Needs.{needs}
 use mathlib.Core.Path.{sym, _∙_}
-use Rattle.instructions.specs.View.{wordsOf}
+use Rattle.machine_step.specs.View.{wordsOf}
 use Rattle.machine.proofs.Checks.{accepted, ran-heap, ran-malformed, ran-ends}
 use Rattle.machine.proofs.run.run.Statement.{statement}
 use Rattle.machine.proofs.run.run.Tie as tie

@@ -2,9 +2,9 @@ use borrow.Author.Needs.{needs}
 use Prim.Native.Nat.{_-_}
 use mathlib.Core.Path.{_≡_, refl, _∙_}
 use lib.ListN.{length}
-use Rattle.instructions.specs.View.{view, wordsOf}
+use Rattle.machine_step.specs.View.{view, wordsOf}
 use Rattle.machine.specs.Run.{started, codesOf}
-use Rattle.instructions.specs.Forms.{comparedOf}
+use Rattle.machine_step.specs.Forms.{comparedOf}
 use Rattle.machine.proofs.Running.{listed-ok, Going, turned, going-first, going-limit, going-past, going-on, going-ended, going-faulted}
 use native.Mathlib.Omega.{arith}
 use Rattle.machine.proofs.run.steps.Statement.{statement}

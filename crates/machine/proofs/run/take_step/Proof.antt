@@ -1,5 +1,5 @@
 use borrow.Author.Needs.{needs}
-use Rattle.instructions.specs.View.{wordsOf}
+use Rattle.machine_step.specs.View.{wordsOf}
 use Rattle.machine.specs.State.{see}
 use Rattle.machine.proofs.Trying.{not-unread, not-refused, turns}
 use Rattle.machine.proofs.run.take_step.Statement.{statement}

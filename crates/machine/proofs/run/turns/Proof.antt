@@ -2,8 +2,8 @@ use borrow.Author.Needs.{needs}
 use Prim.Native.Nat.{_-_}
 use mathlib.Core.Path.{_≡_, refl, ap, _∙_}
 use lib.ListN.{length}
-use Rattle.instructions.specs.View.{wordsOf}
-use Rattle.instructions.specs.Memory.{heapOk}
+use Rattle.machine_step.specs.View.{wordsOf}
+use Rattle.machine_step.specs.Memory.{heapOk}
 use Rattle.machine.specs.State.{see}
 use Rattle.machine.specs.Run.{started, codesOf}
 use Rattle.machine.proofs.Running.{Going, going-first, going-limit, going-past, going-on, going-ended, going-faulted}

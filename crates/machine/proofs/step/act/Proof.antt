@@ -1,7 +1,7 @@
 use borrow.Author.Needs.{needs}
 use native.Mathlib.Omega.{arith}
 use Rattle.records.proofs.CodesRead.{ok-code}
-use Rattle.instructions.specs.View.{wordsOf}
+use Rattle.machine_step.specs.View.{wordsOf}
 use Rattle.machine.proofs.Tables.{acts}
 use Rattle.machine.proofs.Trying.{ok-registers}
 use Rattle.machine.proofs.step.act.Statement.{statement}

@@ -2,7 +2,7 @@ use borrow.Author.Needs.{needs}
 use mathlib.Core.Path.{refl, sym, _∙_}
 use lib.ListN.{length-map}
 use Rattle.records.proofs.Answers.{answers-by}
-use Rattle.instructions.specs.View.{wordsOf}
+use Rattle.machine_step.specs.View.{wordsOf}
 use Rattle.machine.specs.State.{see}
 use Rattle.machine.proofs.Trying.{heap-refused, code-refused, performs}
 use Rattle.machine.proofs.step.step.Statement.{statement}

@@ -1,8 +1,8 @@
 use borrow.Author.Needs.{needs}
 use native.Mathlib.Omega.{arith}
 use borrow.Author.Tests.{lt-ltb, le-ltb}
-use Rattle.emit.specs.Laws.{_⨟_}
-use Rattle.memory.specs.Sizes.{take-size}
+use Rattle.emit.proofs.Laws.{_⨟_}
+use Rattle.memory.proofs.Sizes.{take-size}
 use Rattle.memory.proofs.block.acquire_block.Statement.{statement}
 use Rattle.memory.proofs.block.acquire_block.Tie as tie
 

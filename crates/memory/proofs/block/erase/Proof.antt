@@ -3,7 +3,7 @@ use mathlib.Core.Path.{refl}
 use borrow.Author.Tests.{lt-ltb, le-ltb}
 use Rattle.records.specs.declared.code.Code.the-variants.{MOVL}
 use Rattle.trees.specs.Tree.{leaf}
-use Rattle.emit.specs.Laws.{_⨟_, grown}
+use Rattle.emit.proofs.Laws.{_⨟_, grown}
 use Rattle.layout.specs.Config.{STACK, TEMP}
 use Rattle.memory.proofs.block.erase.Statement.{statement}
 use Rattle.memory.proofs.block.erase.Tie as tie

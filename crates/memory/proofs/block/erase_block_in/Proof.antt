@@ -1,11 +1,11 @@
 use borrow.Author.Needs.{needs}
 use mathlib.Core.Path.{refl}
 use native.Mathlib.Omega.{arith}
-use Rattle.emit.specs.Wrote.{refused, room-for, not-written, wrote}
+use Rattle.emit.proofs.Wrote.{refused, room-for, not-written, wrote}
 use Rattle.layout.proofs.Placing.{operand-range}
 use Rattle.memory.specs.Blocks.{eraseBlock}
 use Rattle.memory.specs.Answered.{eraseAnswer}
-use Rattle.memory.specs.Sizes.{erase-size}
+use Rattle.memory.proofs.Sizes.{erase-size}
 use Rattle.memory.proofs.block.erase_block_in.Statement.{statement}
 use Rattle.memory.proofs.block.erase_block_in.Tie as tie
 

@@ -1,6 +1,6 @@
 use borrow.Author.Needs.{needs}
 use mathlib.Core.Path.{refl}
-use Rattle.emit.specs.Laws.{_⨟_, grown}
+use Rattle.emit.proofs.Laws.{_⨟_, grown}
 use Rattle.records.specs.declared.code.Code.the-variants.{MOVL}
 use Rattle.trees.specs.Tree.{leaf}
 use Rattle.layout.specs.Config.{HEAP, TEMP}

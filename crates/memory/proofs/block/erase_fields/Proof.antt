@@ -6,9 +6,9 @@ use native.Mathlib.Nat.{le-antisymm}
 use native.Mathlib.Numerals.{add-one}
 use lib.ListN.{length}
 use Rattle.emit.specs.Emitted.{Emits}
-use Rattle.emit.specs.Laws.{_⨟_, emits-nop}
+use Rattle.emit.proofs.Laws.{_⨟_, emits-nop}
 use Rattle.memory.specs.Blocks.{eraseFields}
-use Rattle.memory.specs.Flattened.{fields-size}
+use Rattle.memory.proofs.Flattened.{fields-size}
 use Rattle.memory.proofs.block.erase_fields.Statement.{statement}
 use Rattle.memory.proofs.block.erase_fields.Tie as tie
 

@@ -1,6 +1,6 @@
 use borrow.Author.Needs.{needs}
 use mathlib.Core.Path.{refl}
-use Rattle.emit.specs.Laws.{_⨾_, counted, grown}
+use Rattle.emit.proofs.Laws.{_⨾_, counted, grown}
 use Rattle.memory.specs.Blocks.{eraseRegister}
 use Rattle.memory.proofs.block.erase_register.Statement.{statement}
 use Rattle.memory.proofs.block.erase_register.Tie as tie

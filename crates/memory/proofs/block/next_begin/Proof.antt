@@ -1,5 +1,5 @@
 use borrow.Author.Needs.{needs}
-use Rattle.emit.specs.Laws.{_⨾_}
+use Rattle.emit.proofs.Laws.{_⨾_}
 use Rattle.memory.proofs.block.next_begin.Statement.{statement}
 use Rattle.memory.proofs.block.next_begin.Tie as tie
 

@@ -1,10 +1,10 @@
 use borrow.Author.Needs.{needs}
 use native.Mathlib.Omega.{arith}
-use Rattle.emit.specs.Laws.{_⨾_, then₀, grown, listed}
+use Rattle.emit.proofs.Laws.{_⨾_, then₀, grown, listed}
 use Rattle.emit.specs.Emitted.{fieldsList}
 use Rattle.trees.specs.Tree.{flat}
 use Rattle.memory.specs.Blocks.{eraseFields, nextBlock}
-use Rattle.memory.specs.Flattened.{fields-size, next-flat}
+use Rattle.memory.proofs.Flattened.{fields-size, next-flat}
 use Rattle.memory.proofs.block.next_block.Statement.{statement}
 use Rattle.memory.proofs.block.next_block.Tie as tie
 

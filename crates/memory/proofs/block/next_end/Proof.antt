@@ -1,5 +1,5 @@
 use borrow.Author.Needs.{needs}
-use Rattle.emit.specs.Laws.{_⨾_, counted}
+use Rattle.emit.proofs.Laws.{_⨾_, counted}
 use Rattle.memory.proofs.block.next_end.Statement.{statement}
 use Rattle.memory.proofs.block.next_end.Tie as tie
 

@@ -1,6 +1,6 @@
 use borrow.Author.Needs.{needs}
 use mathlib.Core.Path.{refl, sym, _∙_}
-use Rattle.emit.specs.Wrote.{refused}
+use Rattle.emit.proofs.Wrote.{refused}
 use Rattle.layout.proofs.Placing.{framed-supported}
 use Rattle.memory.proofs.block.share_block_n.Statement.{statement}
 use Rattle.memory.proofs.block.share_block_n.Tie as tie

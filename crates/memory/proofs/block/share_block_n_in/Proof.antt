@@ -2,11 +2,11 @@ use borrow.Author.Needs.{needs}
 use mathlib.Core.Path.{refl}
 use native.Mathlib.Omega.{arith}
 use borrow.Author.Tests.{lt-ltb, le-ltb}
-use Rattle.emit.specs.Wrote.{refused, room-for, not-written, wrote}
+use Rattle.emit.proofs.Wrote.{refused, room-for, not-written, wrote}
 use Rattle.layout.proofs.Placing.{operand-range}
 use Rattle.memory.specs.Blocks.{shareBlock}
 use Rattle.memory.specs.Answered.{shareAnswer}
-use Rattle.memory.specs.Sizes.{share-size}
+use Rattle.memory.proofs.Sizes.{share-size}
 use Rattle.memory.proofs.block.share_block_n_in.Statement.{statement}
 use Rattle.memory.proofs.block.share_block_n_in.Tie as tie
 

@@ -1,6 +1,6 @@
 use borrow.Author.Needs.{needs}
 use mathlib.Core.Path.{refl}
-use Rattle.emit.specs.Laws.{counted, grown}
+use Rattle.emit.proofs.Laws.{counted, grown}
 use Rattle.memory.specs.Blocks.{shareRegister}
 use Rattle.memory.proofs.block.share_register.Statement.{statement}
 use Rattle.memory.proofs.block.share_register.Tie as tie

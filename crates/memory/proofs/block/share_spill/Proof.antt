@@ -1,6 +1,6 @@
 use borrow.Author.Needs.{needs}
 use mathlib.Core.Path.{refl}
-use Rattle.emit.specs.Laws.{_⨾_, counted, grown}
+use Rattle.emit.proofs.Laws.{_⨾_, counted, grown}
 use Rattle.records.specs.declared.code.Code.the-variants.{ADDIM, MOVL, CMPIM}
 use Rattle.trees.specs.Tree.{leaf, seq, skip-if-zero}
 use Rattle.layout.specs.Config.{STACK, TEMP}

@@ -1,7 +1,7 @@
 use borrow.Author.Needs.{needs}
 use mathlib.Core.Path.{refl}
 use borrow.Author.Tests.{lt-ltb, le-ltb}
-use Rattle.emit.specs.Laws.{grown}
+use Rattle.emit.proofs.Laws.{grown}
 use Rattle.records.specs.declared.code.Code.the-variants.{MOVS, MOVL}
 use Rattle.trees.specs.Tree.{leaf, seq}
 use Rattle.layout.specs.Config.{STACK, TEMP}

@@ -1,8 +1,8 @@
 use borrow.Author.Needs.{needs}
 use Rattle.records.proofs.Conditions.{and-left}
 use Rattle.operations.specs.Operations.{recordsOf, operandsOk}
-use Rattle.code.specs.Sizes.{plain-arithmetic, plain-compare, plain-compare-immediate, plain-load-immediate, plain-load-label, plain-mov}
-use Rattle.code.specs.Listed.{plain-list}
+use Rattle.code.proofs.Sizes.{plain-arithmetic, plain-compare, plain-compare-immediate, plain-load-immediate, plain-load-label, plain-mov}
+use Rattle.code.proofs.Listed.{plain-list}
 use Rattle.operations.proofs.Ranges.{one-below, two-below, below-and}
 use native.Mathlib.Omega.{arith}
 use Rattle.operations.proofs.operation.emit_operation.Statement.{statement}

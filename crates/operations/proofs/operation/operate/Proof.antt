@@ -1,6 +1,6 @@
 use borrow.Author.Needs.{needs}
 use mathlib.Core.Path.{refl, sym, _∙_}
-use Rattle.emit.specs.Wrote.{refused}
+use Rattle.emit.proofs.Wrote.{refused}
 use Rattle.layout.proofs.Placing.{framed-supported}
 use Rattle.operations.proofs.operation.operate.Statement.{statement}
 use Rattle.operations.proofs.operation.operate.Tie as tie

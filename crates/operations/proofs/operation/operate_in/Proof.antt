@@ -1,6 +1,6 @@
 use borrow.Author.Needs.{needs}
 use mathlib.Core.Path.{refl, sym, _∙_}
-use Rattle.emit.specs.Wrote.{refused}
+use Rattle.emit.proofs.Wrote.{refused}
 use Rattle.operations.specs.Operations.{recordsOf}
 use Rattle.operations.proofs.Answering.{not-written, wrote}
 use native.Mathlib.Omega.{arith}

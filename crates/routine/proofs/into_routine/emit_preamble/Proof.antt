@@ -1,5 +1,5 @@
 use borrow.Author.Needs.{needs}
-use Rattle.emit.specs.Laws.{_⨾_}
+use Rattle.emit.proofs.Laws.{_⨾_}
 use Rattle.routine.proofs.into_routine.emit_preamble.Statement.{statement}
 use Rattle.routine.proofs.into_routine.emit_preamble.Tie as tie
 

@@ -6,7 +6,7 @@ use native.Mathlib.Omega.{arith}
 use lib.ListN.{length}
 use Rattle.emit.specs.declared.cursor.Cursor.{Cursor}
 use Rattle.emit.specs.Emitted.{fieldsList, Emitted}
-use Rattle.emit.specs.Laws.{_⨾_}
+use Rattle.emit.proofs.Laws.{_⨾_}
 use Rattle.routine.specs.Routine.{moveArguments}
 use Rattle.routine.proofs.Parts.{next-argument, none-left}
 use Rattle.routine.proofs.into_routine.move_arguments.Statement.{statement}

@@ -1,0 +1,54 @@
+// A list of orders as bytes, taken apart: each order is followed by its bindings.
+ghost use mathlib.Core.Path.{_≡_};
+ghost use Prim.Native.Nat.{min};
+ghost use Rattle.channel_step.specs.Lists.{bytesAfter, FindsItem};
+use records::order::Order;
+use records::order::OrderRead;
+
+// Where an order's bytes end, and where its bindings do.
+pub struct Item {
+    pub order_end: usize,
+    pub end: usize,
+}
+
+fn least(a: usize, b: usize) -> usize
+    ensures { λ r. ⌜ r ≡ min a b ⌝ }
+{
+    if a < b { a } else { b }
+}
+
+// How many bytes of bindings follow an order.
+pub fn bytes_after(order: OrderRead) -> usize
+    ensures { λ r. ⌜ r ≡ bytesAfter order ⌝ }
+{
+    match order {
+        OrderRead::Malformed(_) => 0,
+        OrderRead::Whole(read) => match read {
+            Order::Put(_) => 0,
+            Order::Compute(_, _, _) => 0,
+            Order::Copy(_, _) => 0,
+            Order::Drop => 0,
+            Order::Store(_, _) => 0,
+            Order::Load(n) => 8 * (n as usize),
+            Order::Print(_, _) => 0,
+        },
+    }
+}
+
+// The item at byte `at` of a list; past its end there is none.
+pub fn item_at(list: &[u8], at: usize) -> Item
+    ensures { λ r. ⌜ FindsItem (now (list .entry)) at r ⌝ }
+{
+    if list.len() <= at {
+        return Item {
+            order_end: at,
+            end: at,
+        };
+    }
+    let order_end = at + least(24, list.len() - at);
+    let bytes = bytes_after(records::order::read_order(&list[at..order_end]));
+    Item {
+        order_end,
+        end: order_end + least(bytes, list.len() - order_end),
+    }
+}

@@ -1,9 +1,0 @@
-use Rattle.framing.proofs.Framed.{routine-returns}
-use Rattle.framing.proofs.routine_returns.Statement.{statement}
-use Rattle.framing.proofs.routine_returns.Tie as tie
-
-returns : tie.Need-returns
-returns c = routine-returns
-
-pub routine-returns-spec : {M : Type 1} → statement M
-routine-returns-spec = tie.close (tie.spec returns)

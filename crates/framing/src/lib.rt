@@ -1,8 +1,0 @@
-// What the records around a routine's body do on document 01's machine.
-// The promise is the claim of a function that does nothing: its statement is in specs/Claims.antt, and its proof cites the theorem.
-ghost use Rattle.framing.specs.Claims.{RoutineReturns};
-
-// setup, the moves of the arguments, and cleanup
-pub fn routine_returns()
-    ensures { λ r. ⌜ RoutineReturns ⌝ }
-{}

@@ -1,0 +1,146 @@
+-- From an order's bytes to its answer and its two outputs.
+use Prim.Native.Nat.{ℕ, _*_, _/_, _≤_}
+use mathlib.Core.Path.{_≡_, refl, sym, ap, _∙_}
+use mathlib.Core.Bool.{true, false, _&&_, cond}
+use mathlib.Core.List.{List, []}
+use native.Mathlib.Omega.{arith}
+use lib.Dec.{leb, eqb}
+use lib.ListN.{length, getD}
+use lib.Seq.{sets}
+use borrow.Author.Tests.{eq-eqb, ne-eqb, leb-true}
+use Rattle.records.specs.declared.context.Flaw.{Flaw}
+use Rattle.records.specs.declared.context.ContextRead.{ContextRead}
+use Rattle.records.specs.declared.context.ContextRead.the-variants.{Good, Bad}
+use Rattle.records.specs.declared.order.Order.{Order}
+use Rattle.records.specs.Contexts.{checkedContext, countedOn}
+use Rattle.records.specs.Orders.{orderOf, orderIn, orderOk, orderStarts}
+use Rattle.records.proofs.Conditions.{and-left}
+use Rattle.trees.specs.Tree.{size}
+use Rattle.layout.specs.declared.config.Shape.{Shape}
+use Rattle.layout.specs.declared.config.Shaped.{Shaped}
+use Rattle.layout.specs.declared.config.Shaped.the-variants.{In, NoFrame, NoEdition}
+use Rattle.memory.specs.Answered.{variablesIn}
+use Rattle.order_spec.specs.declared.answer.Answer.{Answer}
+use Rattle.order_spec.specs.declared.answer.Answer.the-variants.{Context, Malformed, Frame}
+use Rattle.order_spec.specs.Writes.{wanted, treeOf, contextAfter}
+use Rattle.order_spec.specs.Answered.{Asked, causeOf, accepted, orderIs, decided, answerTo, unframed, recordsOf, orderContext, answerIn}
+use Rattle.order.specs.Answers.{asking, AnswersOrder}
+use Rattle.order.specs.declared.order.Begun.{Begun}
+use Rattle.order.specs.declared.order.Begun.the-variants.{With, Refused}
+use Rattle.order.specs.Begun.{Read, Unread, Begins}
+use Rattle.order.specs.Decided.{fitting, written, judged, Leaves}
+
+-- a well-formed order is whole
+pub order-whole : (s : List ℕ) → orderStarts s ≡ true → 24 ≤ length s
+unfolding orderStarts
+order-whole s e =
+    let b₀ = leb 24 (length s) in
+    let b₁ = eqb (getD s 0 0) 0xA8 in
+    let b₂ = eqb (getD s 3 0) 0 in
+    leb-true 24 (length s) (and-left b₀ b₁ (and-left (b₀ && b₁) b₂ (and-left (b₀ && b₁ && b₂) (orderOk (orderIn s)) e)))
+
+-- 15 to 17 and 2, whatever follows
+module _ (context order bindings : List ℕ) where
+  pub context-bad : (flaw : Flaw) → checkedContext context ≡ Bad flaw → Unread context order bindings (Context flaw)
+  context-bad flaw e = record { refused = refl; comes = λ answer. rw e }
+
+  module _ (k : ℕ) (h : checkedContext context ≡ Good k) where
+    pub bindings-bad : (flaw : Flaw) → countedOn k (checkedContext bindings) ≡ Bad flaw → Unread context order bindings (Context flaw)
+    bindings-bad flaw e = record { refused = refl; comes = λ answer. rw (h, e) }
+
+    module _ (m : ℕ) (b : checkedContext bindings ≡ Good m) where
+      pub order-bad : orderStarts order ≡ false → Unread context order bindings (Malformed 1)
+      order-bad e = record { refused = refl; comes = λ answer. rw (h, b, e) }
+
+      module _ (s : orderStarts order ≡ true) {o : Order} (e : o ≡ orderOf (orderIn order)) where
+        pub number-bad : (m ≡ wanted o → ⊥) → Unread context order bindings (Malformed 1)
+        number-bad n = record { refused = refl; comes = λ answer. rw (h, b, s, ne-eqb m (wanted (orderOf (orderIn order))) (λ z. n (z ∙ ap wanted (sym e)))) }
+
+        module _ (w : m ≡ wanted o) where
+          same-number : eqb m (wanted (orderOf (orderIn order))) ≡ true
+          same-number = eq-eqb m (wanted (orderOf (orderIn order))) (w ∙ ap wanted e)
+
+          pub surplus : (length order ≡ 24 → ⊥) → Unread context order bindings (Malformed 2)
+          surplus n = record { refused = refl; comes = λ answer. rw (h, b, s, same-number, ne-eqb (length order) 24 n) }
+
+          pub well-read : length order ≡ 24 → Read context order bindings k o
+          well-read l =
+              record {
+                context-good = h;
+                bindings-good = b ∙ ap Good w;
+                order-is = e;
+                comes = λ answer. rw (h, b, s, same-number, eq-eqb (length order) 24 l);
+              }
+
+-- by how it begins
+module _ {context order bindings : List ℕ} {r : Begun} (b : Begins context order bindings r) where
+  pub begun-with : {k : ℕ} {o : Order} → r ≡ With k o → Read context order bindings k o
+  begun-with e = rw e at b
+
+  pub begun-refused : {a : Answer} → r ≡ Refused a → Unread context order bindings a
+  begun-refused e = rw e at b
+
+-- an order that is refused with 15 to 17 or 2, and one that is read, where there is no such frame
+module _ {context order bindings : List ℕ} where
+  pub unread-unframed : {a : Answer} → Unread context order bindings a → (a ≡ unframed context (asking order bindings 0 [] [])) × (accepted a ≡ false)
+  unfolding unframed
+  unread-unframed u = (sym (u .comes (λ k. Frame)), u .refused)
+
+  pub read-unframed : {k : ℕ} {o : Order} → Read context order bindings k o → (Frame ≡ unframed context (asking order bindings 0 [] [])) × (accepted Frame ≡ false)
+  unfolding unframed
+  read-unframed u = (sym (u .comes (λ k. Frame)), refl)
+
+-- a refusal leaves both outputs
+pub unanswered : {context : List ℕ} {q : Asked} {o a : List ℕ} {r : Answer} (f : Shaped) → r ≡ answerIn f context q → accepted r ≡ false → AnswersOrder f context q r o o a a
+unanswered (In g) e h = record { answer = e; cause = ap causeOf e; records = rw (← e, h); after = rw (← e, h) }
+unanswered NoFrame e h = record { answer = e; cause = ap causeOf e; records = refl; after = refl }
+unanswered NoEdition e h = record { answer = e; cause = ap causeOf e; records = refl; after = refl }
+
+-- where there is no such frame, the counter and the outputs do not matter
+pub unframed-answered : {context : List ℕ} (q : Asked) {o a : List ℕ} {r : Answer} → r ≡ unframed context (asking (q .order) (q .bindings) 0 [] []) → accepted r ≡ false
+    → AnswersOrder NoFrame context q r o o a a
+unfolding unframed
+unframed-answered q e h = unanswered NoFrame e h
+
+-- in a shape
+module _ (G : Shape) (c : List ℕ) (q : Asked) where
+  pub unread-answered : {o₁ c₁ : List ℕ} {a : Answer} → Unread c (q .order) (q .bindings) a → AnswersOrder (In G) c q a o₁ o₁ c₁ c₁
+  unfolding answerTo
+  unread-answered u = unanswered (In G) (sym (u .comes (λ k. decided G c k q))) (u .refused)
+
+  module _ {k : ℕ} {o : Order} (u : Read c (q .order) (q .bindings) k o) where
+    same-judged : judged G c k (q .bindings) (orderIs q) (q .counter) (q .recordsRoom) (q .contextRoom) ≡ decided G c k q
+    unfolding judged fitting
+    same-judged =
+        let d : 24 * size (treeOf G c k (q .bindings) (orderIs q)) / 24 ≡ size (treeOf G c k (q .bindings) (orderIs q)) = omega arith in
+        rw d
+
+    as-judged : judged G c k (q .bindings) o (q .counter) (q .recordsRoom) (q .contextRoom) ≡ answerTo G c q
+    unfolding answerTo
+    as-judged =
+        ap (λ (x : Order). judged G c k (q .bindings) x (q .counter) (q .recordsRoom) (q .contextRoom)) (u .order-is) ∙ same-judged ∙ sym (u .comes (λ k. decided G c k q))
+
+    same-records : written G c k (q .bindings) o (q .counter) ≡ recordsOf G c q
+    same-records =
+        ap (λ (x : Order). written G c k (q .bindings) x (q .counter)) (u .order-is)
+        ∙ ap (λ (z : ContextRead). written G c (variablesIn z) (q .bindings) (orderIs q) (q .counter)) (sym (u .context-good))
+
+    same-context : contextAfter c k (q .bindings) o ≡ orderContext c q
+    same-context =
+        ap (λ (x : Order). contextAfter c k (q .bindings) x) (u .order-is)
+        ∙ ap (λ (z : ContextRead). contextAfter c (variablesIn z) (q .bindings) (orderIs q)) (sym (u .context-good))
+
+    output : Answer → List ℕ → List ℕ → List ℕ
+    output x o w = cond (accepted x) (sets o 0 w) o
+
+    pub answered : {r : Answer} {o₁ o₂ c₁ c₂ : List ℕ}
+        → Leaves r (judged G c k (q .bindings) o (q .counter) (q .recordsRoom) (q .contextRoom)) o₁ o₂ (written G c k (q .bindings) o (q .counter)) c₁ c₂ (contextAfter c k (q .bindings) o)
+        → AnswersOrder (In G) c q r o₁ o₂ c₁ c₂
+    unfolding output
+    answered {o₁ = o₁} {c₁ = c₁} d =
+        record {
+          answer = d .answer ∙ as-judged;
+          cause = ap causeOf (d .answer ∙ as-judged);
+          records = d .records ∙ ap (λ (x : Answer). output x o₁ (written G c k (q .bindings) o (q .counter))) as-judged ∙ ap (output (answerTo G c q) o₁) same-records;
+          after = d .context ∙ ap (λ (x : Answer). output x c₁ (contextAfter c k (q .bindings) o)) as-judged ∙ ap (output (answerTo G c q) c₁) same-context;
+        }

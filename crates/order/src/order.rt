@@ -1,0 +1,244 @@
+// An order as its bytes, answered: its records in one output, the context after it in another.
+ghost use mathlib.Core.Path.{_≡_};
+ghost use mathlib.Core.Bool.{true, false};
+ghost use mathlib.Core.List.{[]};
+ghost use Prim.Native.Nat.{_+_, _*_, _<_, _≤_, _^_};
+ghost use lib.ListN.{length};
+ghost use Rattle.records.specs.declared.context.ContextRead.the-variants.{Good};
+ghost use Rattle.records.specs.Contexts.{checkedContext};
+ghost use Rattle.layout.specs.declared.config.Shaped.the-variants.{In};
+ghost use Rattle.layout.specs.Config.{Supported, positions, shapeOf};
+ghost use Rattle.order_spec.specs.Answered.{accepted, unframed};
+ghost use Rattle.order_spec.specs.Writes.{wanted, contextAfter, present, asked};
+ghost use Rattle.order.specs.Answers.{asking, AnswersOrder};
+ghost use Rattle.order.specs.Begun.{Begins};
+ghost use Rattle.order.specs.Decided.{fitting, written, fits, judged, Leaves};
+use emit::cursor::Cursor;
+use order_check::after;
+use order_check::checks;
+use layout::config::Shape;
+use layout::config::Shaped;
+use order_emit::emitters;
+use order_spec::answer::Answer;
+use records::context;
+use records::context::ContextRead;
+use records::order::Order;
+
+// 9 and 10: need is the cursor past the records, from a cursor at 0 and counter 0; `count` bindings come after them.
+fn grant(counter: u64, room: usize, context_room: usize, need: Cursor, count: u64) -> Answer
+    requires { ⌜ (need .counter < 2 ^ 32) × (count < 2 ^ 32) ⌝ }
+    ensures { λ r. ⌜ r ≡ fitting counter room «context_room» (need .at) (need .counter) (8 * count) ⌝ }
+{
+    if 2147483647 < counter {
+        return Answer::Labels;
+    }
+    let drawn = counter + need.counter;
+    if 2147483647 < drawn {
+        return Answer::Labels;
+    }
+    if room < need.at {
+        return Answer::Room(need.at);
+    }
+    let bytes = (8 * count) as usize;
+    if context_room < bytes {
+        return Answer::Room(bytes);
+    }
+    Answer::Accepted(need.at / 24, drawn, count as usize)
+}
+
+pub fn is_accepted(answer: Answer) -> bool
+    ensures { λ r. ⌜ r ≡ accepted answer ⌝ }
+{
+    match answer {
+        Answer::Accepted(_, _, _) => true,
+        Answer::Context(_) => false,
+        Answer::Malformed(_) => false,
+        Answer::Frame => false,
+        Answer::Missing => false,
+        Answer::Kind => false,
+        Answer::Count => false,
+        Answer::Position => false,
+        Answer::Labels => false,
+        Answer::Room(_) => false,
+        Answer::Edition => false,
+    }
+}
+
+// An order that nothing but labels or room can refuse: a first pass tells the records' size, a second writes them.
+fn write_order(
+    records_out: &mut [u8],
+    context_out: &mut [u8],
+    g: Shape,
+    context: &[u8],
+    k: u64,
+    counter: u64,
+    bindings: &[u8],
+    order: Order,
+) -> Answer
+    requires { ⌜ (checkedContext (now context) ≡ Good k) × (checkedContext (now bindings) ≡ Good (wanted order)) × (present (now context) k (now bindings) order ≡ true) × (asked (now context) k (now bindings) order ≤ positions g) × Supported g ⌝ }
+    ensures { λ r. ⌜ Leaves r (fits g (now (context .entry)) k (now (bindings .entry)) order counter (length (now («records_out» .entry))) (length (now («context_out» .entry)))) (now («records_out» .entry)) (now («records_out» .exit)) (written g (now (context .entry)) k (now (bindings .entry)) order counter) (now («context_out» .entry)) (now («context_out» .exit)) (contextAfter (now (context .entry)) k (now (bindings .entry)) order) ⌝ }
+{
+    let table = layout::utils::positions();
+    let mut none = [0u8; 1];
+    let need = emitters::emit_order(
+        &mut none,
+        Cursor { at: 0, counter: 0 },
+        g,
+        &table,
+        context,
+        k,
+        bindings,
+        order,
+    );
+    let count = after::count_after(k, order);
+    let answer = grant(counter, records_out.len(), context_out.len(), need, count);
+    if is_accepted(answer) {} else {
+        return answer;
+    }
+    emitters::emit_order(
+        records_out,
+        Cursor { at: 0, counter },
+        g,
+        &table,
+        context,
+        k,
+        bindings,
+        order,
+    );
+    after::write_context(context_out, context, k, bindings, order);
+    answer
+}
+
+// An order that is read, on the k variables of a context, with as many bindings as it wants.
+fn judge(
+    records_out: &mut [u8],
+    context_out: &mut [u8],
+    g: Shape,
+    context: &[u8],
+    k: u64,
+    counter: u64,
+    bindings: &[u8],
+    order: Order,
+) -> Answer
+    requires { ⌜ (checkedContext (now context) ≡ Good k) × (checkedContext (now bindings) ≡ Good (wanted order)) × Supported g ⌝ }
+    ensures { λ r. ⌜ Leaves r (judged g (now (context .entry)) k (now (bindings .entry)) order counter (length (now («records_out» .entry))) (length (now («context_out» .entry)))) (now («records_out» .entry)) (now («records_out» .exit)) (written g (now (context .entry)) k (now (bindings .entry)) order counter) (now («context_out» .entry)) (now («context_out» .exit)) (contextAfter (now (context .entry)) k (now (bindings .entry)) order) ⌝ }
+{
+    let positions = g.spills + 11;
+    if checks::present(k, order) {} else {
+        return Answer::Missing;
+    }
+    if checks::kinds_ok(context, k, order) {} else {
+        return Answer::Kind;
+    }
+    if checks::count_ok(order) {} else {
+        return Answer::Count;
+    }
+    if checks::asked(context, k, order) <= positions {} else {
+        return Answer::Position;
+    }
+    write_order(
+        records_out,
+        context_out,
+        g,
+        context,
+        k,
+        counter,
+        bindings,
+        order,
+    )
+}
+
+// An order whose context, bindings and bytes pass 15 to 17 and 2, with the number of the context's variables; or the refusal.
+pub enum Begun {
+    With(u64, Order),
+    Refused(Answer),
+}
+
+fn begin(context: &[u8], order: &[u8], bindings: &[u8]) -> Begun
+    ensures { λ r. ⌜ Begins (now (context .entry)) (now (order .entry)) (now (bindings .entry)) r ⌝ }
+{
+    let k = match context::check_context(context) {
+        ContextRead::Good(k) => k,
+        ContextRead::Bad(flaw) => return Begun::Refused(Answer::Context(flaw)),
+    };
+    let m = match context::check_after(k, bindings) {
+        ContextRead::Good(m) => m,
+        ContextRead::Bad(flaw) => return Begun::Refused(Answer::Context(flaw)),
+    };
+    if records::order::order_starts(order) {} else {
+        return Begun::Refused(Answer::Malformed(1));
+    }
+    let read = records::order::order_of(records::order::order_in(order));
+    if (m as u64) == checks::wanted(read) {} else {
+        return Begun::Refused(Answer::Malformed(1));
+    }
+    if order.len() == 24 {} else {
+        return Begun::Refused(Answer::Malformed(2));
+    }
+    Begun::With(k as u64, read)
+}
+
+fn order_in(
+    records_out: &mut [u8],
+    context_out: &mut [u8],
+    g: Shape,
+    context: &[u8],
+    counter: u64,
+    order: &[u8],
+    bindings: &[u8],
+) -> Answer
+    requires { ⌜ Supported g ⌝ }
+    ensures { λ r. ⌜ AnswersOrder (In g) (now (context .entry)) (asking (now (order .entry)) (now (bindings .entry)) counter (now («records_out» .entry)) (now («context_out» .entry))) r (now («records_out» .entry)) (now («records_out» .exit)) (now («context_out» .entry)) (now («context_out» .exit)) ⌝ }
+{
+    match begin(context, order, bindings) {
+        Begun::With(k, read) => judge(
+            records_out,
+            context_out,
+            g,
+            context,
+            k,
+            counter,
+            bindings,
+            read,
+        ),
+        Begun::Refused(answer) => answer,
+    }
+}
+
+// What a frame of another number of spills is answered.
+fn unframed(context: &[u8], order: &[u8], bindings: &[u8]) -> Answer
+    ensures { λ r. ⌜ (r ≡ unframed (now (context .entry)) (asking (now (order .entry)) (now (bindings .entry)) 0 [] [])) × (accepted r ≡ false) ⌝ }
+{
+    match begin(context, order, bindings) {
+        Begun::With(_, _) => Answer::Frame,
+        Begun::Refused(answer) => answer,
+    }
+}
+
+// An order's bytes with the edition, the frame, the context, the label counter and the bindings that follow it.
+pub fn order(
+    records_out: &mut [u8],
+    context_out: &mut [u8],
+    edition: u64,
+    frame: u64,
+    context: &[u8],
+    counter: u64,
+    order: &[u8],
+    bindings: &[u8],
+) -> Answer
+    ensures { λ r. ⌜ AnswersOrder (shapeOf edition frame) (now (context .entry)) (asking (now (order .entry)) (now (bindings .entry)) counter (now («records_out» .entry)) (now («context_out» .entry))) r (now («records_out» .entry)) (now («records_out» .exit)) (now («context_out» .entry)) (now («context_out» .exit)) ⌝ }
+{
+    match layout::config::shape_of(edition, frame) {
+        Shaped::In(g) => order_in(
+            records_out,
+            context_out,
+            g,
+            context,
+            counter,
+            order,
+            bindings,
+        ),
+        Shaped::NoFrame => unframed(context, order, bindings),
+        Shaped::NoEdition => Answer::Edition,
+    }
+}

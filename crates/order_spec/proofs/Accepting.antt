@@ -1,0 +1,147 @@
+-- What an accepted order says of its context, its bindings, its operands and its outputs.
+use Prim.Native.Nat.{ℕ, _+_, _*_, _/_, _≤_}
+use mathlib.Core.Path.{_≡_, refl, sym, ap, _∙_}
+use mathlib.Core.Bool.{Bool, true, false, cond}
+use mathlib.Core.List.{List}
+use native.Mathlib.Omega.{arith}
+use lib.Dec.{ltb, leb, eqb}
+use lib.ListN.{length}
+use borrow.Author.Tests.{eqb-true, ltb-false, leb-true}
+use Rattle.records.specs.declared.context.ContextRead.{ContextRead}
+use Rattle.records.specs.declared.context.ContextRead.the-variants as checked
+use Rattle.records.specs.Contexts.{checkedContext, countedOn}
+use Rattle.records.specs.Orders.{orderStarts}
+use Rattle.records.proofs.Conditions.{chosen, passed}
+use Rattle.records.proofs.ContextsRead.{counted-good}
+use Rattle.trees.specs.Tree.{Tree, labels, size}
+use Rattle.layout.specs.declared.config.Shape.{Shape}
+use Rattle.layout.specs.Config.{positions}
+use Rattle.order_spec.specs.declared.answer.Answer.{Answer}
+use Rattle.order_spec.specs.declared.answer.Answer.the-variants.{Accepted, Malformed, Frame, Missing, Kind, Count, Position, Labels, Room}
+use Rattle.order_spec.specs.Writes.{wanted, countOk, treeOf, contextAfter, present, kindsOk, asked}
+use Rattle.order_spec.specs.Answered.{Asked, accepted, orderIs, granted, decided, onContext, answerTo, unframed}
+
+-- the answer to an accepted order of records t and the context after them
+abbrev pub acceptance : Asked → Tree → List ℕ → Answer
+acceptance q t after = Accepted (size t) (q .counter + labels t) (length after / 8)
+
+pub record Taken (G : Shape) (context : List ℕ) (q : Asked) (k : ℕ) : Type 0 where
+  pub bindings-good : checkedContext (q .bindings) ≡ checked.Good (wanted (orderIs q))
+  pub starts : orderStarts (q .order) ≡ true
+  pub alone : eqb (length (q .order)) 24 ≡ true
+  pub there : present context k (q .bindings) (orderIs q) ≡ true
+  pub of-kind : kindsOk context k (q .bindings) (orderIs q) ≡ true
+  pub counted : countOk (orderIs q) ≡ true
+  pub placed : asked context k (q .bindings) (orderIs q) ≤ positions G
+  pub labelled : q .counter + labels (treeOf G context k (q .bindings) (orderIs q)) ≤ 2147483647
+  pub records-fit : 24 * size (treeOf G context k (q .bindings) (orderIs q)) ≤ q .recordsRoom
+  pub context-fits : length (contextAfter context k (q .bindings) (orderIs q)) ≤ q .contextRoom
+  pub answer : answerTo G context q ≡ acceptance q (treeOf G context k (q .bindings) (orderIs q)) (contextAfter context k (q .bindings) (orderIs q))
+
+on-good : (c : ContextRead) (f : ℕ → Answer) → accepted (onContext c f) ≡ true → (k : ℕ) × (c ≡ checked.Good k) × (accepted (f k) ≡ true)
+on-good (checked.Good k) f e = (k, refl, e)
+on-good (checked.Bad flaw) f e = let z : _≡_ {A = ℕ} 0 1 = cc in absurd (omega arith)
+
+module _ (q : Asked) (t : Tree) (after : List ℕ) where
+  pub record Granted : Type 0 where
+    pub labelled : q .counter + labels t ≤ 2147483647
+    pub records-fit : 24 * size t ≤ q .recordsRoom
+    pub context-fits : length after ≤ q .contextRoom
+    pub answer : granted q t after ≡ acceptance q t after
+
+  granted-if : accepted (granted q t after) ≡ true → Granted
+  granted-if e =
+      let a = passed accepted (ltb 2147483647 (q .counter + labels t)) Labels _ refl e in
+      let b = passed accepted (ltb (q .recordsRoom) (24 * size t)) (Room (24 * size t)) _ refl (a .1) in
+      let c = passed accepted (ltb (q .contextRoom) (length after)) (Room (length after)) _ refl (b .1) in
+      record {
+        labelled = ltb-false 2147483647 (q .counter + labels t) (a .0);
+        records-fit = ltb-false (q .recordsRoom) (24 * size t) (b .0);
+        context-fits = ltb-false (q .contextRoom) (length after) (c .0);
+        answer = rw (a .0, b .0, c .0);
+      }
+
+module _ (G : Shape) (context : List ℕ) (q : Asked) (k : ℕ) where
+  pub record Decided : Type 0 where
+    pub there : present context k (q .bindings) (orderIs q) ≡ true
+    pub of-kind : kindsOk context k (q .bindings) (orderIs q) ≡ true
+    pub counted : countOk (orderIs q) ≡ true
+    pub placed : asked context k (q .bindings) (orderIs q) ≤ positions G
+    pub grants : Granted q (treeOf G context k (q .bindings) (orderIs q)) (contextAfter context k (q .bindings) (orderIs q))
+    pub answer : decided G context k q ≡ acceptance q (treeOf G context k (q .bindings) (orderIs q)) (contextAfter context k (q .bindings) (orderIs q))
+
+  decided-if : accepted (decided G context k q) ≡ true → Decided
+  decided-if e =
+      let a = chosen accepted (present context k (q .bindings) (orderIs q)) _ Missing refl e in
+      let b = chosen accepted (kindsOk context k (q .bindings) (orderIs q)) _ Kind refl (a .1) in
+      let c = chosen accepted (countOk (orderIs q)) _ Count refl (b .1) in
+      let d = chosen accepted (leb (asked context k (q .bindings) (orderIs q)) (positions G)) _ Position refl (c .1) in
+      let g = granted-if q (treeOf G context k (q .bindings) (orderIs q)) (contextAfter context k (q .bindings) (orderIs q)) (d .1) in
+      record {
+        there = a .0;
+        of-kind = b .0;
+        counted = c .0;
+        placed = leb-true (asked context k (q .bindings) (orderIs q)) (positions G) (d .0);
+        grants = g;
+        answer = rw (a .0, b .0, c .0, d .0) (g .answer);
+      }
+
+-- an order that passes 15 to 17 and 2, and one that passes 4 to 8
+pub all-passed : (G : Shape) (context : List ℕ) (q : Asked) {k m : ℕ} → checkedContext context ≡ checked.Good k → checkedContext (q .bindings) ≡ checked.Good m → orderStarts (q .order) ≡ true
+    → eqb m (wanted (orderIs q)) ≡ true → eqb (length (q .order)) 24 ≡ true → answerTo G context q ≡ decided G context k q
+unfolding answerTo
+all-passed G context q c b s n w = rw (c, b, s, n, w)
+
+pub all-judged : (G : Shape) (context : List ℕ) (q : Asked) (k : ℕ) → present context k (q .bindings) (orderIs q) ≡ true → kindsOk context k (q .bindings) (orderIs q) ≡ true → countOk (orderIs q) ≡ true
+    → leb (asked context k (q .bindings) (orderIs q)) (positions G) ≡ true
+    → decided G context k q ≡ granted q (treeOf G context k (q .bindings) (orderIs q)) (contextAfter context k (q .bindings) (orderIs q))
+all-judged G context q k a b c d = rw (a, b, c, d)
+
+pub good-context : (G : Shape) (context : List ℕ) (q : Asked) → accepted (answerTo G context q) ≡ true → (k : ℕ) × (checkedContext context ≡ checked.Good k)
+unfolding answerTo
+good-context G context q e = let a = on-good (checkedContext context) _ e in (a .0, a .1)
+
+pub taken : (G : Shape) (context : List ℕ) (q : Asked) (k : ℕ) → checkedContext context ≡ checked.Good k → accepted (answerTo G context q) ≡ true → Taken G context q k
+unfolding answerTo
+taken G context q k good e =
+    let a = on-good (checkedContext context) _ e in
+    let same : a .0 ≡ k = good-same (sym (a .1) ∙ good) in
+    let b = on-good (countedOn (a .0) (checkedContext (q .bindings))) _ (a .2) in
+    let bindings = counted-good (a .0) (checkedContext (q .bindings)) (b .1) in
+    let c = chosen accepted (orderStarts (q .order)) _ (Malformed 1) refl (b .2) in
+    let d = chosen accepted (eqb (b .0) (wanted (orderIs q))) _ (Malformed 1) refl (c .1) in
+    let f = chosen accepted (eqb (length (q .order)) 24) _ (Malformed 2) refl (d .1) in
+    let g = decided-if G context q k (rw same at (f .1)) in
+    record {
+      bindings-good = bindings ∙ ap checked.Good (eqb-true (b .0) (wanted (orderIs q)) (d .0));
+      starts = c .0;
+      alone = f .0;
+      there = g .there;
+      of-kind = g .of-kind;
+      counted = g .counted;
+      placed = g .placed;
+      labelled = g .grants .labelled;
+      records-fit = g .grants .records-fit;
+      context-fits = g .grants .context-fits;
+      answer = all-passed G context q good bindings (c .0) (d .0) (f .0) ∙ g .answer;
+    }
+  where
+    good-same : {j : ℕ} → checked.Good j ≡ checked.Good k → j ≡ k
+    good-same e = cc
+
+-- no order is accepted where there is no such frame
+pub unframed-refused : (context : List ℕ) (q : Asked) → accepted (unframed context q) ≡ false
+unfolding unframed
+unframed-refused context q =
+    on-any (checkedContext context) _
+    (λ k. on-any (countedOn k (checkedContext (q .bindings))) _ (λ m. read-any (orderStarts (q .order)) (eqb m (wanted (orderIs q))) (eqb (length (q .order)) 24)))
+  where
+    on-any : (c : ContextRead) (f : ℕ → Answer) → ((k : ℕ) → accepted (f k) ≡ false) → accepted (onContext c f) ≡ false
+    on-any (checked.Good k) f h = h k
+    on-any (checked.Bad flaw) f h = refl
+
+    read-any : (a b d : Bool) → accepted (cond a (cond b (cond d Frame (Malformed 2)) (Malformed 1)) (Malformed 1)) ≡ false
+    read-any true true true = refl
+    read-any true true false = refl
+    read-any true false d = refl
+    read-any false b d = refl

@@ -1,0 +1,137 @@
+-- What an order is answered with, on every input. From document 01, 'Causes and numbers', in rising order, and document 02, Job 2: 15 to 17, for the context and then for
+-- the bindings, come before 2.
+use Prim.Native.Nat.{ℕ, _+_, _*_, _/_}
+use mathlib.Core.Bool.{Bool, true, false, cond}
+use mathlib.Core.List.{List, [], _∷_}
+use lib.Dec.{ltb, leb, eqb}
+use lib.ListN.{length, getD}
+use lib.Seq.{sets}
+use Rattle.records.specs.Causes.{ACCEPTED, MALFORMED, OPERAND, MISSING, KIND, COUNT, POSITION, LABELS, ROOM, EDITION}
+use Rattle.records.specs.declared.context.ContextRead.{ContextRead}
+use Rattle.records.specs.declared.context.ContextRead.the-variants.{Good, Bad}
+use Rattle.records.specs.declared.order.Order.{Order}
+use Rattle.records.specs.Contexts.{checkedContext, countedOn, flawCause}
+use Rattle.records.specs.Orders.{orderOf, orderIn, orderStarts}
+use Rattle.records.specs.ReadBack.{joined, codeBytes}
+use Rattle.trees.specs.Tree.{Tree, labels, size, flat}
+use Rattle.layout.specs.declared.config.Shape.{Shape}
+use Rattle.layout.specs.declared.config.Shaped.{Shaped}
+use Rattle.layout.specs.Config.{inShape, positions}
+use Rattle.memory.specs.Answered.{variablesIn}
+use Rattle.order_spec.specs.declared.answer.Answer.{Answer}
+use Rattle.order_spec.specs.declared.answer.Answer.the-variants.{Accepted, Context, Malformed, Frame, Missing, Kind, Count, Position, Labels, Room, Edition}
+use Rattle.order_spec.specs.Writes.{wanted, countOk, treeOf, contextAfter, present, kindsOk, asked}
+
+-- document 01's number and values for each answer: 0, with the records, the bindings and the counter after them, where the order is accepted
+abbrev pub causeOf : Answer → List ℕ
+causeOf (Accepted records counter bindings) = ACCEPTED ∷ records ∷ bindings ∷ counter ∷ []
+causeOf (Context flaw) = flawCause flaw
+causeOf (Malformed place) = MALFORMED ∷ place ∷ []
+causeOf Frame = OPERAND ∷ []
+causeOf Missing = MISSING ∷ []
+causeOf Kind = KIND ∷ []
+causeOf Count = COUNT ∷ []
+causeOf Position = POSITION ∷ []
+causeOf Labels = LABELS ∷ []
+causeOf (Room bytes) = ROOM ∷ bytes ∷ []
+causeOf Edition = EDITION ∷ []
+
+-- the counter after an answer, the last of the accepted order's numbers: a refusal has none, and keeps it
+abbrev pub counterAfter : ℕ → Answer → ℕ
+counterAfter counter r = getD (causeOf r) 3 counter
+
+abbrev pub accepted : Answer → Bool
+accepted (Accepted records counter bindings) = true
+accepted (Context flaw) = false
+accepted (Malformed place) = false
+accepted Frame = false
+accepted Missing = false
+accepted Kind = false
+accepted Count = false
+accepted Position = false
+accepted Labels = false
+accepted (Room bytes) = false
+accepted Edition = false
+
+-- what goes in with an order: its bytes, those of the bindings that follow it, the label counter, and how many bytes the two outputs have
+pub record Asked : Type 0 where
+  pub order : List ℕ
+  pub bindings : List ℕ
+  pub counter : ℕ
+  pub recordsRoom : ℕ
+  pub contextRoom : ℕ
+
+-- the order in record 1
+abbrev pub orderIs : Asked → Order
+orderIs q = orderOf (orderIn (q .order))
+
+-- how many variables a context has
+abbrev pub placesIn : List ℕ → ℕ
+placesIn context = variablesIn (checkedContext context)
+
+-- the records of an order as a tree, and the context after it
+abbrev pub orderTree : Shape → List ℕ → Asked → Tree
+orderTree g context q = treeOf g context (placesIn context) (q .bindings) (orderIs q)
+
+abbrev pub orderContext : List ℕ → Asked → List ℕ
+orderContext context q = contextAfter context (placesIn context) (q .bindings) (orderIs q)
+
+-- 9 and 10: records of t, and the context after them
+abbrev pub granted : Asked → Tree → List ℕ → Answer
+granted q t after =
+    cond (ltb 2147483647 (q .counter + labels t)) Labels
+    (cond (ltb (q .recordsRoom) (24 * size t)) (Room (24 * size t))
+    (cond (ltb (q .contextRoom) (length after)) (Room (length after)) (Accepted (size t) (q .counter + labels t) (length after / 8))))
+
+-- 4 to 10, for a well-formed order on k variables
+abbrev pub decided : Shape → List ℕ → ℕ → Asked → Answer
+decided g context k q =
+    cond (present context k (q .bindings) (orderIs q))
+    (cond (kindsOk context k (q .bindings) (orderIs q))
+    (cond (countOk (orderIs q))
+    (cond (leb (asked context k (q .bindings) (orderIs q)) (positions g))
+    (granted q (treeOf g context k (q .bindings) (orderIs q)) (contextAfter context k (q .bindings) (orderIs q)))
+    Position) Count) Kind) Missing
+
+abbrev pub onContext : ContextRead → (ℕ → Answer) → Answer
+onContext (Good k) answer = answer k
+onContext (Bad flaw) answer = Context flaw
+
+-- 15 to 17 for the context, then for the bindings, whose places count on; 2 for the order: record 1, the number of its bindings, a record too many; then what is answered on the context's variables
+abbrev pub read : List ℕ → Asked → (ℕ → Answer) → Answer
+read context q answer =
+    onContext (checkedContext context)
+    (λ k. onContext (countedOn k (checkedContext (q .bindings)))
+    (λ m. cond (orderStarts (q .order))
+    (cond (eqb m (wanted (orderIs q)))
+    (cond (eqb (length (q .order)) 24) (answer k) (Malformed 2))
+    (Malformed 1))
+    (Malformed 1)))
+
+unfoldable pub answerTo : Shape → List ℕ → Asked → Answer
+answerTo g context q = read context q (λ k. decided g context k q)
+
+-- 3 for another number of spills than a frame has, after 15 to 17 and 2
+unfoldable pub unframed : List ℕ → Asked → Answer
+unframed context q = read context q (λ k. Frame)
+
+-- the records' bytes
+abbrev pub recordsOf : Shape → List ℕ → Asked → List ℕ
+recordsOf g context q = joined codeBytes (flat (orderTree g context q) (q .counter))
+
+-- the two outputs: what is written from their start where the order is accepted, else as they were
+abbrev pub recordsOutput : Shape → List ℕ → Asked → List ℕ → List ℕ
+recordsOutput g context q o = cond (accepted (answerTo g context q)) (sets o 0 (recordsOf g context q)) o
+
+abbrev pub contextOutput : Shape → List ℕ → Asked → List ℕ → List ℕ
+contextOutput g context q o = cond (accepted (answerTo g context q)) (sets o 0 (orderContext context q)) o
+
+-- the answer and the two outputs by edition and frame: where there is no such edition or frame, both outputs stay
+abbrev pub answerIn : Shaped → List ℕ → Asked → Answer
+answerIn f context q = inShape f (λ g. answerTo g context q) (unframed context q) Edition
+
+abbrev pub recordsIn : Shaped → List ℕ → Asked → List ℕ → List ℕ
+recordsIn f context q o = inShape f (λ g. recordsOutput g context q o) o o
+
+abbrev pub contextIn : Shaped → List ℕ → Asked → List ℕ → List ℕ
+contextIn f context q o = inShape f (λ g. contextOutput g context q o) o o

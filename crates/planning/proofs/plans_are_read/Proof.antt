@@ -1,6 +1,0 @@
-use Rattle.planning.proofs.Reading.{plans-are-read}
-use Rattle.planning.proofs.plans_are_read.Statement.{statement}
-use Rattle.planning.proofs.plans_are_read.Tie as tie
-
-pub plans-are-read-spec : {M : Type 1} → statement M
-plans-are-read-spec = tie.close (tie.spec (λ c. plans-are-read))

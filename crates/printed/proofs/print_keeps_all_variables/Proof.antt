@@ -1,9 +1,0 @@
-use Rattle.printed.proofs.Printing.{print-keeps-all-variables}
-use Rattle.printed.proofs.print_keeps_all_variables.Statement.{statement}
-use Rattle.printed.proofs.print_keeps_all_variables.Tie as tie
-
-returns : tie.Need-returns
-returns c = print-keeps-all-variables
-
-pub print-keeps-all-variables-spec : {M : Type 1} → statement M
-print-keeps-all-variables-spec = tie.close (tie.spec returns)

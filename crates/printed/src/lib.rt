@@ -1,8 +1,0 @@
-// What print_i64's records do on document 01's machine.
-// The promise is the claim of a function that does nothing: its statement is in specs/Claims.antt, and its proof cites the theorem.
-ghost use Rattle.printed.specs.Claims.{PrintKeepsAllVariables};
-
-// one call, with the source's word in register 7; every variable, STACK, HEAP, FREE and the heap as before
-pub fn print_keeps_all_variables()
-    ensures { λ r. ⌜ PrintKeepsAllVariables ⌝ }
-{}

@@ -1,4 +1,0 @@
--- Lemmas of the proofs on print_i64.
-pub mod Sets  -- a set of registers, its members and its ones
-pub mod Saving  -- registers saved and restored one by one
-pub mod Printing  -- the records with the registers of the set are print_i64's

@@ -1,9 +1,0 @@
-use Rattle.rooms.proofs.LongestListing.{listings-fill}
-use Rattle.rooms.proofs.listings_fill.Statement.{statement}
-use Rattle.rooms.proofs.listings_fill.Tie as tie
-
-returns : tie.Need-returns
-returns c = listings-fill
-
-pub listings-fill-spec : {M : Type 1} → statement M
-listings-fill-spec = tie.close (tie.spec returns)

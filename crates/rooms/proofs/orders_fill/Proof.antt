@@ -1,9 +1,0 @@
-use Rattle.rooms.proofs.Filling.{orders-fill}
-use Rattle.rooms.proofs.orders_fill.Statement.{statement}
-use Rattle.rooms.proofs.orders_fill.Tie as tie
-
-returns : tie.Need-returns
-returns c = orders-fill
-
-pub orders-fill-spec : {M : Type 1} → statement M
-orders-fill-spec = tie.close (tie.spec returns)

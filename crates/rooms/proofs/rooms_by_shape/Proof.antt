@@ -1,9 +1,0 @@
-use Rattle.rooms.proofs.Filling.{rooms-by-shape}
-use Rattle.rooms.proofs.rooms_by_shape.Statement.{statement}
-use Rattle.rooms.proofs.rooms_by_shape.Tie as tie
-
-returns : tie.Need-returns
-returns c = rooms-by-shape
-
-pub rooms-by-shape-spec : {M : Type 1} → statement M
-rooms-by-shape-spec = tie.close (tie.spec returns)

@@ -1,0 +1,2 @@
+-- Lemmas.
+pub mod Flat  -- lemmas: flattening from another counter, the number of records

@@ -1,9 +1,0 @@
-use Rattle.written.proofs.Written.{written-is-read}
-use Rattle.written.proofs.written_is_read.Statement.{statement}
-use Rattle.written.proofs.written_is_read.Tie as tie
-
-returns : tie.Need-returns
-returns c = written-is-read
-
-pub written-is-read-spec : {M : Type 1} → statement M
-written-is-read-spec = tie.close (tie.spec returns)
