@@ -8,7 +8,7 @@ use lib.ListN.{length, replicate, take, length-replicate}
 use lib.Seq.{sets, sets-eq, take-at, take-all, take-append-le, length-take-le, length-sets}
 use denote.Enum.Declared.{tagOf}
 use types.Run.{OneOf, miss}
-use Rattle.records.specs.Contexts.{checkedContext}
+use Rattle.records.specs.Contexts.{checkedContext, bindingsIn}
 use Rattle.records.specs.ReadBack.{joined, codeBytes}
 use Rattle.records.proofs.Answers.{answers-by}
 use Rattle.records.proofs.CodesBack.{code-laws}
@@ -19,7 +19,6 @@ use Rattle.layout.specs.declared.config.Shape.{Shape}
 use Rattle.layout.specs.declared.config.Shaped.{Shaped}
 use Rattle.layout.specs.declared.config.Shaped.the-variants.{In, NoFrame, NoEdition}
 use Rattle.layout.specs.Config.{Supported, larger, mostVariables, stackDepth, blockWords}
-use Rattle.memory.specs.Answered.{variablesIn}
 use Rattle.machine_step.specs.View.{View, view}
 use Rattle.machine.specs.declared.run.Answer as run
 use Rattle.machine.specs.declared.run.Answer.the-variants.{Ended}
@@ -108,7 +107,7 @@ first-same e = cc
 last-same : {n n′ d d′ m m′ : ℕ} → Accepted n d m ≡ Accepted n′ d′ m′ → m ≡ m′
 last-same e = cc
 
-pub counted : (g : Shape) (context : List ℕ) (q : Asked) {n d m : ℕ} → answerTo g context q ≡ Accepted n d m → CountedAt g context q n m (variablesIn (checkedContext context))
+pub counted : (g : Shape) (context : List ℕ) (q : Asked) {n d m : ℕ} → answerTo g context q ≡ Accepted n d m → CountedAt g context q n m (bindingsIn (checkedContext context))
 counted g context q {n} {d} {m} e =
     let yes : accepted (answerTo g context q) ≡ true = ap accepted e in
     let u = good-context g context q yes in
@@ -118,7 +117,7 @@ counted g context q {n} {d} {m} e =
     let l = last-same (sym e ∙ w .answer) in
     let r = w .records-fit in
     let c = w .context-fits in
-    subst (λ (k : ℕ). CountedAt g context q n m k) (sym (ap variablesIn (u .1)))
+    subst (λ (k : ℕ). CountedAt g context q n m k) (sym (ap bindingsIn (u .1)))
     (record { records = f; records-fit = omega arith; bindings = omega arith; context-fits = omega arith })
 
 -- a list written from an output's start is what the output starts with
@@ -135,7 +134,7 @@ module _ {g : Shape} (ch : Channel) (q : Asked) (words : ℕ → ℕ) {r : Answe
       record { channel = rw e; answer = answers-by (s .answer); ran = answers-by (rw e); records = s .records }
 
   module _ {n d m : ℕ} (e : r ≡ Accepted n d m) (l : length o ≡ q .recordsRoom) where
-    counts : CountedAt g (ch .context) q n m (variablesIn (checkedContext (ch .context)))
+    counts : CountedAt g (ch .context) q n m (bindingsIn (checkedContext (ch .context)))
     counts = counted g (ch .context) q (sym (s .answer) ∙ e)
 
     yes : isAccepted g ch q ≡ true

@@ -5,8 +5,7 @@ use mathlib.Core.List.{List}
 use lib.ListN.{length, take, drop}
 use Rattle.records.specs.declared.order.OrderRead.{OrderRead}
 use Rattle.records.specs.declared.order.OrderRead.the-variants.{Whole, Malformed}
-use Rattle.records.specs.Orders.{orderRead}
-use Rattle.order_spec.specs.Writes.{wanted}
+use Rattle.records.specs.Orders.{orderRead, wanted}
 use Rattle.channel_step.specs.declared.list.Item.{Item}
 
 -- how many bytes of bindings follow an order; none follow one that does not read

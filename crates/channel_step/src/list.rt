@@ -1,8 +1,6 @@
 // A list of orders as bytes, taken apart: each order is followed by its bindings.
 ghost use mathlib.Core.Path.{_≡_};
-ghost use Prim.Native.Nat.{min};
 ghost use Rattle.channel_step.specs.Lists.{bytesAfter, FindsItem};
-use records::order::Order;
 use records::order::OrderRead;
 
 // Where an order's bytes end, and where its bindings do.
@@ -11,27 +9,13 @@ pub struct Item {
     pub end: usize,
 }
 
-fn least(a: usize, b: usize) -> usize
-    ensures { λ r. ⌜ r ≡ min a b ⌝ }
-{
-    if a < b { a } else { b }
-}
-
 // How many bytes of bindings follow an order.
 pub fn bytes_after(order: OrderRead) -> usize
     ensures { λ r. ⌜ r ≡ bytesAfter order ⌝ }
 {
     match order {
         OrderRead::Malformed(_) => 0,
-        OrderRead::Whole(read) => match read {
-            Order::Put(_) => 0,
-            Order::Compute(_, _, _) => 0,
-            Order::Copy(_, _) => 0,
-            Order::Drop => 0,
-            Order::Store(_, _) => 0,
-            Order::Load(n) => 8 * (n as usize),
-            Order::Print(_, _) => 0,
-        },
+        OrderRead::Whole(read) => 8 * (records::order::wanted(read) as usize),
     }
 }
 
@@ -45,10 +29,10 @@ pub fn item_at(list: &[u8], at: usize) -> Item
             end: at,
         };
     }
-    let order_end = at + least(24, list.len() - at);
+    let order_end = at + records::bytes::least(24, list.len() - at);
     let bytes = bytes_after(records::order::read_order(&list[at..order_end]));
     Item {
         order_end,
-        end: order_end + least(bytes, list.len() - order_end),
+        end: order_end + records::bytes::least(bytes, list.len() - order_end),
     }
 }

@@ -21,7 +21,7 @@ use Rattle.operations.specs.Operations.{recordsOf, operandsOk}
 use Rattle.machine_step.specs.View.{View}
 use Rattle.machine_step.specs.Memory.{heapOk}
 use Rattle.machine_step.specs.Step.{Config}
-use Rattle.machine.specs.Run.{ran}
+use Rattle.machine.specs.Run.{ran, starting}
 use Rattle.trees_proof.specs.Evaluation.{Evaluated, evaluate}
 use Rattle.trees_proof.specs.Claims.{Answers, TreeRunsWhole}
 use Rattle.trees_proof.proofs.Trees.{tree-runs-whole}
@@ -29,7 +29,7 @@ use Rattle.layout_proof.specs.Held.{Placed}
 use Rattle.layout_proof.proofs.Runs.{Does, so}
 use Rattle.emit_proof.specs.Claims.{Readable}
 use Rattle.emit_proof.proofs.Operations.{operation-readable}
-use Rattle.code_proof.specs.Claims.{Ready, fresh, EndsWith, FaultsWith, RunsAsItNames}
+use Rattle.code_proof.specs.Claims.{Ready, EndsWith, FaultsWith, RunsAsItNames}
 use Rattle.code_proof.proofs.Puts.{given, puts-sets}
 use Rattle.code_proof.proofs.Records.{immediate-does}
 use Rattle.code_proof.proofs.Computed.{mov-does}
@@ -44,24 +44,24 @@ whole-blocks block n e =
     let q = both (leb 2 (n / block)) (leb (n / block) 1048576) (p .1) in
     (omega (arith, div-add-mod n block, eqb-true (n % block) 0 (p .0)), leb-true (n / block) 1048576 (q .1))
 
-pub placed : (G : Shape) → Supported G → (v : View) → Ready G v → Placed G (v .size / blockWords G) (fresh v)
+pub placed : (G : Shape) → Supported G → (v : View) → Ready G v → Placed G (v .size / blockWords G) (starting v)
 placed G sup v r =
     let b = whole-blocks (blockWords G) (v .size) (r .heap) in
     record { shape = sup; stack = r .stack; deep = r .deep; words = b .0; fits = b .1 }
 
 -- records that a tree writes, with their number as step limit
 module _ (G : Shape) (words : ℕ → ℕ) (v : View) (h : Ready G v) (records : List Code) (r : Readable records) (u : Tree) (same : flat u 0 ≡ records) where
-  answers : Answers (length records) (ran (blockWords G) words (joined codeBytes records) (length records) v) (evaluate words u (fresh v))
+  answers : Answers (length records) (ran (blockWords G) words (joined codeBytes records) (length records) v) (evaluate words u (starting v))
   unfolding TreeRunsWhole
   answers = rw (r .runs (blockWords G) words (length records) v (h .heap), ← same, length-flat u 0 0) (rw (add-zero (size u)) at (tree-runs-whole words u 0 0 v))
 
-  answered : {o : Evaluated} → evaluate words u (fresh v) ≡ o → Answers (length records) (ran (blockWords G) words (joined codeBytes records) (length records) v) o
+  answered : {o : Evaluated} → evaluate words u (starting v) ≡ o → Answers (length records) (ran (blockWords G) words (joined codeBytes records) (length records) v) o
   answered e = subst (Answers (length records) (ran (blockWords G) words (joined codeBytes records) (length records) v)) e answers
 
-  pub ends : {Q : Config → Type 0} → Does words u (fresh v) Q → EndsWith G words records v Q
+  pub ends : {Q : Config → Type 0} → Does words u (starting v) Q → EndsWith G words records v Q
   ends d = let e = answered (d .run) in record { steps = e .0; within = e .1; last = d .to; run = e .2; post = d .post }
 
-  faults : (t : ℕ) → Stops words u (fresh v) t → FaultsWith G words records v t
+  faults : (t : ℕ) → Stops words u (starting v) t → FaultsWith G words records v t
   faults t d =
       let e = answered (d .run) in
       record { steps = e .0; place = e .1; within = e .2; above = e .3; below = e .4; last = d .at; run = e .5; rest = d .rest }
@@ -73,13 +73,13 @@ runs-as-it-names G sup words v h t x y f g k =
     record {
       load-immediate = λ value w.
           ends G words v h (recordsOf G (LoadImmediate t value)) (operation-readable G sup (LoadImmediate t value) w f) (loadImmediate G t value) refl
-          (so (immediate-does words (fresh v) p t value (given G t f .below)) (λ d. puts-sets));
+          (so (immediate-does words (starting v) p t value (given G t f .below)) (λ d. puts-sets));
       mov = ends G words v h (recordsOf G (Mov t x)) (operation-readable G sup (Mov t x) tt (rw (f, g))) (moved G t x) refl
-          (mov-does words (fresh v) p t x (given G t f .below) (given G x g .below));
+          (mov-does words (starting v) p t x (given G t f .below) (given G x g .below));
       arithmetic = λ o n e.
           ends G words v h (recordsOf G (Arithmetic o t x y)) (operation-readable G sup (Arithmetic o t x y) tt (rw (f, g, k))) (arithmetic G o t x y) refl
-          (arithmetic-does words (fresh v) p t x y (given G t f) (given G x g) (given G y k) o n e);
+          (arithmetic-does words (starting v) p t x y (given G t f) (given G x g) (given G y k) o n e);
       faults = λ o n e.
           faults G words v h (recordsOf G (Arithmetic o t x y)) (operation-readable G sup (Arithmetic o t x y) tt (rw (f, g, k))) (arithmetic G o t x y) refl t
-          (arithmetic-stops words (fresh v) p t x y (given G t f) (given G x g) (given G y k) o n e);
+          (arithmetic-stops words (starting v) p t x y (given G t f) (given G x g) (given G y k) o n e);
     }

@@ -23,12 +23,11 @@ use Rattle.operations.specs.declared.operation.Operation.the-variants.{Label, J
 use Rattle.operations.specs.Operations.{recordsOf}
 use Rattle.word.specs.Words.{choose, less}
 use Rattle.word.specs.Results.{result, resultDefined}
-use Rattle.machine_step.specs.declared.instruction.Compared.the-variants.{Absent}
 use Rattle.machine_step.specs.View.{View, wordsOf}
 use Rattle.machine_step.specs.Memory.{heapOk}
-use Rattle.machine_step.specs.Step.{Config, config}
+use Rattle.machine_step.specs.Step.{Config}
 use Rattle.machine.specs.declared.run.Answer.the-variants.{Ended, Fault}
-use Rattle.machine.specs.Run.{placesOf, done, ran}
+use Rattle.machine.specs.Run.{placesOf, done, ran, starting}
 use Rattle.machine.specs.State.{freshState}
 use Rattle.trees_proof.specs.Claims.{Reaches}
 use Rattle.layout_proof.specs.Held.{held, Keeps, Placed}
@@ -104,10 +103,6 @@ JumpsWhereItNames =
 unfoldable pub LabelDoesNothing : Type 0
 LabelDoesNothing = (G : Shape) (words : ℕ → ℕ) (p : List Code) (label i : ℕ) (c : Config) → GoesIf false words p i i (recordsOf G (Label label)) c
 
--- no compare and no call made
-abbrev pub fresh : View → Config
-fresh v = config v Absent []
-
 -- a state that operations run in: a stack as deep as the frame asks, STACK where the routine's setup leaves it, and a heap that the machine takes
 pub record Ready (G : Shape) (v : View) : Type 0 where
   pub deep : v .depth ≡ stackDepth G
@@ -131,15 +126,15 @@ pub record FaultsWith (G : Shape) (words : ℕ → ℕ) (records : List Code) (v
   pub below : place ≤ length records
   pub last : Config
   pub run : ran (blockWords G) words (joined codeBytes records) (length records) v ≡ done (Fault steps place) last
-  pub rest : Unchanged (λ l. (l ≢ t) × (l ≢ TEMP) × (l ≢ RETURN1) × (l ≢ RETURN2)) (fresh v) last
+  pub rest : Unchanged (λ l. (l ≢ t) × (l ≢ TEMP) × (l ≢ RETURN1) × (l ≢ RETURN2)) (starting v) last
 
 -- what the records that the operations without jumps write do when they are run, by the words that the sources held before
 pub record Runs (G : Shape) (words : ℕ → ℕ) (v : View) (t x y : ℕ) : Type 0 where
-  pub load-immediate : (value : ℕ) → value < 2 ^ 64 → EndsWith G words (recordsOf G (LoadImmediate t value)) v (Sets t value (fresh v))
-  pub mov : EndsWith G words (recordsOf G (Mov t x)) v (Sets t (held (fresh v) x) (fresh v))
-  pub arithmetic : (o : Operation) → OperandsFor o t x y → resultDefined o (held (fresh v) x) (held (fresh v) y) ≡ true
-      → EndsWith G words (recordsOf G (Arithmetic o t x y)) v (Sets t (result o (held (fresh v) x) (held (fresh v) y)) (fresh v))
-  pub faults : (o : Operation) → OperandsFor o t x y → resultDefined o (held (fresh v) x) (held (fresh v) y) ≡ false
+  pub load-immediate : (value : ℕ) → value < 2 ^ 64 → EndsWith G words (recordsOf G (LoadImmediate t value)) v (Sets t value (starting v))
+  pub mov : EndsWith G words (recordsOf G (Mov t x)) v (Sets t (held (starting v) x) (starting v))
+  pub arithmetic : (o : Operation) → OperandsFor o t x y → resultDefined o (held (starting v) x) (held (starting v) y) ≡ true
+      → EndsWith G words (recordsOf G (Arithmetic o t x y)) v (Sets t (result o (held (starting v) x) (held (starting v) y)) (starting v))
+  pub faults : (o : Operation) → OperandsFor o t x y → resultDefined o (held (starting v) x) (held (starting v) y) ≡ false
       → FaultsWith G words (recordsOf G (Arithmetic o t x y)) v t
 
 unfoldable pub RunsAsItNames : Type 0

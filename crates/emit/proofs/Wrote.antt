@@ -22,6 +22,7 @@ use Rattle.emit.specs.declared.answer.Answer.{Answer}
 use Rattle.emit.specs.declared.answer.Answer.the-variants.{Written, Labels, Room}
 use Rattle.emit.specs.Emitted.{written, fieldsList, Emits}
 use Rattle.emit.specs.Answers.{causeOf, granted, accepted, output, Answers}
+use Rattle.records.specs.Names.{lastLabel}
 
 pub bytes-long : (f : Fields) → length (fieldsBytes f) ≡ 24
 unfolding fieldsBytes le
@@ -40,29 +41,29 @@ written-whole (c ∷ cs) o i h =
     ∙ sets-then f (joined codeBytes cs) o i (i + 24) (omega arith)
 
 module _ (counter room bytes n : ℕ) where
-  pub no-labels : 2147483647 < counter + n → Labels ≡ granted counter room bytes n
+  pub no-labels : lastLabel < counter + n → Labels ≡ granted counter room bytes n
   unfolding granted
-  no-labels h = rw (lt-ltb 2147483647 (counter + n) h)
+  no-labels h = rw (lt-ltb lastLabel (counter + n) h)
 
-  pub no-room : counter + n ≤ 2147483647 → room < bytes → Room bytes ≡ granted counter room bytes n
+  pub no-room : counter + n ≤ lastLabel → room < bytes → Room bytes ≡ granted counter room bytes n
   unfolding granted
-  no-room h r = rw (le-ltb 2147483647 (counter + n) h, lt-ltb room bytes r)
+  no-room h r = rw (le-ltb lastLabel (counter + n) h, lt-ltb room bytes r)
 
-  pub granted-all : counter + n ≤ 2147483647 → bytes ≤ room → Written (bytes / 24) (counter + n) ≡ granted counter room bytes n
+  pub granted-all : counter + n ≤ lastLabel → bytes ≤ room → Written (bytes / 24) (counter + n) ≡ granted counter room bytes n
   unfolding granted
-  granted-all h r = rw (le-ltb 2147483647 (counter + n) h, le-ltb room bytes r)
+  granted-all h r = rw (le-ltb lastLabel (counter + n) h, le-ltb room bytes r)
 
   -- what an accepted answer says
-  pub granted-if : accepted (granted counter room bytes n) ≡ true → (counter + n ≤ 2147483647) × (bytes ≤ room)
+  pub granted-if : accepted (granted counter room bytes n) ≡ true → (counter + n ≤ lastLabel) × (bytes ≤ room)
   unfolding granted
-  granted-if e = by (ltb 2147483647 (counter + n)) (ltb room bytes) refl refl e
+  granted-if e = by (ltb lastLabel (counter + n)) (ltb room bytes) refl refl e
     where
-      by : (a b : Bool) → ltb 2147483647 (counter + n) ≡ a → ltb room bytes ≡ b
+      by : (a b : Bool) → ltb lastLabel (counter + n) ≡ a → ltb room bytes ≡ b
           → accepted (cond a Labels (cond b (Room bytes) (Written (bytes / 24) (counter + n)))) ≡ true
-          → (counter + n ≤ 2147483647) × (bytes ≤ room)
+          → (counter + n ≤ lastLabel) × (bytes ≤ room)
       by true b p q r = let z : _≡_ {A = ℕ} 0 1 = cc in absurd (omega arith)
       by false true p q r = let z : _≡_ {A = ℕ} 0 1 = cc in absurd (omega arith)
-      by false false p q r = (ltb-false 2147483647 (counter + n) p, ltb-false room bytes q)
+      by false false p q r = (ltb-false lastLabel (counter + n) p, ltb-false room bytes q)
 
 pub answers : {o o′ : List ℕ} {r expected : Answer} {cs : List Code} → r ≡ expected → o′ ≡ output expected o cs → Answers o o′ r expected cs
 answers e f = record { answer = e; cause = ap causeOf e; bytes = f }
@@ -74,7 +75,7 @@ refused e a f = answers e (rw (← e, ← a, f))
 -- the answer's bounds on the counter and the room, from the size that a first pass told
 pub room-for : {o₀ o₁ : List ℕ} {p need : Cursor} {r : Answer} {b : Bool} (t : Tree) (counter room : ℕ) → Emits o₀ p o₁ need t → p .at ≡ 0 → p .counter ≡ 0
     → r ≡ granted counter room (need .at) (need .counter) → b ≡ accepted r → b ≡ true
-    → (counter + labels t ≤ 2147483647) × (24 * size t ≤ room)
+    → (counter + labels t ≤ lastLabel) × (24 * size t ≤ room)
 room-for t counter room d a c e q k =
     let w = granted-if counter room _ _ (ap accepted (sym e) ∙ sym q ∙ k) in
     (omega (arith, w .0, d .drawn), omega (arith, w .1, d .place))

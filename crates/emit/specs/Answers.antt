@@ -8,12 +8,12 @@ use lib.Dec.{ltb}
 use lib.Seq.{sets}
 use Rattle.records.specs.Causes.{ACCEPTED, MALFORMED, OPERAND, MISSING, ARGUMENTS, COUNT, POSITION, LABELS, ROOM, EDITION}
 use Rattle.records.specs.declared.context.ContextRead.{ContextRead}
-use Rattle.records.specs.declared.context.ContextRead.the-variants.{Good, Bad}
 use Rattle.records.specs.declared.code.Code.{Code}
-use Rattle.records.specs.Contexts.{flawCause}
+use Rattle.records.specs.Contexts.{flawCause, onContext}
 use Rattle.records.specs.ReadBack.{joined, codeBytes}
 use Rattle.emit.specs.declared.answer.Answer.{Answer}
 use Rattle.emit.specs.declared.answer.Answer.the-variants.{Written, Context, Body, Operand, Missing, Arguments, Count, Position, Labels, Room, Edition}
+use Rattle.records.specs.Names.{lastLabel}
 
 -- document 01's number and values for each answer: 0, with the records and the counter after them, where they are written
 abbrev pub causeOf : Answer → List ℕ
@@ -31,13 +31,12 @@ causeOf Edition = EDITION ∷ []
 
 -- 15 to 17 come before 3, which another number of spills than a frame has is: by the context that is read
 abbrev pub unframed : ContextRead → Answer
-unframed (Good n) = Operand
-unframed (Bad flaw) = Context flaw
+unframed read = onContext read (λ n. Operand) Context
 
 -- the answer for records of so many bytes that draw n labels
 unfoldable pub granted : ℕ → ℕ → ℕ → ℕ → Answer
 granted counter room bytes n =
-    cond (ltb 2147483647 (counter + n)) Labels (cond (ltb room bytes) (Room bytes) (Written (bytes / 24) (counter + n)))
+    cond (ltb lastLabel (counter + n)) Labels (cond (ltb room bytes) (Room bytes) (Written (bytes / 24) (counter + n)))
 
 abbrev pub accepted : Answer → Bool
 accepted (Written n counter) = true

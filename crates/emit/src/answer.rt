@@ -4,6 +4,7 @@ ghost use mathlib.Core.Bool.{false};
 ghost use Prim.Native.Nat.{_+_, _<_, _^_};
 ghost use Rattle.records.specs.Contexts.{checkedContext};
 ghost use Rattle.emit.specs.Answers.{unframed, granted, accepted};
+use records::name::LAST_LABEL;
 use crate::cursor::Cursor;
 use records::context::ContextRead;
 use records::context::Flaw;
@@ -48,11 +49,11 @@ pub fn grant(counter: u64, room: usize, need: Cursor) -> Answer
     requires { ⌜ need .counter < 2 ^ 32 ⌝ }
     ensures { λ r. ⌜ r ≡ granted counter room (need .at) (need .counter) ⌝ }
 {
-    if 2147483647 < counter {
+    if LAST_LABEL < counter {
         return Answer::Labels;
     }
     let after = counter + need.counter;
-    if 2147483647 < after {
+    if LAST_LABEL < after {
         return Answer::Labels;
     }
     if room < need.at {

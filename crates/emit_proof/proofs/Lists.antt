@@ -18,6 +18,7 @@ use Rattle.order_formed_proof.proofs.Formed.{Formed}
 use Rattle.order_formed_proof.proofs.Records.{formed-records}
 use Rattle.order_formed_proof.proofs.Bytes.{codes-back, ran-list}
 use Rattle.emit_proof.specs.Claims.{Readable}
+use Rattle.records.specs.Names.{lastLabel}
 
 pub readable : (cs : List Code) → Each WellFormedCode cs → length cs ≤ 65536 → Readable cs
 readable cs w h = record {
@@ -29,10 +30,10 @@ readable cs w h = record {
   runs = λ block words limit v e. ran-list block words cs limit v w h e;
 }
 
-tree-each : (t : Tree) (counter : ℕ) → Formed t → counter + labels t ≤ 2147483647 → Each WellFormedCode (flat t counter)
+tree-each : (t : Tree) (counter : ℕ) → Formed t → counter + labels t ≤ lastLabel → Each WellFormedCode (flat t counter)
 tree-each t counter f l = formed-records t counter 0 f (omega arith)
 
-pub tree-readable : (t : Tree) (counter : ℕ) → Formed t → counter + labels t ≤ 2147483647 → size t ≤ 65536 → Readable (flat t counter)
+pub tree-readable : (t : Tree) (counter : ℕ) → Formed t → counter + labels t ≤ lastLabel → size t ≤ 65536 → Readable (flat t counter)
 tree-readable t counter f l h = readable (flat t counter) (tree-each t counter f l) (omega (arith, length-flat t counter 0))
 
 -- ---- short lists

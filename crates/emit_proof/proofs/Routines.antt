@@ -18,16 +18,17 @@ use Rattle.records.proofs.CodesFormed.{codes-formed}
 use Rattle.records.proofs.Conditions.{both, passed}
 use Rattle.records.proofs.Each.{each-append}
 use Rattle.emit.specs.declared.answer.Answer.{Answer}
-use Rattle.emit.specs.declared.answer.Answer.the-variants.{Arguments}
+use Rattle.emit.specs.declared.answer.Answer.the-variants.{Body, Arguments}
 use Rattle.emit.specs.Answers.{accepted}
 use Rattle.layout.specs.declared.config.Shape.{Shape}
 use Rattle.layout.specs.Config.{Supported, STACK, HEAP, FREE, blockBytes}
-use Rattle.routine.specs.Routine.{argument, preamble, moveArguments, spillSpace, setup, head, cleanup, routineAnswer, onBody}
+use Rattle.routine.specs.Routine.{argument, preamble, moveArguments, spillSpace, setup, head, cleanup, routineAnswer}
 use Rattle.routine.proofs.Assembling.{head-length, routine-records}
 use Rattle.order_formed_proof.proofs.Codes.{drawn, addi, subi, mov, lab}
 use Rattle.order_formed_proof.proofs.Choices.{stack, heap, free}
 use Rattle.emit_proof.specs.Claims.{Readable, RoutineReads}
 use Rattle.emit_proof.proofs.Lists.{readable}
+use Rattle.records.specs.Checked.{onChecked}
 
 -- well-formedness as a test, for records without a variable in them
 abbrev formed : List Code → Bool
@@ -72,7 +73,7 @@ pub items-length : (k : ℕ) (s : List ℕ) → length (items 24 codeIn k s) ≡
 items-length zero s = refl
 items-length (suc k) s = ap suc (items-length k _)
 
-on-body : (c : Checked) (r : Answer) → accepted (onBody c r) ≡ true → (k : ℕ) × (c ≡ Good k) × (accepted r ≡ true)
+on-body : (c : Checked) (r : Answer) → accepted (onChecked c (λ k. r) Body) ≡ true → (k : ℕ) × (c ≡ Good k) × (accepted r ≡ true)
 on-body (Good k) r e = (k, refl, e)
 on-body (Malformed place) r e = let z : _≡_ {A = ℕ} 0 1 = cc in absurd (omega arith)
 

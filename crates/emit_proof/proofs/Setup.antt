@@ -2,19 +2,18 @@
 use Prim.Native.Nat.{ℕ, zero, suc, _+_, _-_, _≤_}
 use mathlib.Core.Path.{_≡_, refl, sym, subst}
 use mathlib.Core.Bool.{Bool, true, false, cond}
-use mathlib.Core.List.{List, []}
+use mathlib.Core.List.{List}
 use native.Mathlib.Omega.{arith}
 use lib.Dec.{ltb, eqb}
 use lib.ListN.{length, getD, replicate, length-replicate}
 use Rattle.layout.specs.declared.config.Shape.{Shape}
 use Rattle.layout.specs.Config.{Supported, blockBytes, blockWords, stackDepth, framePointer}
 use Rattle.word.specs.Words.{sum, difference}
-use Rattle.machine_step.specs.declared.instruction.Compared.the-variants.{Absent}
 use Rattle.machine_step.specs.View.{View, fromEnd, wordsOf, upd}
 use Rattle.machine_step.specs.Memory.{heapStart}
-use Rattle.machine_step.specs.Step.{config, step}
+use Rattle.machine_step.specs.Step.{step}
 use Rattle.machine.specs.declared.run.Answer.the-variants.{Ended}
-use Rattle.machine.specs.Run.{done, runs, started}
+use Rattle.machine.specs.Run.{done, runs, started, starting}
 use Rattle.machine.specs.State.{see, entryState, firsts}
 use Rattle.machine.proofs.Places.{place-1, place-2, place-3, place-4, place-5, place-6}
 use Rattle.routine.specs.Routine.{spillSpace, head}
@@ -67,7 +66,7 @@ module _ (G : Shape) (stack heap : ℕ → ℕ) (depth size : ℕ) where
   abbrev left : View
   left = record { reg = leftRegisters; stk = leftStack; mem = heap; depth = depth; size = size }
 
-  head-runs : (words : ℕ → ℕ) → 7 ≤ depth → started words (head G 0) 16 entered ≡ done (Ended 16) (config left Absent [])
+  head-runs : (words : ℕ → ℕ) → 7 ≤ depth → started words (head G 0) 16 entered ≡ done (Ended 16) (starting left)
   unfolding runs step sum difference
   head-runs words deep =
       rw (place-1 depth size deep, place-2 depth size deep, place-3 depth size deep, place-4 depth size deep, place-5 depth size deep, place-6 depth size deep)
@@ -88,7 +87,7 @@ module _ (G : Shape) (sup : Supported G) where
   of-records words H =
       let n : ℕ = stackDepth G in
       let long : length (zeros n) ≡ n = length-replicate {A = ℕ} n 0 in
-      let run : started words (head G 0) 16 (see (entryState G) H) ≡ done (Ended 16) (config (end H) Absent [])
+      let run : started words (head G 0) 16 (see (entryState G) H) ≡ done (Ended 16) (starting (end H))
       = head-runs G (fromEnd (zeros n)) (wordsOf H) (length (zeros n)) (length H) words (omega arith) in
       subst (LeavesFresh G H) (sym run) (record {
         ended = refl;

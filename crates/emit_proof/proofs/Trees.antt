@@ -6,14 +6,14 @@ use mathlib.Core.List.{List}
 use native.Mathlib.Omega.{arith}
 use Rattle.records.specs.declared.context.ContextRead.the-variants.{Good, Bad}
 use Rattle.records.specs.declared.context.ContextRead.{ContextRead}
-use Rattle.records.specs.Contexts.{checkedContext, extAt}
+use Rattle.records.specs.Contexts.{checkedContext, extAt, bindingsIn}
 use Rattle.records.specs.ReadBack.{Bytes}
 use Rattle.records.proofs.OrdersBack.{order-well-formed}
 use Rattle.trees.specs.Tree.{Tree, flat}
 use Rattle.emit.specs.Answers.{accepted}
 use Rattle.layout.specs.declared.config.Shape.{Shape}
 use Rattle.layout.specs.Config.{Supported}
-use Rattle.memory.specs.Answered.{eraseAnswer, shareAnswer, variablesIn, storeTree, storeAnswer}
+use Rattle.memory.specs.Answered.{eraseAnswer, shareAnswer, storeTree, storeAnswer}
 use Rattle.memory.specs.Blocks.{eraseBlock, shareBlock}
 use Rattle.memory.specs.LoadAnswered.{loadTree, loadAnswer}
 use Rattle.memory.specs.Objects.{extIn, loadObject}
@@ -32,8 +32,8 @@ use Rattle.order_formed_proof.proofs.Granting.{stored-most, loaded-most, erase-
 use Rattle.emit_proof.specs.Claims.{Readable}
 use Rattle.emit_proof.proofs.Lists.{tree-readable}
 
-good-is : (context : List ℕ) (k : ℕ) → checkedContext context ≡ Good k → variablesIn (checkedContext context) ≡ k
-good-is context k e = ap variablesIn e
+good-is : (context : List ℕ) (k : ℕ) → checkedContext context ≡ Good k → bindingsIn (checkedContext context) ≡ k
+good-is context k e = ap bindingsIn e
 
 module _ (G : Shape) (sup : Supported G) where
   pub store-reads : (counter room : ℕ) (context : List ℕ) (n : ℕ) → accepted (storeAnswer G counter room context n) ≡ true
@@ -41,8 +41,8 @@ module _ (G : Shape) (sup : Supported G) where
   store-reads counter room context n e =
       let k = store-good G counter room context n e in
       let g = store-granted G counter room context (k .0) n (k .1) e in
-      tree-readable (storeTree G context n) counter (formed-store G sup (extIn context 0) (variablesIn (checkedContext context) - n) n) (g .2)
-      (omega (arith, store-object-size G (extIn context 0) sup (variablesIn (checkedContext context) - n) n .1, stored-most G sup n (k .0) (g .0) (g .1), sup .frame))
+      tree-readable (storeTree G context n) counter (formed-store G sup (extIn context 0) (bindingsIn (checkedContext context) - n) n) (g .2)
+      (omega (arith, store-object-size G (extIn context 0) sup (bindingsIn (checkedContext context) - n) n .1, stored-most G sup n (k .0) (g .0) (g .1), sup .frame))
 
   pub load-reads : (counter room : ℕ) (loaded existing : List ℕ) → accepted (loadAnswer G counter room loaded existing) ≡ true
       → Readable (flat (loadTree G loaded existing) counter)
@@ -52,7 +52,7 @@ module _ (G : Shape) (sup : Supported G) where
       let g = load-granted G counter room loaded existing v (c .1) e in
       let n : ℕ = g .0 in
       let is : loadTree G loaded existing ≡ loadObject G (extIn loaded v) v n
-      = ap (λ (j : ℕ). loadObject G (extIn loaded j) j (variablesIn (checkedContext loaded))) (good-is existing v (c .1))
+      = ap (λ (j : ℕ). loadObject G (extIn loaded j) j (bindingsIn (checkedContext loaded))) (good-is existing v (c .1))
       ∙ ap (loadObject G (extIn loaded v) v) (good-is loaded n (g .1)) in
       subst (λ (t : Tree). Readable (flat t counter)) (sym is)
       (tree-readable (loadObject G (extIn loaded v) v n) counter (formed-load G sup (extIn loaded v) v n) (g .3)

@@ -9,7 +9,8 @@ use native.Mathlib.Omega.{arith}
 use Rattle.heap.specs.Counting.{occ}
 use Rattle.heap.specs.Blocks.{Layout, Cell, pointers, children, Memory}
 use Rattle.heap.specs.Reachability.{start, follow, ReachableFrom}
-use Rattle.heap.specs.Values.{Values, concat, Object, HoldAll}
+use Rattle.heap.specs.Values.{Values, concat}
+use Rattle.heap.specs.Apart.{ObjectApart, HoldAllApart}
 use Rattle.heap.specs.Operations.{Erase, withHeaders, withLazy}
 use Rattle.heap.proofs.Invariant.{Held, FrontierMoved, Consistent, Preserved}
 use Rattle.heap.proofs.OperationLemmas.{recount, same-roots, erase-pointer}
@@ -41,14 +42,14 @@ preserved-weaken s t p = record {
 }
 
 module _ {M M′ : Memory} {linked linked′ : ℕ → ℕ} {A B : List ℕ} (p : Preserved M linked A M′ linked′ B) where
-  pub preserved-object : (chunks : List (List Cell)) (q : ℕ) → (q ≢ 0 → occ q A ≢ 0) → Object (M .fields) linked q chunks → Object (M′ .fields) linked′ q chunks
+  pub preserved-object : (chunks : List (List Cell)) (q : ℕ) → (q ≢ 0 → occ q A ≢ 0) → ObjectApart (M .fields) linked q chunks → ObjectApart (M′ .fields) linked′ q chunks
   preserved-object chunks q s o = object-frame (ReachableFrom (M .fields) A) (p .fields) (p .marks) (λ y b r nz m. follow y r nz m) chunks q (λ nz. start nz (s nz)) o
 
-  pub preserved-values : (sizes : ℕ → List ℕ) (vs : Values) (cs : List Cell) → ((b : ℕ) → b ≢ 0 → occ b (pointers cs) ≢ 0 → occ b A ≢ 0) → HoldAll sizes (M .fields) linked vs cs → HoldAll sizes (M′ .fields) linked′ vs cs
+  pub preserved-values : (sizes : ℕ → List ℕ) (vs : Values) (cs : List Cell) → ((b : ℕ) → b ≢ 0 → occ b (pointers cs) ≢ 0 → occ b A ≢ 0) → HoldAllApart sizes (M .fields) linked vs cs → HoldAllApart sizes (M′ .fields) linked′ vs cs
   preserved-values sizes vs cs s o = hold-all-frame (ReachableFrom (M .fields) A) (p .fields) (p .marks) (λ y b r nz m. follow y r nz m) sizes vs cs (λ b nz m. start nz (s b nz m)) o
 
 -- the object's values name what its pointer leads to
-pub object-reachable : (fields : ℕ → List Cell) (linked : ℕ → ℕ) (roots : List ℕ) (chunks : List (List Cell)) (p : ℕ) → (p ≢ 0 → ReachableFrom fields roots p) → Object fields linked p chunks
+pub object-reachable : (fields : ℕ → List Cell) (linked : ℕ → ℕ) (roots : List ℕ) (chunks : List (List Cell)) (p : ℕ) → (p ≢ 0 → ReachableFrom fields roots p) → ObjectApart fields linked p chunks
     → (b : ℕ) → b ≢ 0 → occ b (pointers (concat chunks)) ≢ 0 → ReachableFrom fields roots b
 object-reachable fields linked roots chunks p s o =
     object-pointers {fields′ = fields} {linked′ = linked} (ReachableFrom fields roots) (λ b r. refl) (λ b r. refl) (λ y b r nz m. follow y r nz m) chunks p s o

@@ -8,7 +8,8 @@ use lib.ListN.{length}
 use Rattle.heap.specs.Counting.{occ, refs}
 use Rattle.heap.specs.Blocks.{Layout, blocks, Cell, pointers, children, Memory, Chain}
 use Rattle.heap.specs.Reachability.{ReachableFrom}
-use Rattle.heap.specs.Values.{Values, Object, HoldAll}
+use Rattle.heap.specs.Values.{Values}
+use Rattle.heap.specs.Apart.{ObjectApart, HoldAllApart}
 
 abbrev pub NewestFirst : (ℕ → List ℕ) → List ℕ → Type 0
 NewestFirst children [] = Unit {0}
@@ -80,14 +81,14 @@ pub record Stored (L : Layout) (M : Memory) (linked : ℕ → ℕ) (frontier spa
   pub frontier′ : ℕ
   pub outcome : Outcome L M linked roots M′ frontier′ (p ∷ roots′)
   pub moved : FrontierMoved frontier spare₀ frontier′ (spare (outcome .consistent))
-  pub blocks : Object (M′ .fields) (outcome .linked′) p chunks
+  pub blocks : ObjectApart (M′ .fields) (outcome .linked′) p chunks
   pub marked : outcome .linked′ p ≡ mark
 
 -- the variables hold the plain machine's values in a consistent heap
 pub record Represents (sizes : ℕ → List ℕ) (L : Layout) (M : Memory) (frontier : ℕ) (variables : List Cell) (values : Values) : Type 0 where
   pub linked : ℕ → ℕ
   pub consistent : Consistent L M linked frontier (pointers variables)
-  pub holds : HoldAll sizes (M .fields) linked values variables
+  pub holds : HoldAllApart sizes (M .fields) linked values variables
 
 -- the same after an order; the frontier was at before, and has moved only if no block but HEAP's is free
 pub record Advanced (sizes : ℕ → List ℕ) (L : Layout) (before : ℕ) (M : Memory) (variables : List Cell) (values : Values) : Type 0 where

@@ -10,7 +10,8 @@ use lib.ListN.{replicate}
 use Rattle.heap.specs.Counting.{occ, refs}
 use Rattle.heap.specs.Blocks.{Layout, Cell, pointers, children, Memory}
 use Rattle.heap.specs.Reachability.{start, ReachableFrom}
-use Rattle.heap.specs.Values.{Values, concat, Object, HoldAll}
+use Rattle.heap.specs.Values.{Values, concat}
+use Rattle.heap.specs.Apart.{ObjectApart, HoldAllApart}
 use Rattle.heap.specs.Operations.{Elsewhere, withHeaders, pushLinear, lastField, ReleaseObject, Share, ShareLoad}
 use Rattle.heap.proofs.Invariant.{Held, Consistent, Preserved, Outcome}
 use Rattle.heap.proofs.CountingLemmas.{same-self, split, occ-append, occ-pointers, occ-replicate-other, Removed, remove, removed-occ, removed-refs}
@@ -30,7 +31,7 @@ copy-consistent {roots} n p header′ e m z g =
     (split p (λ nz x. absurd (x (z nz))) (λ b d nz x. omega (arith, occ-append b (replicate n p) roots, occ-replicate-other n p b d))) g
 
 pub shared-load-consistent : {L : Layout} {M : Memory} {linked : ℕ → ℕ} {frontier p : ℕ} {roots : List ℕ} (sizes : ℕ → List ℕ) (vs : Values) (chunks : List (List Cell)) (header′ : ℕ → ℕ) → ShareLoad p chunks (M .header) header′
-    → Object (M .fields) linked p chunks → HoldAll sizes (M .fields) linked vs (concat chunks) → Consistent L M linked frontier (p ∷ roots) → Consistent L (withHeaders M header′) linked frontier (pointers (concat chunks) ++ roots)
+    → ObjectApart (M .fields) linked p chunks → HoldAllApart sizes (M .fields) linked vs (concat chunks) → Consistent L M linked frontier (p ∷ roots) → Consistent L (withHeaders M header′) linked frontier (pointers (concat chunks) ++ roots)
 shared-load-consistent {M} {linked} {p} {roots} sizes vs chunks header′ e o a g =
     consistent-recount (pointers (concat chunks) ++ roots) header′
     (λ b nz. omega (arith, e b nz, occ-append b (pointers (concat chunks)) roots))
@@ -83,7 +84,7 @@ then {A} e k t = record {
 }
 
 -- what the values of an object's other blocks name is led to from its link
-rest-reachable : (fields : ℕ → List Cell) (linked : ℕ → ℕ) (q : ℕ) (c d : List Cell) (chunks : List (List Cell)) (roots : List ℕ) → Object fields linked q (d ∷ chunks)
+rest-reachable : (fields : ℕ → List Cell) (linked : ℕ → ℕ) (q : ℕ) (c d : List Cell) (chunks : List (List Cell)) (roots : List ℕ) → ObjectApart fields linked q (d ∷ chunks)
     → (x : ℕ) → x ≢ 0 → occ x (pointers (c ++ (d ++ concat chunks)) ++ roots) ≢ 0 → ReachableFrom fields (q ∷ (pointers c ++ roots)) x
 rest-reachable fields linked q c d chunks roots o x nx m = by (ℕ-discrete (occ x (pointers c ++ roots)) 0)
   where
@@ -94,7 +95,7 @@ rest-reachable fields linked q c d chunks roots o x nx m = by (ℕ-discrete (occ
 
 -- only the first block's count need be tested: of the others, linked tells that the link is their one pointer
 pub release-object : {L : Layout} {M M′ : Memory} {linked : ℕ → ℕ} {frontier p : ℕ} (roots : List ℕ) (c : List Cell) (chunks : List (List Cell)) (g : Consistent L M linked frontier (p ∷ roots))
-    → occ p (p ∷ roots) + refs (children (M .fields)) p (g .live) ≤ 1 → Object (M .fields) linked p (c ∷ chunks) → ReleaseObject M p (c ∷ chunks) M′
+    → occ p (p ∷ roots) + refs (children (M .fields)) p (g .live) ≤ 1 → ObjectApart (M .fields) linked p (c ∷ chunks) → ReleaseObject M p (c ∷ chunks) M′
     → Outcome L M linked (pointers (concat (c ∷ chunks)) ++ roots) M′ frontier (pointers (concat (c ∷ chunks)) ++ roots)
 release-object {M} {p} roots c [] g only o s =
     let A = pointers (c ++ []) ++ roots in

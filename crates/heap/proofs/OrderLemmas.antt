@@ -8,7 +8,8 @@ use native.Mathlib.Omega.{arith}
 use lib.ListN.{length, replicate, length-append}
 use Rattle.heap.specs.Counting.{occ}
 use Rattle.heap.specs.Blocks.{Layout, Cell, cell, pointers, Memory}
-use Rattle.heap.specs.Values.{integer, object, Values, nil, cons, countOf, joined, firstOf, restOf, valueAt, copies, concat, lengths, Object, Holds, HoldAll}
+use Rattle.heap.specs.Values.{integer, object, Values, nil, cons, countOf, joined, firstOf, restOf, valueAt, copies, concat, lengths}
+use Rattle.heap.specs.Apart.{ObjectApart, HoldsApart, HoldAllApart}
 use Rattle.heap.specs.Reachability.{ReachableCount}
 use Rattle.heap.specs.Operations.{Erase, StoreObject, ReadObject, ReleaseObject, Share, ShareLoad, withHeaders, withLazy}
 use Rattle.heap.specs.Orders.{Order, put, copy, drop, store, load, plain, Legal, Performs, puts, makes-copies, drops, stores-none, stores-some, loads-none, loads-last, loads-shared, Fresh}
@@ -89,8 +90,8 @@ module _ {sizes : ℕ → List ℕ} {L : Layout} {M : Memory} {m : ℕ} {values 
     holds = hold-joined sizes (M .fields) (s .linked) values (cons (object tag nil) nil) xs (cell 0 tag ∷ []) (s .holds) (cell 0 tag, [], refl, (refl, (λ z. absurd (z refl)), [], refl, refl, none), refl);
   }
 
-  pub represents-shared-load : (xs : List Cell) (c : Cell) (ws : Values) (chunks : List (List Cell)) (header′ : ℕ → ℕ) (s : Represents sizes L M m (xs ++ (c ∷ [])) values) → Object (M .fields) (s .linked) (c .fst) chunks
-      → HoldAll sizes (M .fields) (s .linked) ws (concat chunks) → ShareLoad (c .fst) chunks (M .header) header′ → Represents sizes L (withHeaders M header′) m (xs ++ concat chunks) (joined (firstOf (length xs) values) ws)
+  pub represents-shared-load : (xs : List Cell) (c : Cell) (ws : Values) (chunks : List (List Cell)) (header′ : ℕ → ℕ) (s : Represents sizes L M m (xs ++ (c ∷ [])) values) → ObjectApart (M .fields) (s .linked) (c .fst) chunks
+      → HoldAllApart sizes (M .fields) (s .linked) ws (concat chunks) → ShareLoad (c .fst) chunks (M .header) header′ → Represents sizes L (withHeaders M header′) m (xs ++ concat chunks) (joined (firstOf (length xs) values) ws)
   represents-shared-load xs c ws chunks header′ s o a q = record {
     linked = s .linked;
     consistent = consistent-same-roots (pointers (xs ++ concat chunks)) (λ b nb. omega (arith, occ-pointers b xs (concat chunks), occ-append b (pointers (concat chunks)) (pointers xs)))
@@ -142,8 +143,8 @@ module _ {sizes : ℕ → List ℕ} {L : Layout} {M M′ : Memory} {m : ℕ} {va
       }
 
   -- a load through the object's only pointer
-  pub represents-release : (xs : List Cell) (c : Cell) (ws : Values) (d : List Cell) (chunks : List (List Cell)) (s : Represents sizes L M m (xs ++ (c ∷ [])) values) → Object (M .fields) (s .linked) (c .fst) (d ∷ chunks)
-      → HoldAll sizes (M .fields) (s .linked) ws (concat (d ∷ chunks)) → M .header (c .fst) ≡ 0 → ReleaseObject M (c .fst) (d ∷ chunks) M′
+  pub represents-release : (xs : List Cell) (c : Cell) (ws : Values) (d : List Cell) (chunks : List (List Cell)) (s : Represents sizes L M m (xs ++ (c ∷ [])) values) → ObjectApart (M .fields) (s .linked) (c .fst) (d ∷ chunks)
+      → HoldAllApart sizes (M .fields) (s .linked) ws (concat (d ∷ chunks)) → M .header (c .fst) ≡ 0 → ReleaseObject M (c .fst) (d ∷ chunks) M′
       → Represents sizes L M′ m (xs ++ concat (d ∷ chunks)) (joined (firstOf (length xs) values) ws)
   represents-release xs c ws d chunks s o a z r =
       let ys = concat (d ∷ chunks) in
@@ -172,7 +173,7 @@ module _ {sizes : ℕ → List ℕ} {L : Layout} {M : Memory} {m : ℕ} {values 
 -- ---- any order
 
 -- what a load reads is what the variable's object holds
-read-whole : (sizes : ℕ → List ℕ) (fields : ℕ → List Cell) (linked : ℕ → ℕ) (p n : ℕ) (d : List Cell) (chunks held : List (List Cell)) → Object fields linked p held → lengths held ≡ sizes n
+read-whole : (sizes : ℕ → List ℕ) (fields : ℕ → List Cell) (linked : ℕ → ℕ) (p n : ℕ) (d : List Cell) (chunks held : List (List Cell)) → ObjectApart fields linked p held → lengths held ≡ sizes n
     → lengths (d ∷ chunks) ≡ sizes n → ReadObject fields p d chunks → held ≡ d ∷ chunks
 read-whole sizes fields linked p n d chunks [] o e e′ r = cc
 read-whole sizes fields linked p n d chunks (d′ ∷ held) o e e′ r = read-is-held fields linked p d′ d held chunks o r (cc)
@@ -193,14 +194,14 @@ module _ {sizes : ℕ → List ℕ} {L : Layout} {M : Memory} {m : ℕ} {values 
   all-but-last xs c s = omega (arith, hold-count sizes (M .fields) (s .linked) values (xs ++ (c ∷ [])) (s .holds), length-append xs (c ∷ []))
 
   last-object : (xs : List Cell) (c : Cell) (tag : ℕ) (ws : Values) (s : Represents sizes L M m (xs ++ (c ∷ [])) values) → valueAt (countOf values - 1) values ≡ object tag ws
-      → Holds sizes (M .fields) (s .linked) (object tag ws) c
+      → HoldsApart sizes (M .fields) (s .linked) (object tag ws) c
   last-object xs c tag ws s e =
       let h = hold-at sizes (M .fields) (s .linked) xs c [] values (s .holds) in
       let q : valueAt (length xs) values ≡ object tag ws = rw (all-but-last xs c s) at e in
       rw q at h
 
   represents-load-none : (xs : List Cell) (c : Cell) (ws : Values) (chunks : List (List Cell)) (s : Represents sizes L M m (xs ++ (c ∷ [])) values) → [] ≡ sizes 0 → countOf ws ≡ 0
-      → Object (M .fields) (s .linked) (c .fst) chunks → lengths chunks ≡ sizes (countOf ws) → Represents sizes L M m xs (joined (firstOf (length xs) values) ws)
+      → ObjectApart (M .fields) (s .linked) (c .fst) chunks → lengths chunks ≡ sizes (countOf ws) → Represents sizes L M m xs (joined (firstOf (length xs) values) ws)
   represents-load-none xs c ws [] s none z o e =
       let q : ws ≡ nil = no-values ws z in
       rw (q, joined-nil) (record {

@@ -19,6 +19,7 @@ use Rattle.heap.proofs.SoundLemmas.{sound, sound-refs, sound-lazy, coun
 use Rattle.heap.proofs.RoomLemmas.{reachable-counted}
 use Rattle.heap.proofs.GrowthLemmas.{none-reached, nothing-led, reachable-below}
 use Rattle.heap.proofs.OrderLemmas.{represents-fresh, represents-order}
+use Rattle.heap.proofs.ValueLemmas.{held-plainly}
 
 -- what the induction carries
 record Progress (sizes : ℕ → List ℕ) (L : Layout) (past : List State) (now : State) : Type 0 where
@@ -115,13 +116,14 @@ abstract-heap-stays-sound sizes L past now none r =
       frontier = q .frontier;
       sound = f;
       first-never-used = q .first-never-used;
-      linked = q .represents .linked;
-      one-pointer = λ b nz m. omega (arith, g .one-pointer b nz m, sound-refs g b);
-      holds = q .represents .holds;
-      reachable = c .0;
-      reachable-count = c .1;
-      reachable-unique = λ count k. reachable-count-unique k (c .1);
-      count-bounded = λ most b h m. omega (arith, pointers-length (now .variables), count-bounded most (λ x _. fewer most h x) (g .invariant) (reachable-is-held (g .invariant) (λ x. omega (arith, sound-refs g x)) (f .held-reachable b m)));
+      holds = held-plainly (q .represents .holds);
+      beyond = record {
+        links = record { linked = q .represents .linked; one-pointer = λ b nz m. omega (arith, g .one-pointer b nz m, sound-refs g b); holds = q .represents .holds };
+        reachable = c .0;
+        reachable-count = c .1;
+        reachable-unique = λ count k. reachable-count-unique k (c .1);
+        count-bounded = λ most b h m. omega (arith, pointers-length (now .variables), count-bounded most (λ x _. fewer most h x) (g .invariant) (reachable-is-held (g .invariant) (λ x. omega (arith, sound-refs g x)) (f .held-reachable b m)));
+      };
     }
   where
     fewer : (most : ℕ) → ((x : ℕ) → length (now .memory .fields x) ≤ most) → (x : ℕ) → length (children (now .memory .fields) x) ≤ most

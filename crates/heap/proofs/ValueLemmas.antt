@@ -11,14 +11,30 @@ use lib.Seq.{drop-append-seam, take-append-seam}
 use Rattle.heap.specs.Counting.{occ}
 use Rattle.heap.specs.Blocks.{Cell, pointers, children}
 use Rattle.heap.specs.Values.{Value, integer, object, Values, nil, cons, countOf, joined, firstOf, restOf, valueAt, copies, concat, lengths, Object, Holds, HoldAll}
+use Rattle.heap.specs.Apart.{ObjectApart, HoldsApart, HoldAllApart}
 use Rattle.heap.specs.Operations.{lastField, ReadObject}
 use Rattle.heap.proofs.CountingLemmas.{same-self, same-other, occ-pointers}
 
 -- ---- objects
 
-pub object-nonzero : (fields : ℕ → List Cell) (linked : ℕ → ℕ) (p : ℕ) (c : List Cell) (chunks : List (List Cell)) → Object fields linked p (c ∷ chunks) → p ≢ 0
+pub object-nonzero : (fields : ℕ → List Cell) (linked : ℕ → ℕ) (p : ℕ) (c : List Cell) (chunks : List (List Cell)) → ObjectApart fields linked p (c ∷ chunks) → p ≢ 0
 object-nonzero fields linked p c [] o = o .0
 object-nonzero fields linked p c (d ∷ chunks) o = o .0
+
+-- what is held with links told apart is held
+object-plainly : {fields : ℕ → List Cell} {linked : ℕ → ℕ} (chunks : List (List Cell)) (p : ℕ) → ObjectApart fields linked p chunks → Object fields p chunks
+object-plainly [] p o = o
+object-plainly (c ∷ []) p o = o
+object-plainly (c ∷ d ∷ chunks) p o = (o .0, o .1, o .2, o .3, o .4, object-plainly (d ∷ chunks) (o .3 .fst) (o .6))
+
+mutual
+  value-plainly : {sizes : ℕ → List ℕ} {fields : ℕ → List Cell} {linked : ℕ → ℕ} (v : Value) (c : Cell) → HoldsApart sizes fields linked v c → Holds sizes fields v c
+  value-plainly (integer w) c h = h
+  value-plainly (object tag vs) c h = (h .0, h .2, object-plainly (h .2) (c .fst) (h .3), held-plainly (h .4), h .5)
+
+  pub held-plainly : {sizes : ℕ → List ℕ} {fields : ℕ → List Cell} {linked : ℕ → ℕ} {vs : Values} {cs : List Cell} → HoldAllApart sizes fields linked vs cs → HoldAll sizes fields vs cs
+  held-plainly {vs = nil} h = h
+  held-plainly {vs = cons v vs} h = (h .0, h .1, h .2, value-plainly v (h .0) (h .3), held-plainly {vs = vs} (h .4))
 
 -- a block's fields name its link, and its chunk's pointers
 link-named : (body unused c : List Cell) (link : Cell) → body ≡ unused ++ (c ++ (link ∷ [])) → occ (link .fst) (pointers body) ≢ 0
@@ -26,7 +42,7 @@ link-named body unused c link e = rw e (omega (arith, occ-pointers (link .fst) u
 
 module _ {fields fields′ : ℕ → List Cell} {linked linked′ : ℕ → ℕ} (S : ℕ → Type 0) (agree : (b : ℕ) → S b → fields′ b ≡ fields b) (marks : (b : ℕ) → S b → linked′ b ≡ linked b)
     (closed : (y b : ℕ) → S y → b ≢ 0 → occ b (children fields y) ≢ 0 → S b) where
-  pub object-frame : (chunks : List (List Cell)) (p : ℕ) → (p ≢ 0 → S p) → Object fields linked p chunks → Object fields′ linked′ p chunks
+  pub object-frame : (chunks : List (List Cell)) (p : ℕ) → (p ≢ 0 → S p) → ObjectApart fields linked p chunks → ObjectApart fields′ linked′ p chunks
   object-frame [] p s o = o
   object-frame (c ∷ []) p s o = (o .0, o .1, o .2, agree p (s (o .0)) ∙ o .3)
   object-frame (c ∷ d ∷ chunks) p s o =
@@ -35,7 +51,7 @@ module _ {fields fields′ : ℕ → List Cell} {linked linked′ : ℕ → ℕ}
       (o .0, o .1, o .2, o .3, agree p (s (o .0)) ∙ o .4, marks l (m (object-nonzero fields linked l d chunks (o .6))) ∙ o .5, object-frame (d ∷ chunks) l m (o .6))
 
   -- what an object's values name
-  pub object-pointers : (chunks : List (List Cell)) (p : ℕ) → (p ≢ 0 → S p) → Object fields linked p chunks → (b : ℕ) → b ≢ 0 → occ b (pointers (concat chunks)) ≢ 0 → S b
+  pub object-pointers : (chunks : List (List Cell)) (p : ℕ) → (p ≢ 0 → S p) → ObjectApart fields linked p chunks → (b : ℕ) → b ≢ 0 → occ b (pointers (concat chunks)) ≢ 0 → S b
   object-pointers [] p s o b nz m = absurd (m refl)
   object-pointers (c ∷ []) p s o b nz m = closed p b (s (o .0)) nz (rw (o .3) (omega (arith, occ-pointers b (o .1) c, occ-pointers b c [])))
   object-pointers (c ∷ d ∷ chunks) p s o b nz m =
@@ -48,12 +64,12 @@ module _ {fields fields′ : ℕ → List Cell} {linked linked′ : ℕ → ℕ}
       by (no z) k = closed p b (s (o .0)) nz (rw (o .4) (omega (arith, occ-pointers b (o .1) (c ++ (o .3 ∷ [])), occ-pointers b c (o .3 ∷ []))))
 
   mutual
-    holds-frame : (sizes : ℕ → List ℕ) (v : Value) (c : Cell) → (c .fst ≢ 0 → S (c .fst)) → Holds sizes fields linked v c → Holds sizes fields′ linked′ v c
+    holds-frame : (sizes : ℕ → List ℕ) (v : Value) (c : Cell) → (c .fst ≢ 0 → S (c .fst)) → HoldsApart sizes fields linked v c → HoldsApart sizes fields′ linked′ v c
     holds-frame sizes (integer w) c s o = o
     holds-frame sizes (object tag vs) c s o =
         (o .0, (λ nz. marks (c .fst) (s nz) ∙ o .1 nz), o .2, object-frame (o .2) (c .fst) s (o .3), hold-all-frame sizes vs (concat (o .2)) (object-pointers (o .2) (c .fst) s (o .3)) (o .4), o .5)
 
-    pub hold-all-frame : (sizes : ℕ → List ℕ) (vs : Values) (cs : List Cell) → ((b : ℕ) → b ≢ 0 → occ b (pointers cs) ≢ 0 → S b) → HoldAll sizes fields linked vs cs → HoldAll sizes fields′ linked′ vs cs
+    pub hold-all-frame : (sizes : ℕ → List ℕ) (vs : Values) (cs : List Cell) → ((b : ℕ) → b ≢ 0 → occ b (pointers cs) ≢ 0 → S b) → HoldAllApart sizes fields linked vs cs → HoldAllApart sizes fields′ linked′ vs cs
     hold-all-frame sizes nil cs s o = o
     hold-all-frame sizes (cons v vs) cs s o =
         let e : cs ≡ o .0 ∷ o .1 = o .2 in
@@ -74,7 +90,7 @@ same-end x y c d e l =
 pub same-front : (x y c d : List Cell) → x ++ c ≡ y ++ d → length x ≡ length y → x ≡ y
 same-front x y c d e n = sym (take-append-seam x c) ∙ rw (e, n) (take-append-seam y d)
 
-pub read-is-held : (fields : ℕ → List Cell) (linked : ℕ → ℕ) (p : ℕ) (c c′ : List Cell) (chunks chunks′ : List (List Cell)) → Object fields linked p (c ∷ chunks) → ReadObject fields p c′ chunks′
+pub read-is-held : (fields : ℕ → List Cell) (linked : ℕ → ℕ) (p : ℕ) (c c′ : List Cell) (chunks chunks′ : List (List Cell)) → ObjectApart fields linked p (c ∷ chunks) → ReadObject fields p c′ chunks′
     → lengths (c ∷ chunks) ≡ lengths (c′ ∷ chunks′) → c ∷ chunks ≡ c′ ∷ chunks′
 read-is-held fields linked p c c′ [] [] o r e =
     let n : length c ≡ length c′ = cc in
@@ -97,49 +113,49 @@ read-is-held fields linked p c c′ (d ∷ chunks) (d′ ∷ chunks′) o r e =
 -- ---- lists of values held
 
 module _ (sizes : ℕ → List ℕ) (fields : ℕ → List Cell) (linked : ℕ → ℕ) where
-  pub hold-joined : (vs ws : Values) (cs ds : List Cell) → HoldAll sizes fields linked vs cs → HoldAll sizes fields linked ws ds → HoldAll sizes fields linked (joined vs ws) (cs ++ ds)
+  pub hold-joined : (vs ws : Values) (cs ds : List Cell) → HoldAllApart sizes fields linked vs cs → HoldAllApart sizes fields linked ws ds → HoldAllApart sizes fields linked (joined vs ws) (cs ++ ds)
   hold-joined nil ws cs ds a b = rw a b
   hold-joined (cons v vs) ws cs ds a b = (a .0, a .1 ++ ds, ap (λ (x : List Cell). x ++ ds) (a .2), a .3, hold-joined vs ws (a .1) ds (a .4) b)
 
-  pub hold-copies : (n : ℕ) (v : Value) (c : Cell) → Holds sizes fields linked v c → HoldAll sizes fields linked (copies n v) (replicate n c)
+  pub hold-copies : (n : ℕ) (v : Value) (c : Cell) → HoldsApart sizes fields linked v c → HoldAllApart sizes fields linked (copies n v) (replicate n c)
   hold-copies zero v c h = refl
   hold-copies (suc n) v c h = (c, replicate n c, refl, h, hold-copies n v c h)
 
-  hold-cons : (v : Value) (vs : Values) (c : Cell) (cs : List Cell) → HoldAll sizes fields linked (cons v vs) (c ∷ cs) → Holds sizes fields linked v c × HoldAll sizes fields linked vs cs
+  hold-cons : (v : Value) (vs : Values) (c : Cell) (cs : List Cell) → HoldAllApart sizes fields linked (cons v vs) (c ∷ cs) → HoldsApart sizes fields linked v c × HoldAllApart sizes fields linked vs cs
   hold-cons v vs c cs a =
       let p : c ≡ a .0 = cc (a .2) in
       let q : cs ≡ a .1 = cc (a .2) in
       (rw p (a .3), rw q (a .4))
 
-  hold-nil : {A : Type 0} (c : Cell) (cs : List Cell) → HoldAll sizes fields linked nil (c ∷ cs) → A
+  hold-nil : {A : Type 0} (c : Cell) (cs : List Cell) → HoldAllApart sizes fields linked nil (c ∷ cs) → A
   hold-nil c cs a = let z : _≡_ {A = ℕ} 0 1 = cc in absurd (omega arith)
 
-  pub hold-first : (xs ys : List Cell) (vs : Values) → HoldAll sizes fields linked vs (xs ++ ys) → HoldAll sizes fields linked (firstOf (length xs) vs) xs
+  pub hold-first : (xs ys : List Cell) (vs : Values) → HoldAllApart sizes fields linked vs (xs ++ ys) → HoldAllApart sizes fields linked (firstOf (length xs) vs) xs
   hold-first [] ys vs a = refl
   hold-first (c ∷ xs) ys nil a = hold-nil c (xs ++ ys) a
   hold-first (c ∷ xs) ys (cons v vs) a = let r = hold-cons v vs c (xs ++ ys) a in (c, xs, refl, r .0, hold-first xs ys vs (r .1))
 
-  pub hold-rest : (xs ys : List Cell) (vs : Values) → HoldAll sizes fields linked vs (xs ++ ys) → HoldAll sizes fields linked (restOf (length xs) vs) ys
+  pub hold-rest : (xs ys : List Cell) (vs : Values) → HoldAllApart sizes fields linked vs (xs ++ ys) → HoldAllApart sizes fields linked (restOf (length xs) vs) ys
   hold-rest [] ys vs a = a
   hold-rest (c ∷ xs) ys nil a = hold-nil c (xs ++ ys) a
   hold-rest (c ∷ xs) ys (cons v vs) a = hold-rest xs ys vs (hold-cons v vs c (xs ++ ys) a .1)
 
-  pub hold-at : (xs : List Cell) (c : Cell) (ys : List Cell) (vs : Values) → HoldAll sizes fields linked vs (xs ++ (c ∷ ys)) → Holds sizes fields linked (valueAt (length xs) vs) c
+  pub hold-at : (xs : List Cell) (c : Cell) (ys : List Cell) (vs : Values) → HoldAllApart sizes fields linked vs (xs ++ (c ∷ ys)) → HoldsApart sizes fields linked (valueAt (length xs) vs) c
   hold-at [] c ys nil a = hold-nil c ys a
   hold-at [] c ys (cons v vs) a = hold-cons v vs c ys a .0
   hold-at (x ∷ xs) c ys nil a = hold-nil x (xs ++ (c ∷ ys)) a
   hold-at (x ∷ xs) c ys (cons v vs) a = hold-at xs c ys vs (hold-cons v vs x (xs ++ (c ∷ ys)) a .1)
 
-  pub hold-count : (vs : Values) (cs : List Cell) → HoldAll sizes fields linked vs cs → countOf vs ≡ length cs
+  pub hold-count : (vs : Values) (cs : List Cell) → HoldAllApart sizes fields linked vs cs → countOf vs ≡ length cs
   hold-count nil cs a = rw a
   hold-count (cons v vs) cs a = rw (a .2) (ap suc (hold-count vs (a .1) (a .4)))
 
   -- no link names a value's object
-  pub value-unlinked : (v : Value) (c : Cell) → Holds sizes fields linked v c → c .fst ≢ 0 → linked (c .fst) ≡ 0
+  pub value-unlinked : (v : Value) (c : Cell) → HoldsApart sizes fields linked v c → c .fst ≢ 0 → linked (c .fst) ≡ 0
   value-unlinked (integer w) c h nz = absurd (nz (h .0))
   value-unlinked (object tag vs) c h nz = h .1 nz
 
-  pub values-unlinked : (vs : Values) (cs : List Cell) (b : ℕ) → b ≢ 0 → linked b ≢ 0 → HoldAll sizes fields linked vs cs → occ b (pointers cs) ≡ 0
+  pub values-unlinked : (vs : Values) (cs : List Cell) (b : ℕ) → b ≢ 0 → linked b ≢ 0 → HoldAllApart sizes fields linked vs cs → occ b (pointers cs) ≡ 0
   values-unlinked nil cs b nz m o = rw o
   values-unlinked (cons v vs) cs b nz m o =
       let f : b ≢ o .0 .fst = λ q. m (ap linked q ∙ value-unlinked v (o .0) (o .3) (λ z. nz (q ∙ z))) in

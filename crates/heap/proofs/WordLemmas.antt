@@ -9,7 +9,7 @@ use native.Mathlib.Decide.{ℕ-discrete, decLt}
 use native.Mathlib.Omega.{arith}
 use borrow.Author.Tests.{eq-eqb, ne-eqb}
 use lib.ListN.{length}
-use Rattle.heap.specs.Blocks.{Layout, Cell, cell}
+use Rattle.heap.specs.Blocks.{Cell, cell}
 use Rattle.heap.specs.Words.{stride, wordAt, addressOf, numberOf, byAddress, headers, cellsFrom, blockFields}
 
 -- words of two blocks are one only if the blocks and the places in them are

@@ -10,6 +10,7 @@ use Rattle.heap.specs.Counting.{occ, refs}
 use Rattle.heap.specs.Blocks.{Layout, blocks, pointers, children, Memory, Chain}
 use Rattle.heap.specs.Reachability.{Reachable, ReachableCount}
 use Rattle.heap.specs.Values.{integer, nil, cons, HoldAll}
+use Rattle.heap.specs.Apart.{LinksApart}
 use Rattle.heap.specs.Orders.{State, Run, Every, Some}
 
 -- a sound heap whose first block never used is number frontier; the roots are the variables' pointers
@@ -44,22 +45,23 @@ pub record FirstNeverUsed (L : Layout) (states : List State) (frontier : ℕ) : 
   pub below : (i : ℕ) → i < frontier → Some (Used L (L .address i)) states
   pub above : (i : ℕ) → frontier ≤ i → Every (Unused L (L .address i)) states
 
--- what holds after a list of orders
+-- Beyond what document 01 asks: extras, on which nothing else of a claim rests. The blocks that links name are told apart; the variables lead to one number of blocks; no count
+-- is larger than the variables and all fields could name.
+pub record HeapBeyond (sizes : ℕ → List ℕ) (L : Layout) (now : State) (frontier : ℕ) (sound : SoundState L frontier now) : Type 0 where
+  pub links : LinksApart sizes (now .memory) (now .variables) (now .values) (sound .lazy) (sound .held)
+  pub reachable : ℕ
+  pub reachable-count : ReachableCount (now .memory .fields) (pointers (now .variables)) reachable
+  pub reachable-unique : (count : ℕ) → ReachableCount (now .memory .fields) (pointers (now .variables)) count → count ≡ reachable
+  pub count-bounded : (most b : ℕ) → ((x : ℕ) → length (now .memory .fields x) ≤ most) → occ b (sound .held) ≢ 0 → now .memory .header b < length (now .variables) + most * frontier
+
+-- what holds after a list of orders: what document 01 asks, and what is proved beyond it
 pub record HeapAfter (sizes : ℕ → List ℕ) (L : Layout) (past : List State) (now : State) : Type 0 where
   pub frontier : ℕ
   pub sound : SoundState L frontier now
   pub first-never-used : FirstNeverUsed L (now ∷ past) frontier
-  -- the blocks that a link of an object names: each has one pointer at most. Which they are is the proof's to say; to say more would only ask for more
-  pub linked : ℕ → ℕ
-  pub one-pointer : (b : ℕ) → b ≢ 0 → linked b ≢ 0
-      → occ b (pointers (now .variables)) + refs (children (now .memory .fields)) b (sound .lazy) + refs (children (now .memory .fields)) b (sound .held) ≤ 1
-  pub holds : HoldAll sizes (now .memory .fields) linked (now .values) (now .variables)
-  -- the variables lead to so many blocks, and to no other number
-  pub reachable : ℕ
-  pub reachable-count : ReachableCount (now .memory .fields) (pointers (now .variables)) reachable
-  pub reachable-unique : (count : ℕ) → ReachableCount (now .memory .fields) (pointers (now .variables)) count → count ≡ reachable
-  -- no count is larger than the variables and all fields could name
-  pub count-bounded : (most b : ℕ) → ((x : ℕ) → length (now .memory .fields x) ≤ most) → occ b (sound .held) ≢ 0 → now .memory .header b < length (now .variables) + most * frontier
+  -- each variable holds its value
+  pub holds : HoldAll sizes (now .memory .fields) (now .values) (now .variables)
+  pub beyond : HeapBeyond sizes L now frontier sound
 
 unfoldable pub AbstractHeapStaysSound : Type 0
 AbstractHeapStaysSound = (sizes : ℕ → List ℕ) (L : Layout) (past : List State) (now : State) → [] ≡ sizes 0 → Run sizes L past now → HeapAfter sizes L past now

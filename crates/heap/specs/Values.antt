@@ -65,20 +65,19 @@ abbrev pub NoPointers : List Cell → Type 0
 NoPointers cs = (b : ℕ) → b ≢ 0 → occ b (pointers cs) ≡ 0
 
 -- The blocks of an object from the first: unused fields, the chunk, and in all but the last the link to the next block.
--- linked is 1 at the blocks that a link names.
-abbrev pub Object : (ℕ → List Cell) → (ℕ → ℕ) → ℕ → List (List Cell) → Type 0
-Object fields linked p [] = p ≡ 0
-Object fields linked p (c ∷ []) = (p ≢ 0) × (unused : List Cell) × NoPointers unused × (fields p ≡ unused ++ c)
-Object fields linked p (c ∷ d ∷ chunks) =
-    (p ≢ 0) × (unused : List Cell) × NoPointers unused × (link : Cell) × (fields p ≡ unused ++ (c ++ (link ∷ []))) × (linked (link .fst) ≡ 1) × Object fields linked (link .fst) (d ∷ chunks)
+abbrev pub Object : (ℕ → List Cell) → ℕ → List (List Cell) → Type 0
+Object fields p [] = p ≡ 0
+Object fields p (c ∷ []) = (p ≢ 0) × (unused : List Cell) × NoPointers unused × (fields p ≡ unused ++ c)
+Object fields p (c ∷ d ∷ chunks) =
+    (p ≢ 0) × (unused : List Cell) × NoPointers unused × (link : Cell) × (fields p ≡ unused ++ (c ++ (link ∷ []))) × Object fields (link .fst) (d ∷ chunks)
 
--- where an object of n values has chunks of the lengths sizes n; no link names a value's object
+-- where an object of n values has chunks of the lengths sizes n
 abbrev mutual
-  pub Holds : (ℕ → List ℕ) → (ℕ → List Cell) → (ℕ → ℕ) → Value → Cell → Type 0
-  Holds sizes fields linked (integer w) c = (c .fst ≡ 0) × (c .snd ≡ w)
-  Holds sizes fields linked (object tag vs) c =
-      (c .snd ≡ tag) × (c .fst ≢ 0 → linked (c .fst) ≡ 0) × (chunks : List (List Cell)) × Object fields linked (c .fst) chunks × HoldAll sizes fields linked vs (concat chunks) × (lengths chunks ≡ sizes (countOf vs))
+  pub Holds : (ℕ → List ℕ) → (ℕ → List Cell) → Value → Cell → Type 0
+  Holds sizes fields (integer w) c = (c .fst ≡ 0) × (c .snd ≡ w)
+  Holds sizes fields (object tag vs) c =
+      (c .snd ≡ tag) × (chunks : List (List Cell)) × Object fields (c .fst) chunks × HoldAll sizes fields vs (concat chunks) × (lengths chunks ≡ sizes (countOf vs))
 
-  pub HoldAll : (ℕ → List ℕ) → (ℕ → List Cell) → (ℕ → ℕ) → Values → List Cell → Type 0
-  HoldAll sizes fields linked nil cs = cs ≡ []
-  HoldAll sizes fields linked (cons v vs) cs = (c : Cell) × (rest : List Cell) × (cs ≡ c ∷ rest) × Holds sizes fields linked v c × HoldAll sizes fields linked vs rest
+  pub HoldAll : (ℕ → List ℕ) → (ℕ → List Cell) → Values → List Cell → Type 0
+  HoldAll sizes fields nil cs = cs ≡ []
+  HoldAll sizes fields (cons v vs) cs = (c : Cell) × (rest : List Cell) × (cs ≡ c ∷ rest) × Holds sizes fields v c × HoldAll sizes fields vs rest

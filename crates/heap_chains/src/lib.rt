@@ -138,12 +138,12 @@ pub fn count_blocks_in(g: Shape, registers: &[u64; 16], heap: &[u64]) -> Blocks
     let linear = walk_list(g, heap, all, registers[2]);
     let lazy = walk_chain(g, heap, all, registers[3]);
     let frontier = number_of(g, lazy.end);
-    let used = utils::less(frontier, linear);
+    let used = utils::excess(frontier, linear);
     Blocks {
         linear,
         lazy: lazy.length,
-        held: utils::less(used, lazy.length),
-        untouched: utils::less(all, frontier),
+        held: utils::excess(used, lazy.length),
+        untouched: utils::excess(all, frontier),
     }
 }
 
@@ -165,7 +165,7 @@ pub fn to_fit_in(g: Shape, registers: &[u64; 16], heap: &[u64]) -> Fit
     let all = (heap.len() as u64) / block;
     let lazy = walk_chain(g, heap, all, registers[3]);
     let frontier = number_of(g, lazy.end);
-    let peak = utils::less(frontier, 1);
+    let peak = utils::excess(frontier, 1);
     let blocks = peak + 2;
     Fit {
         peak,

@@ -4,7 +4,7 @@
 use Prim.Native.Nat.{ℕ, _+_, _*_, _-_, _/_, _%_, _^_, _≤_}
 use mathlib.Core.Path.{_≡_}
 use mathlib.Core.Bool.{cond}
-use lib.Dec.{eqb}
+use lib.Dec.{eqb, ltb}
 use Rattle.layout.specs.declared.config.Shape.{Shape}
 use Rattle.layout.specs.declared.config.Choice.{Choice}
 use Rattle.layout.specs.declared.config.Choice.the-variants.{Of, Unknown}
@@ -99,6 +99,10 @@ RETURN2 = 5
 -- an operand is a word: register r is r, spill p is 16 + p
 abbrev pub spill : ℕ → ℕ
 spill p = 16 + p
+
+-- the register that has an operand's word once that is in one: its own, or TEMP for a spill
+abbrev pub registerFor : ℕ → ℕ
+registerFor w = cond (ltb w 16) w TEMP
 
 -- the operands of a frame are those below this
 abbrev pub operands : Shape → ℕ

@@ -6,9 +6,7 @@ use mathlib.Core.List.{List, [], _∷_}
 use lib.Dec.{ltb, eqb}
 use lib.ListN.{drop}
 use Rattle.records.specs.Causes.{ACCEPTED, OPERAND, EDITION}
-use Rattle.records.specs.declared.context.ContextRead.{ContextRead}
-use Rattle.records.specs.declared.context.ContextRead.the-variants.{Good, Bad}
-use Rattle.records.specs.Contexts.{bindingIn, checkedContext}
+use Rattle.records.specs.Contexts.{bindingIn, checkedContext, onContext}
 use Rattle.layout.specs.declared.config.Offset.{Offset}
 use Rattle.layout.specs.declared.config.Offset.the-variants.{At, Operand, Edition}
 use Rattle.layout.specs.declared.config.Shape.{Shape}
@@ -29,20 +27,16 @@ unfoldable pub idPlace : List ℕ → ℕ → ℕ → ℕ → ℕ
 idPlace s id k zero = k
 idPlace s id k (suc n) = cond (eqb (bindingIn (drop (8 * k) s) .id) id) k (idPlace s id (suc k) n)
 
-abbrev pub onContext : ContextRead → (ℕ → Temporary) → Temporary
-onContext (Good n) f = f n
-onContext (Bad flaw) f = temporary.Context flaw
-
 unfoldable pub freshTemporary : Shape → TemporaryNumber → List ℕ → Temporary
-freshTemporary g number s = onContext (checkedContext s) (λ n. positionAnswer g (2 * n + numberOf number))
+freshTemporary g number s = onContext (checkedContext s) (λ n. positionAnswer g (2 * n + numberOf number)) temporary.Context
 
 unfoldable pub variableTemporary : Shape → TemporaryNumber → List ℕ → ℕ → Temporary
 variableTemporary g number s id =
-    onContext (checkedContext s) (λ n. cond (ltb (idPlace s id 0 n) n) (positionAnswer g (2 * idPlace s id 0 n + numberOf number)) Missing)
+    onContext (checkedContext s) (λ n. cond (ltb (idPlace s id 0 n) n) (positionAnswer g (2 * idPlace s id 0 n + numberOf number)) Missing) temporary.Context
 
 -- 15 to 17 come before 3, which another number of spills than a frame has is
 abbrev pub unframed : List ℕ → Temporary
-unframed s = onContext (checkedContext s) (λ n. temporary.Frame)
+unframed s = onContext (checkedContext s) (λ n. temporary.Frame) temporary.Context
 
 -- where the spill that an operand names stands from STACK: spills from 1, as callers name them
 unfoldable pub spillOffset : Shape → ℕ → Offset

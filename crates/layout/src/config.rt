@@ -157,6 +157,9 @@ pub const RETURN2: u8 = 5;
 // The spill that holds register 4 while a load borrows it.
 pub const SPILL_TEMP: u64 = 16;
 
+// Minus one as 64 bits.
+pub const MINUS_ONE: u64 = 18446744073709551615;
+
 // Where a word stands; 3: no caller's spill, no frame of so many, or no field of a block; 23: no such edition.
 pub enum Offset {
     At(u64),

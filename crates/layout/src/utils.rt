@@ -7,12 +7,13 @@ ghost use lib.ListN.{length, drop};
 ghost use Rattle.records.specs.Answers.{AnswersBy};
 ghost use Rattle.records.specs.Contexts.{bindingIn, extAt};
 ghost use Rattle.layout.specs.declared.utils.Temporary.the-variants.{Frame, Missing};
-ghost use Rattle.layout.specs.Config.{Supported, positions, inFrame};
+ghost use Rattle.layout.specs.Config.{Supported, positions, inFrame, registerFor};
 ghost use Rattle.layout.specs.Positions.{location, entries, Table, operandOk, positionAnswer, temporaryCause};
 ghost use Rattle.layout.specs.Queries.{numberOf, idPlace, freshTemporary, variableTemporary, unframed};
 use crate::config;
 use crate::config::Choice;
 use crate::config::Shape;
+use crate::config::TEMP;
 use records::context::ContextRead;
 use records::context::Flaw;
 
@@ -627,8 +628,15 @@ pub fn operand_ok(g: Shape, w: u64) -> bool
     16 < w
 }
 
-// a less b, and 0 where b is more.
-pub fn less(a: u64, b: u64) -> u64
+// The register that has the word of operand w, once that is in one.
+pub fn register_for(w: u64) -> u8
+    ensures { λ r. ⌜ r ≡ registerFor w ⌝ }
+{
+    if w < 16 { w as u8 } else { TEMP }
+}
+
+// How much more a is than b, 0 where it is less.
+pub fn excess(a: u64, b: u64) -> u64
     ensures { λ r. ⌜ r ≡ a - b ⌝ }
 {
     if a < b { 0 } else { a - b }

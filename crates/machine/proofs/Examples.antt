@@ -16,6 +16,7 @@ use Rattle.machine_step.specs.Memory.{heapOk, placeOf}
 use Rattle.machine_step.specs.Step.{step}
 use Rattle.machine.specs.Run.{runs, started, placesOf, ran}
 use Rattle.machine.specs.State.{see, entryState, freshState, firsts}
+use Rattle.records.specs.Names.{PRINTI64, firstUnnamed}
 
 abbrev heap : List ℕ
 heap = replicate 16 0
@@ -67,8 +68,8 @@ pushes-stack : registers (PUSH 0 ∷ POP 4 ∷ []) ≡ 1099511625672 ∷ 0 ∷ 6
 unfolding runs step placeOf sum difference
 pushes-stack = refl
 
-prints : (answers (freshState base) (CALL 2147483650 ∷ []) 1 ≡ Fault 0 1) × (answers (freshState base) (ADDI 0 8 ∷ CALL 2147483652 ∷ []) 2 ≡ Fault 1 2)
-    × (registers (ADDI 0 8 ∷ CALL 2147483650 ∷ []) ≡ 1099511625680 ∷ 100 ∷ 65536 ∷ 65600 ∷ 99 ∷ 98 ∷ 97 ∷ 96 ∷ 95 ∷ 94 ∷ 93 ∷ 92 ∷ replicate 4 0)
+prints : (answers (freshState base) (CALL PRINTI64 ∷ []) 1 ≡ Fault 0 1) × (answers (freshState base) (ADDI 0 8 ∷ CALL firstUnnamed ∷ []) 2 ≡ Fault 1 2)
+    × (registers (ADDI 0 8 ∷ CALL PRINTI64 ∷ []) ≡ 1099511625680 ∷ 100 ∷ 65536 ∷ 65600 ∷ 99 ∷ 98 ∷ 97 ∷ 96 ∷ 95 ∷ 94 ∷ 93 ∷ 92 ∷ replicate 4 0)
 unfolding runs step sum
 prints = (refl, refl, refl)
 

@@ -6,8 +6,6 @@ use mathlib.Core.List.{List, [], _∷_}
 use mathlib.Core.Option.{Option, none, some}
 use lib.ListN.{getElem?}
 use Rattle.records.specs.Causes.{ACCEPTED, MALFORMED, FAULT, LIMIT}
-use Rattle.records.specs.declared.check.Checked.{Checked}
-use Rattle.records.specs.declared.check.Checked.the-variants as checked
 use Rattle.records.specs.declared.code.Code.{Code}
 use Rattle.records.specs.Codes.{fieldsOf}
 use Rattle.records.specs.Instructions.{labWith, checkedCodes}
@@ -20,6 +18,7 @@ use Rattle.machine.specs.declared.run.Found.the-variants as found
 use Rattle.machine_step.specs.View.{View}
 use Rattle.machine_step.specs.Memory.{heapOk}
 use Rattle.machine_step.specs.Step.{Config, config, Outcome, next, jump, end, fault, step}
+use Rattle.records.specs.Checked.{onChecked}
 
 -- whether an instruction is LAB with a label
 abbrev pub isLab : ℕ → Code → Bool
@@ -73,20 +72,20 @@ runs words p (suc left) n i c =
 abbrev pub codesOf : ℕ → List ℕ → List Code
 codesOf n s = items 24 codeIn n s
 
--- from the first record, with no compare made and no call
-abbrev pub started : (ℕ → ℕ) → List Code → ℕ → View → Done
-started words p limit s = runs words p limit 0 0 (config s Absent [])
+-- a configuration that a run starts with: no compare made and no call
+abbrev pub starting : View → Config
+starting s = config s Absent []
 
-abbrev pub onChecked : Checked → (ℕ → Done) → (ℕ → Done) → Done
-onChecked (checked.Good n) good bad = good n
-onChecked (checked.Malformed place) good bad = bad place
+-- from the first record
+abbrev pub started : (ℕ → ℕ) → List Code → ℕ → View → Done
+started words p limit s = runs words p limit 0 0 (starting s)
 
 -- the whole run of the records in the bytes s, where a block has so many words
 unfoldable pub ran : ℕ → (ℕ → ℕ) → List ℕ → ℕ → View → Done
 ran block words s limit v =
     cond (heapOk block (v .size))
-    (onChecked (checkedCodes 65536 s) (λ n. started words (codesOf n s) limit v) (λ place. done (Malformed place) (config v Absent [])))
-    (done (Malformed 0) (config v Absent []))
+    (onChecked (checkedCodes 65536 s) (λ n. started words (codesOf n s) limit v) (λ place. done (Malformed place) (starting v)))
+    (done (Malformed 0) (starting v))
 
 -- document 01's number and values for each answer: 0, with the steps, where the run ended
 abbrev pub causeOf : Answer → List ℕ

@@ -16,6 +16,7 @@ use Rattle.machine_step.specs.declared.instruction.Went.the-variants.{Ne
 use Rattle.machine_step.specs.View.{View, upd, putReg}
 use Rattle.word.specs.Words.{sum, difference, product, signs, quotient, remainder, divides, less}
 use Rattle.machine_step.specs.Memory.{stackEntry, Operand, register, memory, immediate, load, store, valueOf, assigned}
+use Rattle.records.specs.Names.{PRINTI64, PRINTLNI64}
 
 -- a call that was made: the name's number, and what register 7 held
 pub record Call : Type 0 where
@@ -101,7 +102,7 @@ pop a c = onWord c (load (c .state) (c .state .reg 0)) (λ w. next (changed c (p
 
 -- PRINT_I64 and PRINTLN_I64
 abbrev pub printName : ℕ → Bool
-printName label = eqb label 2147483650 || eqb label 2147483651
+printName label = eqb label PRINTI64 || eqb label PRINTLNI64
 
 -- what a print leaves: the nine lent words in registers 1 and 4..11
 abbrev pub printed : (ℕ → ℕ) → View → View

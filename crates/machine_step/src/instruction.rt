@@ -11,6 +11,8 @@ use crate::memory;
 use crate::memory::Loaded;
 use crate::operand::assign;
 use crate::operand::operand;
+use records::name::PRINTLN_I64;
+use records::name::PRINT_I64;
 use records::code::Fields;
 
 // The last compare's two words, where only moves came since.
@@ -296,10 +298,10 @@ pub fn pop(a: u8, registers: &mut [u64; 16], stack: &[u64], heap: &[u64], pair: 
 fn print_name(label: u32) -> bool
     ensures { λ r. ⌜ r ≡ is.printName label ⌝ }
 {
-    if label == 2147483650 {
+    if label == PRINT_I64 {
         return true;
     }
-    label == 2147483651
+    label == PRINTLN_I64
 }
 
 // The words that a print leaves.

@@ -8,11 +8,11 @@ use lib.Dec.{ltb, eqb}
 use Rattle.records.specs.declared.code.Code.the-variants.{ADDIM, MOVS, MOVL, MOVIM, CMPIM}
 use Rattle.trees.specs.Tree.{Tree, nop, leaf, seq, if-zero, labels, size}
 use Rattle.layout.specs.declared.config.Shape.{Shape}
-use Rattle.layout.specs.Config.{Supported, STACK, TEMP, MINUSONE, stackOffset}
+use Rattle.layout.specs.Config.{Supported, STACK, TEMP, MINUSONE, stackOffset, registerFor}
 use Rattle.code.specs.Code.{loadImmediate}
 use Rattle.memory.specs.Objects.{fst, snd, storeZeros, storeValue, storeValues, storeOther, storeOthers, storeSome, storeObject, chunks, objectRecords, shareLoaded, loadFst, loadValue, loadValues, releaseUnless, loadLink, capacity, setAside, restore, loadBody, loadSpilled, loadBlock, freed, loadOthers, loadSome, loadObject}
 use Rattle.memory.proofs.Flattened.{fields-size}
-use Rattle.memory.specs.Blocks.{eraseBlock, shareRegister, blockRegister, shareBlock, takeBlock, acquireBlock, storeField, loadField, releaseBlock}
+use Rattle.memory.specs.Blocks.{eraseBlock, shareRegister, shareBlock, takeBlock, acquireBlock, storeField, loadField, releaseBlock}
 
 -- of a choice between two trees
 pub either : (b : Bool) (t u : Tree) (n m : ℕ) → labels t ≡ n → labels u ≡ n → size t ≤ m → size u ≤ m → (labels (cond b t u) ≡ n) × (size (cond b t u) ≤ m)
@@ -155,7 +155,7 @@ module _ (g : Shape) (ext : ℕ → Bool) (s : Supported g) (v n : ℕ) where
   store-object-size = let z = store-object-records in (z .0, omega (arith, z .1, object-records-few g s n))
 
 pub share-loaded-size : (shared : Bool) (w : ℕ) → (labels (shareLoaded shared w) ≤ 1) × (size (shareLoaded shared w) ≤ 4)
-share-loaded-size shared w = within shared (shareRegister (blockRegister w) 1) nop 1 4 (omega arith) (omega arith) (omega arith) (omega arith)
+share-loaded-size shared w = within shared (shareRegister (registerFor w) 1) nop 1 4 (omega arith) (omega arith) (omega arith) (omega arith)
 
 pub load-fst-size : (g : Shape) (integer shared : Bool) (v t r : ℕ) → (labels (loadFst g integer shared v t r) ≤ 1) × (size (loadFst g integer shared v t r) ≤ 6)
 load-fst-size g integer shared v t r =
@@ -247,7 +247,7 @@ module _ (g : Shape) (ext : ℕ → Bool) (s : Supported g) (v n : ℕ) where
   both-ways : (l m : ℕ) → labels (loadSome g ext false v n) + labels (loadSome g ext true v n) + 2 ≤ l → size (loadSome g ext false v n) + size (loadSome g ext true v n) + 7 ≤ m
       → (labels (loadObject g ext v n) ≤ l) × (size (loadObject g ext v n) ≤ m)
   both-ways l m a b =
-      let r : ℕ = blockRegister (fst v) in
+      let r : ℕ = registerFor (fst v) in
       let p : Tree = leaf (MOVL TEMP STACK (stackOffset g (fst v))) refl in
       let c : Tree = if-zero (CMPIM r 0 0) refl (loadSome g ext false v n) (seq (leaf (ADDIM r 0 MINUSONE) refl) (loadSome g ext true v n)) in
       let y = within (ltb (fst v) 16) nop p 0 1 (omega arith) (omega arith) (omega arith) (omega arith) in

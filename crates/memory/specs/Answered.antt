@@ -3,10 +3,8 @@ use Prim.Native.Nat.{ℕ, _*_, _-_}
 use mathlib.Core.Bool.{cond}
 use mathlib.Core.List.{List, []}
 use lib.Dec.{ltb, eqb}
-use Rattle.records.specs.declared.context.ContextRead.{ContextRead}
-use Rattle.records.specs.declared.context.ContextRead.the-variants.{Good, Bad}
 use Rattle.records.specs.declared.code.Code.{Code}
-use Rattle.records.specs.Contexts.{checkedContext}
+use Rattle.records.specs.Contexts.{checkedContext, onContext, bindingsIn}
 use Rattle.emit.specs.declared.answer.Answer.{Answer}
 use Rattle.emit.specs.declared.answer.Answer.the-variants.{Context, Operand, Missing, Count, Position, Edition}
 use Rattle.emit.specs.Answers.{unframed, granted}
@@ -16,6 +14,7 @@ use Rattle.layout.specs.Positions.{operandOk}
 use Rattle.trees.specs.Tree.{Tree, labels, size, flat}
 use Rattle.memory.specs.Blocks.{eraseBlock, shareBlock}
 use Rattle.memory.specs.Objects.{extIn, storeObject}
+use Rattle.records.specs.Names.{mostCount}
 
 -- a tree's records, where nothing but labels or room can refuse
 abbrev pub treeAnswer : ℕ → ℕ → Tree → Answer
@@ -26,7 +25,7 @@ eraseAnswer g counter room w = cond (operandOk g w) (treeAnswer counter room (er
 
 unfoldable pub shareAnswer : Shape → ℕ → ℕ → ℕ → ℕ → Answer
 shareAnswer g counter room w n =
-    cond (operandOk g w) (cond (ltb 2147483647 n) Count (treeAnswer counter room (shareBlock g w n))) Operand
+    cond (operandOk g w) (cond (ltb mostCount n) Count (treeAnswer counter room (shareBlock g w n))) Operand
 
 -- the answers and the records in a frame of so many spills
 abbrev pub eraseIn : ℕ → ℕ → ℕ → ℕ → Answer
@@ -41,18 +40,9 @@ shareIn frame counter room w n = inFrame frame (λ g. shareAnswer g counter room
 abbrev pub shareRecordsIn : ℕ → ℕ → ℕ → ℕ → List Code
 shareRecordsIn frame counter w n = inFrame frame (λ g. flat (shareBlock g w n) counter) []
 
--- by the number of variables of a context, which is refused where it is bad
-abbrev pub onContext : ContextRead → (ℕ → Answer) → Answer
-onContext (Good k) answer = answer k
-onContext (Bad flaw) answer = Context flaw
-
-abbrev pub variablesIn : ContextRead → ℕ
-variablesIn (Good k) = k
-variablesIn (Bad flaw) = 0
-
 -- the last n variables of a context into an object
 abbrev pub storeTree : Shape → List ℕ → ℕ → Tree
-storeTree g context n = storeObject g (extIn context 0) (variablesIn (checkedContext context) - n) n
+storeTree g context n = storeObject g (extIn context 0) (bindingsIn (checkedContext context) - n) n
 
 -- the highest position that a store of n of k variables asks for: the last one's Snd, or the Fst past them where none is stored
 abbrev pub storeHighest : ℕ → ℕ → ℕ
@@ -62,7 +52,7 @@ unfoldable pub storeAnswer : Shape → ℕ → ℕ → List ℕ → ℕ → Answ
 storeAnswer g counter room context n =
     onContext (checkedContext context)
     (λ k. cond (ltb k n) Missing
-    (cond (ltb (storeHighest k n) (positions g)) (treeAnswer counter room (storeTree g context n)) Position))
+    (cond (ltb (storeHighest k n) (positions g)) (treeAnswer counter room (storeTree g context n)) Position)) Context
 
 -- the answer and the records in an edition and a frame of so many spills
 abbrev pub storeIn : ℕ → ℕ → ℕ → ℕ → List ℕ → ℕ → Answer

@@ -7,7 +7,7 @@ use lib.Dec.{ltb}
 use Rattle.records.specs.declared.code.Code.the-variants.{ADDI, ADDIM, MOV, MOVS, MOVL, MOVIM, CMPI, CMPIM}
 use Rattle.trees.specs.Tree.{Tree, nop, leaf, seq, skip-if-zero, if-zero}
 use Rattle.layout.specs.declared.config.Shape.{Shape}
-use Rattle.layout.specs.Config.{STACK, TEMP, HEAP, FREE, stackOffset, fstOffset, blockBytes, MINUSONE}
+use Rattle.layout.specs.Config.{STACK, TEMP, HEAP, FREE, stackOffset, fstOffset, blockBytes, MINUSONE, registerFor}
 
 -- erase the object that a register points to, if it points to one: onto the lazy list, or one reference fewer
 abbrev pub eraseRegister : ℕ → Tree
@@ -26,10 +26,6 @@ eraseChild i = seq (leaf (MOVL TEMP HEAP (fstOffset i)) refl) (eraseRegister TEM
 abbrev pub eraseFields : ℕ → Tree
 eraseFields zero = nop
 eraseFields (suc n) = seq (eraseFields n) (eraseChild n)
-
--- the register that holds the pointer to a block just taken
-abbrev pub blockRegister : ℕ → ℕ
-blockRegister w = cond (ltb w 16) w TEMP
 
 module _ (g : Shape) where
   abbrev pub eraseBlock : ℕ → Tree
@@ -62,7 +58,7 @@ module _ (g : Shape) where
   nextBlock r = seq (leaf (MOVL HEAP HEAP 0) refl) (if-zero (CMPI HEAP 0) refl nextLazy (leaf (MOVIM r 0 0) refl))
 
   abbrev pub acquireBlock : ℕ → Tree
-  acquireBlock w = seq (takeBlock w) (nextBlock (blockRegister w))
+  acquireBlock w = seq (takeBlock w) (nextBlock (registerFor w))
 
   -- a word from an operand into memory, and back
   abbrev pub storeField : ℕ → ℕ → ℕ → Tree

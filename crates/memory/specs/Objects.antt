@@ -10,10 +10,10 @@ use Rattle.records.specs.declared.code.Code.the-variants.{ADDIM, MOVS, MOVL, MO
 use Rattle.records.specs.Contexts.{extAt}
 use Rattle.trees.specs.Tree.{Tree, nop, leaf, seq, if-zero}
 use Rattle.layout.specs.declared.config.Shape.{Shape}
-use Rattle.layout.specs.Config.{STACK, TEMP, HEAP, RETURN1, SPILLTEMP, stackOffset, fstOffset, sndOffset, MINUSONE}
+use Rattle.layout.specs.Config.{STACK, TEMP, HEAP, RETURN1, SPILLTEMP, stackOffset, fstOffset, sndOffset, MINUSONE, registerFor}
 use Rattle.layout.specs.Positions.{location}
 use Rattle.code.specs.Code.{loadImmediate}
-use Rattle.memory.specs.Blocks.{shareRegister, blockRegister, acquireBlock, storeField, loadField, releaseBlock}
+use Rattle.memory.specs.Blocks.{shareRegister, acquireBlock, storeField, loadField, releaseBlock}
 
 abbrev pub fst : ℕ → ℕ
 fst v = location (2 * v)
@@ -57,7 +57,7 @@ storeFst g integer v t = cond integer (leaf (MOVIM HEAP (fstOffset t) 0) refl) (
 
 -- a pointer just loaded to an operand is shared where it stays in its block too
 abbrev pub shareLoaded : Bool → ℕ → Tree
-shareLoaded shared w = cond shared (shareRegister (blockRegister w) 1) nop
+shareLoaded shared w = cond shared (shareRegister (registerFor w) 1) nop
 
 -- field t's pointer into variable v, unless it is an integer
 abbrev pub loadFst : Shape → Bool → Bool → ℕ → ℕ → ℕ → Tree
@@ -161,6 +161,6 @@ module _ (g : Shape) (ext : ℕ → Bool) where
   loadObject v n =
       cond (eqb n 0) nop
       (seq (cond (ltb (fst v) 16) nop (leaf (MOVL TEMP STACK (stackOffset g (fst v))) refl))
-      (if-zero (CMPIM (blockRegister (fst v)) 0 0) refl
+      (if-zero (CMPIM (registerFor (fst v)) 0 0) refl
       (loadSome false v n)
-      (seq (leaf (ADDIM (blockRegister (fst v)) 0 MINUSONE) refl) (loadSome true v n))))
+      (seq (leaf (ADDIM (registerFor (fst v)) 0 MINUSONE) refl) (loadSome true v n))))

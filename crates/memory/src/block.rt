@@ -8,9 +8,11 @@ ghost use Rattle.memory.specs.Answered.{eraseAnswer, eraseIn, eraseRecor
 ghost use Rattle.memory.specs.NextBlock.{nextBegin, nextEnd};
 ghost use Rattle.trees.specs.Tree.{flat};
 ghost use Rattle.memory.specs.Blocks.{eraseRegister, shareRegister, eraseBlock, shareSpill, shareBlock, eraseChild, eraseFields, takeBlock, nextBlock, acquireBlock, storeField, loadField, releaseBlock};
+use records::name::MOST_COUNT;
 use emit::answer::Answer;
 use emit::cursor::Cursor;
 use emit::cursor::Row;
+use layout::config::MINUS_ONE;
 use layout::config::Choice;
 use layout::config::FREE;
 use layout::config::HEAP;
@@ -28,8 +30,6 @@ use records::number::MOV;
 use records::number::MOVIM;
 use records::number::MOVL;
 use records::number::MOVS;
-
-const MINUS_ONE: u64 = 18446744073709551615;
 
 pub fn erase_register(out: &mut [u8], p: Cursor, r: u8) -> Cursor
     requires { ⌜ (p .at + 264 < 2 ^ 64) × (p .counter + 3 < 2 ^ 32) ⌝ }
@@ -336,7 +336,7 @@ fn share_block_n_in(out: &mut [u8], g: Shape, counter: u64, w: u64, n: u64) -> A
     if layout::utils::operand_ok(g, w) {} else {
         return Answer::Operand;
     }
-    if 2147483647 < n {
+    if MOST_COUNT < n {
         return Answer::Count;
     }
     let mut none = [0u8; 1];

@@ -8,11 +8,11 @@ use native.Mathlib.Decide.{ℕ-discrete}
 use borrow.Author.Tests.{ne-eqb, ltb-true}
 use Rattle.records.specs.declared.context.ContextRead.{ContextRead}
 use Rattle.records.specs.declared.context.ContextRead.the-variants.{Good}
-use Rattle.records.specs.Contexts.{checkedContext, countedOn}
+use Rattle.records.specs.Contexts.{checkedContext, countedOn, bindingsIn, onContext}
+use Rattle.emit.specs.declared.answer.Answer.the-variants.{Context}
 use Rattle.layout.specs.declared.config.Shape.{Shape}
 use Rattle.layout.specs.Config.{Supported, positions, mostVariables}
 use Rattle.memory.specs.Objects.{extIn, loadObject}
-use Rattle.memory.specs.Answered.{onContext, variablesIn}
 use Rattle.memory.specs.LoadAnswered.{loadTree, loadFits, loadAfter, loadAnswer}
 
 module _ (g : Shape) (s : Supported g) (v n : ℕ) (e : loadFits g v n ≡ true) where
@@ -29,11 +29,11 @@ module _ (g : Shape) (s : Supported g) (v n : ℕ) (e : loadFits g v n ≡ true)
 module _ (g : Shape) (s e : List ℕ) (n v : ℕ) (h : checkedContext s ≡ Good n) (k : checkedContext e ≡ Good v) where
   pub tree : loadObject g (extIn s v) v n ≡ loadTree g s e
   tree =
-      ap (λ (c : ContextRead). loadObject g (extIn s (variablesIn c)) (variablesIn c) n) (sym k)
-      ∙ ap (λ (c : ContextRead). loadObject g (extIn s (variablesIn (checkedContext e))) (variablesIn (checkedContext e)) (variablesIn c)) (sym h)
+      ap (λ (c : ContextRead). loadObject g (extIn s (bindingsIn c)) (bindingsIn c) n) (sym k)
+      ∙ ap (λ (c : ContextRead). loadObject g (extIn s (bindingsIn (checkedContext e))) (bindingsIn (checkedContext e)) (bindingsIn c)) (sym h)
 
   pub answer : (counter room : ℕ) → loadAfter g counter room s v n ≡ loadAnswer g counter room s e
   unfolding loadAnswer
   answer counter room =
-      ap (λ (c : ContextRead). onContext (countedOn v c) (λ n. loadAfter g counter room s v n)) (sym h)
-      ∙ ap (λ (c : ContextRead). onContext c (λ v. onContext (countedOn v (checkedContext s)) (λ n. loadAfter g counter room s v n))) (sym k)
+      ap (λ (c : ContextRead). onContext (countedOn v c) (λ n. loadAfter g counter room s v n) Context) (sym h)
+      ∙ ap (λ (c : ContextRead). onContext c (λ v. onContext (countedOn v (checkedContext s)) (λ n. loadAfter g counter room s v n) Context) Context) (sym k)

@@ -9,9 +9,8 @@ ghost use Rattle.records.specs.Contexts.{extAt};
 ghost use Rattle.trees.specs.Tree.{nop, leaf, seq, if-zero, flat};
 ghost use Rattle.emit.specs.Emitted.{Emits};
 ghost use Rattle.emit.specs.Answers.{accepted, Answers};
-ghost use Rattle.layout.specs.Config.{Supported, STACK, TEMP, MINUSONE, stackOffset, operands, positions};
+ghost use Rattle.layout.specs.Config.{Supported, STACK, TEMP, MINUSONE, stackOffset, operands, positions, registerFor};
 ghost use Rattle.layout.specs.Positions.{Table};
-ghost use Rattle.memory.specs.Blocks.{blockRegister};
 ghost use Rattle.memory.specs.Objects.{extIn, objectRecords, loadSome, loadObject};
 ghost use Rattle.memory.specs.Answered.{treeAnswer};
 ghost use Rattle.memory.specs.LoadAnswered.{loadTree, loadFits, loadAfter, loadAnswer, unframedLoad, loadIn, loadRecordsIn};
@@ -19,6 +18,7 @@ ghost use Rattle.memory_load.specs.Linked.{oneIfLinked, linkedIn};
 use emit::answer::Answer;
 use emit::cursor::Cursor;
 use emit::cursor::Row;
+use layout::config::MINUS_ONE;
 use layout::config::STACK;
 use layout::config::Shape;
 use layout::config::Shaped;
@@ -33,8 +33,6 @@ use records::number::JMPL;
 use records::number::LAB;
 use records::number::MOVL;
 use memory_store::store;
-
-const MINUS_ONE: u64 = 18446744073709551615;
 
 fn one_if_linked(ext: bool) -> u64
     ensures { λ r. ⌜ (r ≡ oneIfLinked ext) × (r ≤ 1) ⌝ }
@@ -111,13 +109,6 @@ fn load_counted(
     Cursor { at: w.at, counter }
 }
 
-// The register that has the pointer in operand w, once it is there.
-fn register_of(w: u64) -> u8
-    ensures { λ r. ⌜ r ≡ blockRegister w ⌝ }
-{
-    if w < 16 { w as u8 } else { TEMP }
-}
-
 // The pointer in operand w into a register.
 fn into_register(out: &mut [u8], p: Cursor, g: Shape, w: u64) -> Cursor
     requires { ⌜ (w < operands g) × (p .at + 24 < 2 ^ 64) × Supported g ⌝ }
@@ -148,7 +139,7 @@ pub fn load_object(
     }
     let w = layout::utils::location_at(table, 2 * v);
     let q = into_register(out, p, g, w);
-    load_counted(out, q, g, table, kinds, v, n, register_of(w))
+    load_counted(out, q, g, table, kinds, v, n, layout::utils::register_for(w))
 }
 
 // Whether n variables after v have positions.

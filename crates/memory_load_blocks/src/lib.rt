@@ -281,7 +281,7 @@ fn freed_before(table: &[u16; ENTRIES], each: u64, v: u64, n: u64) -> bool
     if 0 < n {} else {
         return false;
     }
-    let rest = layout::utils::less(n, each);
+    let rest = layout::utils::excess(n, each);
     let w = layout::utils::location_at(table, 2 * (v + rest));
     if w < 16 {
         return false;
@@ -349,7 +349,7 @@ pub fn load_some(
 {
     let fields = g.fields;
     let each = fields - 1;
-    let rest = layout::utils::less(n, fields);
+    let rest = layout::utils::excess(n, fields);
     let aside = freed_before(table, each, v, rest);
     let q = load_others(
         out,

@@ -13,10 +13,10 @@ use Rattle.records.specs.declared.code.Code.the-variants.{ADDI, MOV, MOVS, MOVL
 use Rattle.word.specs.Words.{sum}
 use Rattle.trees.specs.Tree.{Tree, leaf, seq, if-zero}
 use Rattle.layout.specs.declared.config.Shape.{Shape}
-use Rattle.layout.specs.Config.{Supported, blockWords, blockBytes, operands, TEMP, stackOffset}
+use Rattle.layout.specs.Config.{Supported, blockWords, blockBytes, operands, TEMP, stackOffset, registerFor}
 use Rattle.machine_step.specs.Step.{Config, dropped}
 use Rattle.machine_step.specs.View.{upd}
-use Rattle.memory.specs.Blocks.{eraseFields, blockRegister, takeBlock, nextLazy, nextBlock, acquireBlock}
+use Rattle.memory.specs.Blocks.{eraseFields, takeBlock, nextLazy, nextBlock, acquireBlock}
 use Rattle.heap.proofs.BlockLemmas.{block-number, block-nonzero}
 use Rattle.heap.specs.Blocks.{pointers, children}
 use Rattle.heap.specs.Counting.{same}
@@ -68,7 +68,7 @@ pub record Taken (G : Shape) (m : ℕ → ℕ) (heap free : ℕ) (m′ : ℕ →
 module _ {G : Shape} (words : ℕ → ℕ) where
   -- the block taken is in the location, and in a register
   pub take-does : {N : ℕ} (s : Config) (l : ℕ) → Placed G N s → 4 ≤ l → l < operands G
-      → Does words (takeBlock G l) s (λ r. (held r l ≡ s .state .reg 2) × (r .state .reg (blockRegister l) ≡ s .state .reg 2) × (r .state .mem ≡ s .state .mem) × Keeps (λ x. (x ≢ 1) × (x ≢ l)) s r)
+      → Does words (takeBlock G l) s (λ r. (held r l ≡ s .state .reg 2) × (r .state .reg (registerFor l) ≡ s .state .reg 2) × (r .state .mem ≡ s .state .mem) × Keeps (λ x. (x ≢ 1) × (x ≢ l)) s r)
   take-does {N} s l v a b = by (ltb l 16) refl
     where
       by : (c : Bool) → ltb l 16 ≡ c → Does words (cond c (leaf (MOV l 2) refl) (seq (leaf (MOV 1 2) refl) (leaf (MOVS 2 0 (stackOffset G l)) refl))) s
@@ -196,7 +196,7 @@ module _ {G : Shape} (words : ℕ → ℕ) where
       let e3 : r .state .reg 3 ≡ s .state .reg 3 = keeps-register (g .3) 3 (omega arith) (omega arith) in
       let q₁ : Invariant (L G) (children (blockFields (G .fields) (r .state .mem))) (headers (G .fields) (r .state .mem)) (r .state .reg 2) (r .state .reg 3) n rest lazy live (children (blockFields (G .fields) (r .state .mem)) (r .state .reg 2) ++ roots) = rw (e, e2, e3) q in
       attempt-weaken (λ t d. (d .2 .kept l (omega arith) ∙ g .0, rw (e, e2, e3) at (d .0), d .1, keeps-trans (keeps-sub (λ x y. (y .0 .0, y .1)) (g .3)) (keeps-sub (λ x y. y .0) (d .2))))
-      (next-does roots r (placed-keeps (omega arith) (g .3) v) room few (blockRegister l) (low (ltb l 16) refl) (g .1 ∙ sym e2) q₁))
+      (next-does roots r (placed-keeps (omega arith) (g .3) v) room few (registerFor l) (low (ltb l 16) refl) (g .1 ∙ sym e2) q₁))
     where
       low : (c : Bool) → ltb l 16 ≡ c → cond c l TEMP ≢ 2
       low true e = omega arith

@@ -38,6 +38,7 @@ use Rattle.memory_proof.proofs.Sharing.{Shareable, share-at}
 use Rattle.memory_proof.proofs.Shown.{L, SameFields, heapOf, memory-is}
 use Rattle.memory.specs.Objects.{objectSizes}
 use Rattle.memory_proof.proofs.Variables.{variable, variables, variables-append, variables-snoc, variables-length, variables-pointers, variables-kept}
+use Rattle.records.specs.Names.{mostCount}
 
 -- an integer is dropped without code
 pub drop-integer : (G : Shape) (ext : ℕ → Bool) (s : Config) (e : ℕ) → ext e ≡ true → Performs (objectSizes G) (L G) (heapOf G s) drop (variables ext s 0 e ++ (variable ext s e ∷ [])) (heapOf G s) (variables ext s 0 e)
@@ -112,7 +113,7 @@ module _ {G : Shape} (words : ℕ → ℕ) where
       (rw (vs, x .1) (drops (variables ext s 0 e) (variable ext s e) (headers (G .fields) (u .state .mem)) (u .state .reg 3) (x .0)), x .2))
 
   -- variable a's pointer shared n times: the heap with other counts, as n copies of it ask
-  pub share-performs : {N m : ℕ} {values : Values} (ext : ℕ → Bool) (s : Config) (e a n : ℕ) → Placed G N s → m ≤ N → a < e → 2 * e < positions G → n ≤ 2147483647 → ext a ≡ false
+  pub share-performs : {N m : ℕ} {values : Values} (ext : ℕ → Bool) (s : Config) (e a n : ℕ) → Placed G N s → m ≤ N → a < e → 2 * e < positions G → n ≤ mostCount → ext a ≡ false
       → Represents (objectSizes G) (L G) (heapOf G s) m (variables ext s 0 e) values
       → Does words (shareBlock G (location (2 * a)) n) s
       (λ u. Share (replicate n (variable ext s a .fst)) (headers (G .fields) (s .state .mem)) (headers (G .fields) (u .state .mem)) × (heapOf G u ≡ withHeaders (heapOf G s) (headers (G .fields) (u .state .mem))) × Keeps (λ x. x ≢ 1) s u × SameFields G (s .state .mem) (u .state .mem))

@@ -19,7 +19,8 @@ use Rattle.heap.specs.Operations.{withHeaders, ReadObject}
 use Rattle.heap.specs.Orders.{load, Performs, loads-none, loads-last, loads-shared}
 use Rattle.heap.specs.Reachability.{start, follow, ReachableFrom}
 use Rattle.heap.proofs.ValueLemmas.{object-nonzero, object-pointers, hold-at}
-use Rattle.heap.specs.Values.{KindsFrom, Value, integer, object, Values, nil, cons, countOf, valueAt, concat, lengths, Object, Holds, HoldAll}
+use Rattle.heap.specs.Values.{KindsFrom, Value, integer, object, Values, nil, cons, countOf, valueAt, concat, lengths}
+use Rattle.heap.specs.Apart.{ObjectApart, HoldsApart, HoldAllApart}
 use Rattle.heap.specs.Words.{blockFields}
 use Rattle.layout_proof.specs.Held.{held, Keeps, Placed}
 use Rattle.layout_proof.proofs.HeldLemmas.{keeps-refl, location-grows}
@@ -33,26 +34,26 @@ use Rattle.memory_proof.proofs.Shown.{L, heapOf}
 use Rattle.memory_proof.proofs.Variables.{variable, variables, variables-append, variables-length, variables-kept, variables-kinds}
 
 module _ {G : Shape} {N n : ℕ} {i : ℕ → ℕ} {roots : List ℕ} (shape : Supported G) (s : Config) (g : Consistent (L G) (heapOf G s) i n roots) (fits : n ≤ N) (most : N ≤ 1048576) (few : length roots ≤ 1048576) where
-  pub object-lies : (c : List Cell) (ch : List (List Cell)) (p : ℕ) → (p ≢ 0 → ReachableFrom (blockFields (G .fields) (s .state .mem)) roots p) → Object (blockFields (G .fields) (s .state .mem)) i p (c ∷ ch) → Lies G N (blockFields (G .fields) (s .state .mem)) p (c ∷ ch)
+  pub object-lies : (c : List Cell) (ch : List (List Cell)) (p : ℕ) → (p ≢ 0 → ReachableFrom (blockFields (G .fields) (s .state .mem)) roots p) → ObjectApart (blockFields (G .fields) (s .state .mem)) i p (c ∷ ch) → Lies G N (blockFields (G .fields) (s .state .mem)) p (c ∷ ch)
   object-lies c [] p r o = let b = reachable-block shape s g fits most few p (r (o .0)) in (b .number, b .inside, b .address, o .1, o .3)
   object-lies c (d ∷ ch) p r o =
       let b = reachable-block shape s g fits most few p (r (o .0)) in
       (b .number, b .inside, b .address, o .1, o .3, o .4, object-lies d ch (o .3 .fst) (λ nz. follow p (r (o .0)) nz (rw (o .4) (omega (arith, occ-pointers (o .3 .fst) (o .1) (c ++ (o .3 ∷ [])), occ-pointers (o .3 .fst) c (o .3 ∷ []), same-self (o .3 .fst))))) (o .6))
 
-  pub object-may-share : (ch : List (List Cell)) (p k : ℕ) → k ≤ 1048576 → (p ≢ 0 → ReachableFrom (blockFields (G .fields) (s .state .mem)) roots p) → Object (blockFields (G .fields) (s .state .mem)) i p ch → MayShare G true N k (s .state .mem) (pointers (concat ch))
+  pub object-may-share : (ch : List (List Cell)) (p k : ℕ) → k ≤ 1048576 → (p ≢ 0 → ReachableFrom (blockFields (G .fields) (s .state .mem)) roots p) → ObjectApart (blockFields (G .fields) (s .state .mem)) i p ch → MayShare G true N k (s .state .mem) (pointers (concat ch))
   object-may-share ch p k h r o = record {
     each = λ e q m nz.
         let b = reachable-block shape s g fits most few q (object-pointers {fields′ = blockFields (G .fields) (s .state .mem)} {linked′ = i} (ReachableFrom (blockFields (G .fields) (s .state .mem)) roots) (λ b r. refl) (λ b r. refl) (λ y b r nz m. follow y r nz m) ch p r o q nz m) in
         (b .number, b .inside, b .address, omega (arith, b .small));
   }
 
-as-variables-all : (ext : ℕ → Bool) (sh : ℕ → List ℕ) (f : ℕ → List Cell) (i : ℕ → ℕ) (v : ℕ) (vs : Values) (cs : List Cell) → KindsFrom ext v vs → HoldAll sh f i vs cs → asVariables ext v cs ≡ cs
+as-variables-all : (ext : ℕ → Bool) (sh : ℕ → List ℕ) (f : ℕ → List Cell) (i : ℕ → ℕ) (v : ℕ) (vs : Values) (cs : List Cell) → KindsFrom ext v vs → HoldAllApart sh f i vs cs → asVariables ext v cs ≡ cs
 as-variables-all ext sh f i v nil cs k a = rw a
 as-variables-all ext sh f i v (cons (integer w) vs) cs k a = rw (a .2, k .0, as-variables-all ext sh f i (suc v) vs (a .1) (k .1) (a .4)) (ap (λ (x : ℕ). cell x (a .0 .snd) ∷ a .1) (sym (a .3 .0)))
 as-variables-all ext sh f i v (cons (object t us) vs) cs k a = rw (a .2, k .0, as-variables-all ext sh f i (suc v) vs (a .1) (k .1) (a .4))
 
 -- an object's blocks are read as its chunks
-object-reads : (fields : ℕ → List Cell) (linked : ℕ → ℕ) (p : ℕ) (c : List Cell) (ch : List (List Cell)) → Object fields linked p (c ∷ ch) → ReadObject fields p c ch
+object-reads : (fields : ℕ → List Cell) (linked : ℕ → ℕ) (p : ℕ) (c : List Cell) (ch : List (List Cell)) → ObjectApart fields linked p (c ∷ ch) → ReadObject fields p c ch
 object-reads fields linked p c [] o = (o .1, o .3)
 object-reads fields linked p c (d ∷ ch) o = (o .1, o .3, o .4, object-reads fields linked (o .3 .fst) d ch (o .6))
 
@@ -80,10 +81,10 @@ module _ {G : Shape} (words : ℕ → ℕ) where
         fst-held : variable ext s e .fst ≡ held s (location (2 * e))
         fst-held = rw linked
 
-        H : Holds (objectSizes G) (blockFields (G .fields) (s .state .mem)) (rep .linked) (object tag (cons v ws)) (variable ext s e)
+        H : HoldsApart (objectSizes G) (blockFields (G .fields) (s .state .mem)) (rep .linked) (object tag (cons v ws)) (variable ext s e)
         H = rw (variables-length ext s 0 e, is) at (hold-at (objectSizes G) (blockFields (G .fields) (s .state .mem)) (rep .linked) (variables ext s 0 e) (variable ext s e) [] values (rep .holds))
 
-        by : (ch : List (List Cell)) → Object (blockFields (G .fields) (s .state .mem)) (rep .linked) (variable ext s e .fst) ch → HoldAll (objectSizes G) (blockFields (G .fields) (s .state .mem)) (rep .linked) (cons v ws) (concat ch) → lengths ch ≡ objectSizes G (countOf (cons v ws))
+        by : (ch : List (List Cell)) → ObjectApart (blockFields (G .fields) (s .state .mem)) (rep .linked) (variable ext s e .fst) ch → HoldAllApart (objectSizes G) (blockFields (G .fields) (s .state .mem)) (rep .linked) (cons v ws) (concat ch) → lengths ch ≡ objectSizes G (countOf (cons v ws))
             → Does words (loadObject G ext′ e (countOf (cons v ws))) s
             (λ u. Performs (objectSizes G) (L G) (heapOf G s) (load (countOf (cons v ws))) (variables ext s 0 e ++ (variable ext s e ∷ [])) (heapOf G u) (variables ext′ u 0 (e + countOf (cons v ws))) × Keeps (Under e) s u)
         by [] o a sz = let z : _≡_ {A = ℕ} 0 1 = cc (a .2) in absurd (omega arith)

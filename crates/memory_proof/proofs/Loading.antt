@@ -13,11 +13,11 @@ use Rattle.records.specs.declared.code.Code.the-variants.{MOVS, MOVL}
 use Rattle.word.specs.Words.{choose}
 use Rattle.trees.specs.Tree.{nop, leaf, seq}
 use Rattle.layout.specs.declared.config.Shape.{Shape}
-use Rattle.layout.specs.Config.{blockWords, operands, positions, TEMP, fstOffset, sndOffset, stackOffset}
+use Rattle.layout.specs.Config.{blockWords, operands, positions, TEMP, fstOffset, sndOffset, stackOffset, registerFor}
 use Rattle.layout.specs.Positions.{location}
 use Rattle.machine_step.specs.Step.{Config}
 use Rattle.machine_step.specs.View.{upd}
-use Rattle.memory.specs.Blocks.{shareRegister, blockRegister, loadField}
+use Rattle.memory.specs.Blocks.{shareRegister, loadField}
 use Rattle.memory.specs.Objects.{loadValue, loadValues}
 use Rattle.heap.specs.Blocks.{Cell, cell, pointers}
 use Rattle.heap.specs.Counting.{same, occ}
@@ -119,7 +119,7 @@ module _ (G : Shape) (ext : ℕ → Bool) where
 
 module _ {G : Shape} (words : ℕ → ℕ) where
   pub load-field : {N : ℕ} (s : Config) (l b j o w : ℕ) → Placed G N s → s .state .reg b ≡ blockAddress G j → j < N → o ≡ 8 * w → w < blockWords G → 4 ≤ l → l < operands G
-      → Does words (loadField G l b o) s (λ r. (held r l ≡ s .state .mem (wordAt (G .fields) j w)) × (r .state .reg (blockRegister l) ≡ s .state .mem (wordAt (G .fields) j w)) × (r .state .mem ≡ s .state .mem) × Keeps (λ x. (x ≢ 1) × (x ≢ l)) s r)
+      → Does words (loadField G l b o) s (λ r. (held r l ≡ s .state .mem (wordAt (G .fields) j w)) × (r .state .reg (registerFor l) ≡ s .state .mem (wordAt (G .fields) j w)) × (r .state .mem ≡ s .state .mem) × Keeps (λ x. (x ≢ 1) × (x ≢ l)) s r)
   load-field {N} s l b j o w v p h q f a g = by (ltb l 16) refl
     where
       by : (c : Bool) → ltb l 16 ≡ c → Does words (cond c (leaf (MOVL l b o) refl) (seq (leaf (MOVL 1 b o) refl) (leaf (MOVS 1 0 (stackOffset G l)) refl))) s
@@ -146,7 +146,7 @@ module _ {G : Shape} (words : ℕ → ℕ) where
       where
         by : (r : Config) → held r (location (2 * v + 1)) ≡ s .state .mem (wordAt (G .fields) j (3 + 2 * t)) → r .state .mem ≡ s .state .mem → Keeps (λ x. (x ≢ 1) × (x ≢ location (2 * v + 1))) s r → (c : Bool)
             → MayShare G sh N 1 (s .state .mem) (choose c 0 (s .state .mem (wordAt (G .fields) j (2 + 2 * t))) ∷ [])
-            → Does words (cond c nop (seq (loadField G (location (2 * v)) b (fstOffset t)) (cond sh (shareRegister (blockRegister (location (2 * v))) 1) nop))) r
+            → Does words (cond c nop (seq (loadField G (location (2 * v)) b (fstOffset t)) (cond sh (shareRegister (registerFor (location (2 * v))) 1) nop))) r
             (λ q. (_≡_ {A = Cell} (cell (choose c 0 (held q (location (2 * v)))) (held q (location (2 * v + 1)))) (cell (choose c 0 (s .state .mem (wordAt (G .fields) j (2 + 2 * t)))) (s .state .mem (wordAt (G .fields) j (3 + 2 * t)))))
             × Counted G sh (choose c 0 (s .state .mem (wordAt (G .fields) j (2 + 2 * t))) ∷ []) (s .state .mem) (q .state .mem) × Keeps (λ x. (x ≢ 1) × (x ≢ location (2 * v)) × (x ≢ location (2 * v + 1))) s q)
         by r e m k true f = one refl (rw e, null sh (s .state .mem) (r .state .mem) m, keeps-sub (λ x y. (y .0, y .2)) k)
@@ -160,14 +160,14 @@ module _ {G : Shape} (words : ℕ → ℕ) where
             let lt = location-grows (2 * v) (2 * v + 1) (omega arith) in
             then (load-field r (location (2 * v)) b j (fstOffset t) (2 + 2 * t) (placed-keeps (omega arith) k en) (keeps-register k b b16 (b1, λ q. ne (sym q)) ∙ p) h (omega arith) (omega arith) (c₀ .0) (c₀ .1)) (λ q d.
             let g : q .state .mem ≡ s .state .mem = d .2 ∙ m in
-            let w : q .state .reg (blockRegister (location (2 * v))) ≡ s .state .mem (wordAt (G .fields) j (2 + 2 * t)) = d .1 ∙ ap (λ (x : ℕ → ℕ). x (wordAt (G .fields) j (2 + 2 * t))) m in
+            let w : q .state .reg (registerFor (location (2 * v))) ≡ s .state .mem (wordAt (G .fields) j (2 + 2 * t)) = d .1 ∙ ap (λ (x : ℕ → ℕ). x (wordAt (G .fields) j (2 + 2 * t))) m in
             let kq : Keeps (λ x. (x ≢ 1) × (x ≢ location (2 * v)) × (x ≢ location (2 * v + 1))) s q = keeps-trans (keeps-sub (λ x y. (y .0, y .2)) k) (keeps-sub (λ x y. (y .0, y .1)) (d .3)) in
-            let f₁ : MayShare G sh N 1 (q .state .mem) (q .state .reg (blockRegister (location (2 * v))) ∷ []) = rw (w, g) f in
+            let f₁ : MayShare G sh N 1 (q .state .mem) (q .state .reg (registerFor (location (2 * v))) ∷ []) = rw (w, g) f in
             weaken (λ u z.
             let a₀ : held u (location (2 * v)) ≡ s .state .mem (wordAt (G .fields) j (2 + 2 * t)) = z .1 .kept (location (2 * v)) tt ∙ d .0 ∙ ap (λ (x : ℕ → ℕ). x (wordAt (G .fields) j (2 + 2 * t))) m in
             let a₁ : held u (location (2 * v + 1)) ≡ s .state .mem (wordAt (G .fields) j (3 + 2 * t)) = z .1 .kept (location (2 * v + 1)) tt ∙ d .3 .kept (location (2 * v + 1)) (omega arith, omega (arith, lt .1)) ∙ e in
             (rw (a₀, a₁), rw (w, g) at (z .0), keeps-trans kq (keeps-sub (λ x y. tt) (z .1))))
-            (share-part q (blockRegister (location (2 * v))) sh (placed-keeps (omega (arith, c₀ .0, c₁ .0)) kq en) f₁))
+            (share-part q (registerFor (location (2 * v))) sh (placed-keeps (omega (arith, c₀ .0, c₁ .0)) kq en) f₁))
 
     pub load-values : {N : ℕ} (s : Config) (v k free b j K : ℕ) → Placed G N s → (1 ≤ k → s .state .reg b ≡ blockAddress G j) → j < N → b < 16 → b ≢ 1 → ((p : ℕ) → 2 * v < p → p < 2 * (v + k) → location p ≢ b) → k ≤ free → free ≤ G .fields → 2 * (v + k) < positions G
         → k ≤ K → MayShare G sh N K (s .state .mem) (pointers (shownBy G ext v k (s .state .mem) j free))

@@ -1,11 +1,10 @@
 -- How many blocks an object has, and that they are just enough for its values.
-use mathlib.Core.List.{List, [], _∷_}
+use mathlib.Core.List.{List, _∷_}
 use mathlib.Core.Path.{_≡_}
 use Prim.Native.Nat.{ℕ, zero, suc, _+_, _-_, _*_, _≤_, _<_}
 use native.Mathlib.Nat.{div-add-mod, mod-lt}
 use native.Mathlib.Omega.{arith}
 use lib.ListN.{length}
-use Rattle.layout.specs.declared.config.Shape.{Shape}
 use Rattle.memory.specs.Objects.{chunks, otherSizes}
 
 pub other-sizes-length : (c m n : ℕ) (xs : List ℕ) → length (otherSizes c m n xs) ≡ m + length xs

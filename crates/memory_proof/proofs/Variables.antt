@@ -5,20 +5,19 @@ use mathlib.Core.Path.{_≡_, refl, _∙_, ap}
 use Prim.Native.Nat.{ℕ, zero, suc, _+_, _*_, _≤_, _<_}
 use native.Mathlib.Omega.{arith}
 use lib.ListN.{length}
-use Rattle.word.specs.Words.{choose}
 use Rattle.layout.specs.Positions.{location}
 use Rattle.machine_step.specs.Step.{Config}
-use Rattle.heap.specs.Blocks.{Cell, cell, pointers}
+use Rattle.heap.specs.Blocks.{Cell, pointers}
 use Rattle.heap.proofs.CountingLemmas.{pointers-length}
 use Rattle.layout_proof.specs.Held.{held, Keeps}
-use Rattle.layout.specs.Frame.{heldIn, variableIn, variablesIn}
+use Rattle.layout.specs.Frame.{variableIn, variablesIn}
 
 module _ (ext : ℕ → Bool) where
   abbrev pub variable : Config → ℕ → Cell
-  variable c v = variableIn (c .state .reg) (c .state .stk) v
+  variable c v = variableIn ext (c .state .reg) (c .state .stk) v
 
   abbrev pub variables : Config → ℕ → ℕ → List Cell
-  variables c v k = variablesIn (c .state .reg) (c .state .stk) v k
+  variables c v k = variablesIn ext (c .state .reg) (c .state .stk) v k
 
   pub variables-snoc : (c : Config) (v k : ℕ) → variables c v (suc k) ≡ variables c v k ++ (variable c (v + k) ∷ [])
   variables-snoc c v zero = let e : v + 0 ≡ v = omega arith in rw e

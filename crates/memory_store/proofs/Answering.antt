@@ -8,16 +8,16 @@ use native.Mathlib.Decide.{ℕ-discrete, decLt}
 use lib.Dec.{ltb}
 use borrow.Author.Tests.{lt-ltb, le-ltb, eq-eqb, ne-eqb, ltb-true}
 use Rattle.records.specs.declared.context.ContextRead.the-variants.{Good}
-use Rattle.records.specs.Contexts.{checkedContext}
+use Rattle.records.specs.Contexts.{checkedContext, bindingsIn, onContext}
 use Rattle.trees.specs.Tree.{Tree, flat}
 use Rattle.emit.specs.declared.answer.Answer.{Answer}
-use Rattle.emit.specs.declared.answer.Answer.the-variants.{Missing, Position}
+use Rattle.emit.specs.declared.answer.Answer.the-variants.{Context, Missing, Position}
 use Rattle.emit.specs.Answers.{output, Answers}
 use Rattle.emit.proofs.Wrote.{answers}
 use Rattle.layout.specs.declared.config.Shape.{Shape}
 use Rattle.layout.specs.Config.{Supported, positions}
 use Rattle.memory.specs.Objects.{extIn, storeObject}
-use Rattle.memory.specs.Answered.{onContext, variablesIn, treeAnswer, storeTree, storeHighest, storeAnswer}
+use Rattle.memory.specs.Answered.{treeAnswer, storeTree, storeHighest, storeAnswer}
 
 -- the last variable's Snd
 pub last-fits : (k n : ℕ) → 1 ≤ n → ltb (2 * k) (n + 1) ≡ ltb (2 * k - 1) n
@@ -50,14 +50,14 @@ module _ (g : Shape) (counter room : ℕ) (s : List ℕ) (k n : ℕ) (h : checke
   no-position l e = rw (h, le-ltb k n l, e)
 
   pub tree : storeObject g (extIn s 0) (k - n) n ≡ storeTree g s n
-  tree = ap (λ c. storeObject g (extIn s 0) (variablesIn c - n) n) (sym h)
+  tree = ap (λ c. storeObject g (extIn s 0) (bindingsIn c - n) n) (sym h)
 
   pub stored : n ≤ k → ltb (storeHighest k n) (positions g) ≡ true → treeAnswer counter room (storeObject g (extIn s 0) (k - n) n) ≡ storeAnswer g counter room s n
   unfolding storeAnswer
   stored l e =
       ap (treeAnswer counter room) tree
       ∙ second (ltb k n) (ltb (storeHighest k n) (positions g)) Missing (treeAnswer counter room (storeTree g s n)) Position (le-ltb k n l) e
-      ∙ ap (λ c. onContext c answered) (sym h)
+      ∙ ap (λ c. onContext c answered Context) (sym h)
     where
       answered : ℕ → Answer
       answered k = cond (ltb k n) Missing (cond (ltb (storeHighest k n) (positions g)) (treeAnswer counter room (storeTree g s n)) Position)

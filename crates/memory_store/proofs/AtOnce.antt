@@ -15,9 +15,10 @@ use Rattle.emit.specs.declared.answer.Answer.the-variants.{Written}
 use Rattle.emit.specs.Emitted.{Emits}
 use Rattle.emit.specs.Answers.{granted, Answers}
 use Rattle.emit.proofs.Wrote.{answers, written-whole, granted-all}
+use Rattle.records.specs.Names.{lastLabel}
 
 pub at-once : {o o′ : List ℕ} {p q : Cursor} (t : Tree) (counter : ℕ) → Emits o p o′ q t → p .at ≡ 0 → p .counter ≡ counter
-    → counter + labels t ≤ 2147483647 → 24 * size t ≤ length o
+    → counter + labels t ≤ lastLabel → 24 * size t ≤ length o
     → Answers o o′ (Written (q .at / 24) (q .counter)) (granted counter (length o) (24 * size t) (labels t)) (flat t counter)
 at-once {o} {q = q} t counter w i j l r =
     let a : q .at ≡ 24 * size t = omega (arith, w .place) in

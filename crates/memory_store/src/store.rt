@@ -150,7 +150,7 @@ fn store_others(
     let mut blocks = m;
     let mut left = n;
     while 0 < blocks {
-        let rest = layout::utils::less(left, each);
+        let rest = layout::utils::excess(left, each);
         q = store_other(out, q, g, table, kinds, first, each, v + rest, left - rest);
         left = rest;
         blocks -= 1;
@@ -174,7 +174,7 @@ pub fn store_some(
 {
     let fields = g.fields;
     let each = fields - 1;
-    let rest = layout::utils::less(n, fields);
+    let rest = layout::utils::excess(n, fields);
     let pointer = layout::utils::location_at(table, 2 * (v + rest));
     let q = store_values(out, p, g, table, kinds, first, v + rest, n - rest, fields);
     let s = block::acquire_block(out, q, g, pointer);
@@ -231,7 +231,7 @@ fn object_records(g: Shape, n: u64) -> u64
     ensures { λ r. ⌜ (r ≡ objectRecords g n) × (r ≤ 49 * n + 600) ⌝ }
 {
     let each = g.fields - 1;
-    let rest = layout::utils::less(n, g.fields);
+    let rest = layout::utils::excess(n, g.fields);
     (16 * g.fields + 17) * ((rest + (each - 1)) / each + 1) + 4
 }
 

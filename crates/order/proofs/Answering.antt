@@ -12,17 +12,16 @@ use Rattle.records.specs.declared.context.Flaw.{Flaw}
 use Rattle.records.specs.declared.context.ContextRead.{ContextRead}
 use Rattle.records.specs.declared.context.ContextRead.the-variants.{Good, Bad}
 use Rattle.records.specs.declared.order.Order.{Order}
-use Rattle.records.specs.Contexts.{checkedContext, countedOn}
-use Rattle.records.specs.Orders.{orderOf, orderIn, orderOk, orderStarts}
+use Rattle.records.specs.Contexts.{checkedContext, countedOn, bindingsIn}
+use Rattle.records.specs.Orders.{orderOf, orderIn, orderOk, orderStarts, wanted}
 use Rattle.records.proofs.Conditions.{and-left}
 use Rattle.trees.specs.Tree.{size}
 use Rattle.layout.specs.declared.config.Shape.{Shape}
 use Rattle.layout.specs.declared.config.Shaped.{Shaped}
 use Rattle.layout.specs.declared.config.Shaped.the-variants.{In, NoFrame, NoEdition}
-use Rattle.memory.specs.Answered.{variablesIn}
 use Rattle.order_spec.specs.declared.answer.Answer.{Answer}
 use Rattle.order_spec.specs.declared.answer.Answer.the-variants.{Context, Malformed, Frame}
-use Rattle.order_spec.specs.Writes.{wanted, treeOf, contextAfter}
+use Rattle.order_spec.specs.Writes.{treeOf, contextAfter}
 use Rattle.order_spec.specs.Answered.{Asked, causeOf, accepted, orderIs, decided, answerTo, unframed, recordsOf, orderContext, answerIn}
 use Rattle.order.specs.Answers.{asking, AnswersOrder}
 use Rattle.order.specs.declared.order.Begun.{Begun}
@@ -123,12 +122,12 @@ module _ (G : Shape) (c : List ℕ) (q : Asked) where
     same-records : written G c k (q .bindings) o (q .counter) ≡ recordsOf G c q
     same-records =
         ap (λ (x : Order). written G c k (q .bindings) x (q .counter)) (u .order-is)
-        ∙ ap (λ (z : ContextRead). written G c (variablesIn z) (q .bindings) (orderIs q) (q .counter)) (sym (u .context-good))
+        ∙ ap (λ (z : ContextRead). written G c (bindingsIn z) (q .bindings) (orderIs q) (q .counter)) (sym (u .context-good))
 
     same-context : contextAfter c k (q .bindings) o ≡ orderContext c q
     same-context =
         ap (λ (x : Order). contextAfter c k (q .bindings) x) (u .order-is)
-        ∙ ap (λ (z : ContextRead). contextAfter c (variablesIn z) (q .bindings) (orderIs q)) (sym (u .context-good))
+        ∙ ap (λ (z : ContextRead). contextAfter c (bindingsIn z) (q .bindings) (orderIs q)) (sym (u .context-good))
 
     output : Answer → List ℕ → List ℕ → List ℕ
     output x o w = cond (accepted x) (sets o 0 w) o

@@ -22,41 +22,42 @@ use Rattle.order_spec.specs.declared.answer.Answer.the-variants.{Accepted, Miss
 use Rattle.order_spec.specs.Writes.{countOk, present, kindsOk, asked}
 use Rattle.order_spec.specs.Answered.{accepted}
 use Rattle.order.specs.Decided.{fitting, fits, judged, Leaves}
+use Rattle.records.specs.Names.{lastLabel}
 
 module _ (counter room contextRoom bytes drawn after : ℕ) where
-  pub no-labels : 2147483647 < counter + drawn → Labels ≡ fitting counter room contextRoom bytes drawn after
+  pub no-labels : lastLabel < counter + drawn → Labels ≡ fitting counter room contextRoom bytes drawn after
   unfolding fitting
-  no-labels h = rw (lt-ltb 2147483647 (counter + drawn) h)
+  no-labels h = rw (lt-ltb lastLabel (counter + drawn) h)
 
-  module _ (h : counter + drawn ≤ 2147483647) where
+  module _ (h : counter + drawn ≤ lastLabel) where
     pub no-room : room < bytes → Room bytes ≡ fitting counter room contextRoom bytes drawn after
     unfolding fitting
-    no-room r = rw (le-ltb 2147483647 (counter + drawn) h, lt-ltb room bytes r)
+    no-room r = rw (le-ltb lastLabel (counter + drawn) h, lt-ltb room bytes r)
 
     pub no-context-room : bytes ≤ room → contextRoom < after → Room after ≡ fitting counter room contextRoom bytes drawn after
     unfolding fitting
-    no-context-room r c = rw (le-ltb 2147483647 (counter + drawn) h, le-ltb room bytes r, lt-ltb contextRoom after c)
+    no-context-room r c = rw (le-ltb lastLabel (counter + drawn) h, le-ltb room bytes r, lt-ltb contextRoom after c)
 
     all-fits : bytes ≤ room → after ≤ contextRoom → Accepted (bytes / 24) (counter + drawn) (after / 8) ≡ fitting counter room contextRoom bytes drawn after
     unfolding fitting
-    all-fits r c = rw (le-ltb 2147483647 (counter + drawn) h, le-ltb room bytes r, le-ltb contextRoom after c)
+    all-fits r c = rw (le-ltb lastLabel (counter + drawn) h, le-ltb room bytes r, le-ltb contextRoom after c)
 
   -- what an accepted answer says
-  pub fitting-if : accepted (fitting counter room contextRoom bytes drawn after) ≡ true → (counter + drawn ≤ 2147483647) × (bytes ≤ room) × (after ≤ contextRoom)
+  pub fitting-if : accepted (fitting counter room contextRoom bytes drawn after) ≡ true → (counter + drawn ≤ lastLabel) × (bytes ≤ room) × (after ≤ contextRoom)
   unfolding fitting
-  fitting-if e = by (ltb 2147483647 (counter + drawn)) (ltb room bytes) (ltb contextRoom after) refl refl refl e
+  fitting-if e = by (ltb lastLabel (counter + drawn)) (ltb room bytes) (ltb contextRoom after) refl refl refl e
     where
-      by : (a b d : Bool) → ltb 2147483647 (counter + drawn) ≡ a → ltb room bytes ≡ b → ltb contextRoom after ≡ d
+      by : (a b d : Bool) → ltb lastLabel (counter + drawn) ≡ a → ltb room bytes ≡ b → ltb contextRoom after ≡ d
           → accepted (cond a Labels (cond b (Room bytes) (cond d (Room after) (Accepted (bytes / 24) (counter + drawn) (after / 8))))) ≡ true
-          → (counter + drawn ≤ 2147483647) × (bytes ≤ room) × (after ≤ contextRoom)
+          → (counter + drawn ≤ lastLabel) × (bytes ≤ room) × (after ≤ contextRoom)
       by true b d p q s r = let z : _≡_ {A = ℕ} 0 1 = cc in absurd (omega arith)
       by false true d p q s r = let z : _≡_ {A = ℕ} 0 1 = cc in absurd (omega arith)
       by false false true p q s r = let z : _≡_ {A = ℕ} 0 1 = cc in absurd (omega arith)
       by false false false p q s r =
-          (ltb-false 2147483647 (counter + drawn) p, ltb-false room bytes q, ltb-false contextRoom after s)
+          (ltb-false lastLabel (counter + drawn) p, ltb-false room bytes q, ltb-false contextRoom after s)
 
 -- a count of bindings in place of their bytes
-pub all-granted : (counter room contextRoom bytes drawn count : ℕ) → counter + drawn ≤ 2147483647 → bytes ≤ room → 8 * count ≤ contextRoom
+pub all-granted : (counter room contextRoom bytes drawn count : ℕ) → counter + drawn ≤ lastLabel → bytes ≤ room → 8 * count ≤ contextRoom
     → Accepted (bytes / 24) (counter + drawn) count ≡ fitting counter room contextRoom bytes drawn (8 * count)
 all-granted counter room contextRoom bytes drawn count h r c =
     let m : 8 * count / 8 ≡ count = omega arith in
@@ -78,7 +79,7 @@ module _ {o₀ o₁ : List ℕ} {p need : Cursor} (t : Tree) (after : List ℕ) 
       rw (h, k, m)
 
   module _ {r : Answer} {b : Bool} (room contextRoom : ℕ) (e : r ≡ fitting counter room contextRoom (need .at) (need .counter) (8 * count)) (f : b ≡ accepted r) where
-    pub bounds : b ≡ true → (counter + labels t ≤ 2147483647) × (24 * size t ≤ room) × (8 * count ≤ contextRoom)
+    pub bounds : b ≡ true → (counter + labels t ≤ lastLabel) × (24 * size t ≤ room) × (8 * count ≤ contextRoom)
     bounds g =
         let w = fitting-if counter room contextRoom (need .at) (need .counter) (8 * count) (ap accepted (sym e) ∙ sym f ∙ g) in
         (omega (arith, w .0, d .drawn), omega (arith, w .1, d .place), w .2)

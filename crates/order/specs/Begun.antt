@@ -6,9 +6,8 @@ use mathlib.Core.List.{List, []}
 use Rattle.records.specs.declared.context.ContextRead.the-variants.{Good}
 use Rattle.records.specs.declared.order.Order.{Order}
 use Rattle.records.specs.Contexts.{checkedContext}
-use Rattle.records.specs.Orders.{orderOf, orderIn}
+use Rattle.records.specs.Orders.{orderOf, orderIn, wanted}
 use Rattle.order_spec.specs.declared.answer.Answer.{Answer}
-use Rattle.order_spec.specs.Writes.{wanted}
 use Rattle.order_spec.specs.Answered.{accepted, read}
 use Rattle.order.specs.declared.order.Begun.{Begun}
 use Rattle.order.specs.declared.order.Begun.the-variants.{With, Refused}

@@ -15,11 +15,12 @@ use Rattle.order_spec.specs.declared.answer.Answer.{Answer}
 use Rattle.order_spec.specs.declared.answer.Answer.the-variants.{Accepted, Missing, Kind, Count, Position, Labels, Room}
 use Rattle.order_spec.specs.Writes.{countOk, treeOf, contextAfter, present, kindsOk, asked}
 use Rattle.order_spec.specs.Answered.{accepted}
+use Rattle.records.specs.Names.{lastLabel}
 
 -- 9 and 10: so many bytes of records and labels, and so many bytes of bindings
 unfoldable pub fitting : ℕ → ℕ → ℕ → ℕ → ℕ → ℕ → Answer
 fitting counter room contextRoom bytes drawn after =
-    cond (ltb 2147483647 (counter + drawn)) Labels
+    cond (ltb lastLabel (counter + drawn)) Labels
     (cond (ltb room bytes) (Room bytes)
     (cond (ltb contextRoom after) (Room after) (Accepted (bytes / 24) (counter + drawn) (after / 8))))
 

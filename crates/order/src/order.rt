@@ -9,10 +9,12 @@ ghost use Rattle.records.specs.Contexts.{checkedContext};
 ghost use Rattle.layout.specs.declared.config.Shaped.the-variants.{In};
 ghost use Rattle.layout.specs.Config.{Supported, positions, shapeOf};
 ghost use Rattle.order_spec.specs.Answered.{accepted, unframed};
-ghost use Rattle.order_spec.specs.Writes.{wanted, contextAfter, present, asked};
+ghost use Rattle.order_spec.specs.Writes.{contextAfter, present, asked};
+ghost use Rattle.records.specs.Orders.{wanted};
 ghost use Rattle.order.specs.Answers.{asking, AnswersOrder};
 ghost use Rattle.order.specs.Begun.{Begins};
 ghost use Rattle.order.specs.Decided.{fitting, written, fits, judged, Leaves};
+use records::name::LAST_LABEL;
 use emit::cursor::Cursor;
 use order_check::after;
 use order_check::checks;
@@ -29,11 +31,11 @@ fn grant(counter: u64, room: usize, context_room: usize, need: Cursor, count: u6
     requires { ⌜ (need .counter < 2 ^ 32) × (count < 2 ^ 32) ⌝ }
     ensures { λ r. ⌜ r ≡ fitting counter room «context_room» (need .at) (need .counter) (8 * count) ⌝ }
 {
-    if 2147483647 < counter {
+    if LAST_LABEL < counter {
         return Answer::Labels;
     }
     let drawn = counter + need.counter;
-    if 2147483647 < drawn {
+    if LAST_LABEL < drawn {
         return Answer::Labels;
     }
     if room < need.at {
@@ -169,7 +171,7 @@ fn begin(context: &[u8], order: &[u8], bindings: &[u8]) -> Begun
         return Begun::Refused(Answer::Malformed(1));
     }
     let read = records::order::order_of(records::order::order_in(order));
-    if (m as u64) == checks::wanted(read) {} else {
+    if m == (records::order::wanted(read) as usize) {} else {
         return Begun::Refused(Answer::Malformed(1));
     }
     if order.len() == 24 {} else {

@@ -5,7 +5,8 @@ ghost use mathlib.Core.List.{_++_};
 ghost use Prim.Native.Nat.{_+_, _*_, _-_, _<_, _≤_, _^_};
 ghost use lib.ListN.{length, take};
 ghost use lib.Seq.{sets};
-ghost use Rattle.order_spec.specs.Writes.{kindAt, madeAll, wanted, contextAfter, present};
+ghost use Rattle.order_spec.specs.Writes.{kindAt, madeAll, contextAfter, present};
+ghost use Rattle.records.specs.Orders.{wanted};
 ghost use Rattle.order_check.specs.After.{countAfter};
 use records::binding::Binding;
 use records::binding::Kind;
@@ -20,9 +21,9 @@ pub fn count_after(k: u64, order: Order) -> u64
         Order::Put(_) => k + 1,
         Order::Compute(_, _, _) => k + 1,
         Order::Copy(_, n) => k + (n as u64),
-        Order::Drop => layout::utils::less(k, 1),
-        Order::Store(n, _) => layout::utils::less(k, n as u64) + 1,
-        Order::Load(n) => layout::utils::less(k, 1) + (n as u64),
+        Order::Drop => layout::utils::excess(k, 1),
+        Order::Store(n, _) => layout::utils::excess(k, n as u64) + 1,
+        Order::Load(n) => layout::utils::excess(k, 1) + (n as u64),
         Order::Print(_, _) => k,
     }
 }

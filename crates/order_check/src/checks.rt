@@ -6,23 +6,9 @@ ghost use Prim.Native.Nat.{ℕ, _+_, _*_, _<_, _≤_, _^_};
 ghost use lib.Dec.{ltb, eqb};
 ghost use lib.ListN.{length};
 ghost use Rattle.records.specs.Contexts.{extAt};
-ghost use Rattle.order_spec.specs.Writes.{wanted, countOk, present, kindsOk, asked};
+ghost use Rattle.order_spec.specs.Writes.{countOk, present, kindsOk, asked};
+use records::name::MOST_COUNT;
 use records::order::Order;
-
-// How many bindings follow it.
-pub fn wanted(order: Order) -> u64
-    ensures { λ r. ⌜ r ≡ wanted order ⌝ }
-{
-    match order {
-        Order::Put(_) => 0,
-        Order::Compute(_, _, _) => 0,
-        Order::Copy(_, _) => 0,
-        Order::Drop => 0,
-        Order::Store(_, _) => 0,
-        Order::Load(n) => n as u64,
-        Order::Print(_, _) => 0,
-    }
-}
 
 fn both_below(a: u64, b: u64, k: u64) -> bool
     ensures { λ r. ⌜ r ≡ (ltb a k && ltb b k) ⌝ }
@@ -90,7 +76,7 @@ pub fn count_ok(order: Order) -> bool
     match order {
         Order::Put(_) => true,
         Order::Compute(_, _, _) => true,
-        Order::Copy(_, n) => n <= 2147483647,
+        Order::Copy(_, n) => (n as u64) <= MOST_COUNT,
         Order::Drop => true,
         Order::Store(_, _) => true,
         Order::Load(_) => true,

@@ -15,11 +15,12 @@ use Rattle.records.specs.declared.order.Order.the-variants.{Put, Compute, Copy,
 use Rattle.records.specs.Contexts.{checkedContext, extAt}
 use Rattle.heap.specs.Values.{Value, integer, object, Values, nil, cons, countOf, joined, firstOf, restOf, valueAt, copies, KindsFrom}
 use Rattle.heap.specs.Orders.{listOf}
-use Rattle.order_spec.specs.Writes.{made, madeAll, wanted, kindAt, contextAfter, present, asked}
+use Rattle.order_spec.specs.Writes.{made, madeAll, kindAt, contextAfter, present, asked}
+use Rattle.records.specs.Orders.{wanted}
 use Rattle.word.specs.Results.{result}
 use Rattle.order_spec.specs.Plain.{integerOf, plainly, AsStored, OwedKinds}
 use Rattle.order_context_proof.proofs.Bindings.{good-length, good-append, good-take, good-made, good-made-all}
-use Rattle.order_context_proof.proofs.Kinds.{ext-left, ext-right, ext-take, isExt, ext-made, ext-made-all, kind-at}
+use Rattle.order_context_proof.proofs.KindsAfter.{ext-left, ext-right, ext-take, isExt, ext-made, ext-made-all, kind-at}
 use Rattle.order_context_proof.proofs.ValueKinds.{count-joined, count-first, count-copies, isInteger, kinds-at, kinds-joined, kinds-first, kinds-copies, kinds-cons, kinds-moved}
 
 -- an accepted context with a binding for each value, of its kind

@@ -17,6 +17,7 @@ use Rattle.machine_step.specs.Memory.{heapOk}
 use Rattle.machine.specs.Run.{codesOf, started, ran}
 use Rattle.order_formed_proof.proofs.Formed.{Formed}
 use Rattle.order_formed_proof.proofs.Records.{formed-records}
+use Rattle.records.specs.Names.{lastLabel}
 
 -- the instructions of the bytes of a list are the list
 pub codes-back : (xs : List Code) → Each WellFormedCode xs → codesOf (length xs) (joined codeBytes xs) ≡ xs
@@ -31,7 +32,7 @@ unfolding ran
 ran-list block words xs limit v w h e = rw (e, records-read-back .codes-accepted xs w 65536 (omega arith), codes-back xs w)
 
 -- a tree's records
-pub ran-started : (block : ℕ) (words : ℕ → ℕ) (t : Tree) (c limit : ℕ) (v : View) → Formed t → c + labels t ≤ 2147483647 → size t ≤ 65536 → heapOk block (v .size) ≡ true
+pub ran-started : (block : ℕ) (words : ℕ → ℕ) (t : Tree) (c limit : ℕ) (v : View) → Formed t → c + labels t ≤ lastLabel → size t ≤ 65536 → heapOk block (v .size) ≡ true
     → ran block words (joined codeBytes (flat t c)) limit v ≡ started words (flat t c) limit v
 ran-started block words t c limit v f h m e =
     ran-list block words (flat t c) limit v (formed-records t c 0 f (omega arith)) (omega (arith, length-flat t c 0)) e

@@ -7,8 +7,7 @@ use lib.Dec.{ltb}
 use borrow.Author.Tests.{lt-ltb, le-ltb}
 use Rattle.trees.specs.Tree.{Tree}
 use Rattle.layout.specs.declared.config.Shape.{Shape}
-use Rattle.layout.specs.Config.{Supported, STACK, TEMP, HEAP, FREE, RETURN1, RETURN2, stackOffset, fstOffset, sndOffset, MINUSONE}
-use Rattle.memory.specs.Blocks.{blockRegister}
+use Rattle.layout.specs.Config.{Supported, STACK, TEMP, HEAP, FREE, RETURN1, RETURN2, stackOffset, fstOffset, sndOffset, MINUSONE, registerFor}
 use Rattle.order_formed_proof.proofs.Formed.{Formed}
 
 -- where the test does not matter
@@ -62,7 +61,7 @@ pub return2 : RETURN2 < 16
 return2 = omega arith
 
 -- an operand itself, or TEMP for a spill
-pub block-register : (w : ℕ) → blockRegister w < 16
+pub block-register : (w : ℕ) → registerFor w < 16
 block-register w = by (decLt w 16)
   where
     by : Dec (w < 16) → cond (ltb w 16) w TEMP < 16

@@ -13,6 +13,7 @@ use Rattle.records.proofs.CodesBack.{labelled, ok-fields}
 use Rattle.code.specs.declared.emitters.Condition.{Condition}
 use Rattle.code.specs.declared.emitters.Condition.the-variants.{Equal, NotEqual, Less, LessOrEqual, Greater, GreaterOrEqual}
 use Rattle.code.specs.Code.{jumpIf}
+use Rattle.records.specs.Names.{firstUnnamed}
 
 -- a label that a record may hold
 pub record Held (l : ℕ) : Type 0 where
@@ -20,8 +21,8 @@ pub record Held (l : ℕ) : Type 0 where
   pub ok : labelHeld l ≡ true
 
 -- those that are drawn, and the names of print's functions: from 1 to 2^31 + 3
-pub drawn : {l : ℕ} → 0 < l → l < 2147483652 → Held l
-drawn {l} z h = record { fits = omega arith; ok = rw (ne-eqb l 0 (omega arith), lt-ltb l 2147483652 h) }
+pub drawn : {l : ℕ} → 0 < l → l < firstUnnamed → Held l
+drawn {l} z h = record { fits = omega arith; ok = rw (ne-eqb l 0 (omega arith), lt-ltb l firstUnnamed h) }
 
 module _ (c : Code) (a : fieldsOf c .a < 16) (b : fieldsOf c .b < 16) (o : fieldsOf c .offset < 2 ^ 64) (v : fieldsOf c .value < 2 ^ 64) where
   general : fieldsOf c .label < 2 ^ 32 → labelOk (labelled c) (fieldsOf c .label) ≡ true → WellFormedCode c

@@ -9,17 +9,18 @@ use lib.ListN.{length}
 use borrow.Author.Tests.{eqb-true, ltb-false, leb-true}
 use Rattle.records.specs.declared.context.ContextRead.{ContextRead}
 use Rattle.records.specs.declared.context.ContextRead.the-variants as checked
-use Rattle.records.specs.Contexts.{checkedContext, countedOn}
-use Rattle.records.specs.Orders.{orderStarts}
+use Rattle.records.specs.Contexts.{checkedContext, countedOn, onContext}
+use Rattle.records.specs.Orders.{orderStarts, wanted}
 use Rattle.records.proofs.Conditions.{chosen, passed}
 use Rattle.records.proofs.ContextsRead.{counted-good}
 use Rattle.trees.specs.Tree.{Tree, labels, size}
 use Rattle.layout.specs.declared.config.Shape.{Shape}
 use Rattle.layout.specs.Config.{positions}
 use Rattle.order_spec.specs.declared.answer.Answer.{Answer}
-use Rattle.order_spec.specs.declared.answer.Answer.the-variants.{Accepted, Malformed, Frame, Missing, Kind, Count, Position, Labels, Room}
-use Rattle.order_spec.specs.Writes.{wanted, countOk, treeOf, contextAfter, present, kindsOk, asked}
-use Rattle.order_spec.specs.Answered.{Asked, accepted, orderIs, granted, decided, onContext, answerTo, unframed}
+use Rattle.order_spec.specs.declared.answer.Answer.the-variants.{Accepted, Context, Malformed, Frame, Missing, Kind, Count, Position, Labels, Room}
+use Rattle.order_spec.specs.Writes.{countOk, treeOf, contextAfter, present, kindsOk, asked}
+use Rattle.order_spec.specs.Answered.{Asked, accepted, orderIs, granted, decided, answerTo, unframed}
+use Rattle.records.specs.Names.{lastLabel}
 
 -- the answer to an accepted order of records t and the context after them
 abbrev pub acceptance : Asked → Tree → List ℕ → Answer
@@ -33,29 +34,29 @@ pub record Taken (G : Shape) (context : List ℕ) (q : Asked) (k : ℕ) : Type 0
   pub of-kind : kindsOk context k (q .bindings) (orderIs q) ≡ true
   pub counted : countOk (orderIs q) ≡ true
   pub placed : asked context k (q .bindings) (orderIs q) ≤ positions G
-  pub labelled : q .counter + labels (treeOf G context k (q .bindings) (orderIs q)) ≤ 2147483647
+  pub labelled : q .counter + labels (treeOf G context k (q .bindings) (orderIs q)) ≤ lastLabel
   pub records-fit : 24 * size (treeOf G context k (q .bindings) (orderIs q)) ≤ q .recordsRoom
   pub context-fits : length (contextAfter context k (q .bindings) (orderIs q)) ≤ q .contextRoom
   pub answer : answerTo G context q ≡ acceptance q (treeOf G context k (q .bindings) (orderIs q)) (contextAfter context k (q .bindings) (orderIs q))
 
-on-good : (c : ContextRead) (f : ℕ → Answer) → accepted (onContext c f) ≡ true → (k : ℕ) × (c ≡ checked.Good k) × (accepted (f k) ≡ true)
+on-good : (c : ContextRead) (f : ℕ → Answer) → accepted (onContext c f Context) ≡ true → (k : ℕ) × (c ≡ checked.Good k) × (accepted (f k) ≡ true)
 on-good (checked.Good k) f e = (k, refl, e)
 on-good (checked.Bad flaw) f e = let z : _≡_ {A = ℕ} 0 1 = cc in absurd (omega arith)
 
 module _ (q : Asked) (t : Tree) (after : List ℕ) where
   pub record Granted : Type 0 where
-    pub labelled : q .counter + labels t ≤ 2147483647
+    pub labelled : q .counter + labels t ≤ lastLabel
     pub records-fit : 24 * size t ≤ q .recordsRoom
     pub context-fits : length after ≤ q .contextRoom
     pub answer : granted q t after ≡ acceptance q t after
 
   granted-if : accepted (granted q t after) ≡ true → Granted
   granted-if e =
-      let a = passed accepted (ltb 2147483647 (q .counter + labels t)) Labels _ refl e in
+      let a = passed accepted (ltb lastLabel (q .counter + labels t)) Labels _ refl e in
       let b = passed accepted (ltb (q .recordsRoom) (24 * size t)) (Room (24 * size t)) _ refl (a .1) in
       let c = passed accepted (ltb (q .contextRoom) (length after)) (Room (length after)) _ refl (b .1) in
       record {
-        labelled = ltb-false 2147483647 (q .counter + labels t) (a .0);
+        labelled = ltb-false lastLabel (q .counter + labels t) (a .0);
         records-fit = ltb-false (q .recordsRoom) (24 * size t) (b .0);
         context-fits = ltb-false (q .contextRoom) (length after) (c .0);
         answer = rw (a .0, b .0, c .0);
@@ -136,7 +137,7 @@ unframed-refused context q =
     on-any (checkedContext context) _
     (λ k. on-any (countedOn k (checkedContext (q .bindings))) _ (λ m. read-any (orderStarts (q .order)) (eqb m (wanted (orderIs q))) (eqb (length (q .order)) 24)))
   where
-    on-any : (c : ContextRead) (f : ℕ → Answer) → ((k : ℕ) → accepted (f k) ≡ false) → accepted (onContext c f) ≡ false
+    on-any : (c : ContextRead) (f : ℕ → Answer) → ((k : ℕ) → accepted (f k) ≡ false) → accepted (onContext c f Context) ≡ false
     on-any (checked.Good k) f h = h k
     on-any (checked.Bad flaw) f h = refl
 

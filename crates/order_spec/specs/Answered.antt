@@ -7,20 +7,18 @@ use lib.Dec.{ltb, leb, eqb}
 use lib.ListN.{length, getD}
 use lib.Seq.{sets}
 use Rattle.records.specs.Causes.{ACCEPTED, MALFORMED, OPERAND, MISSING, KIND, COUNT, POSITION, LABELS, ROOM, EDITION}
-use Rattle.records.specs.declared.context.ContextRead.{ContextRead}
-use Rattle.records.specs.declared.context.ContextRead.the-variants.{Good, Bad}
 use Rattle.records.specs.declared.order.Order.{Order}
-use Rattle.records.specs.Contexts.{checkedContext, countedOn, flawCause}
-use Rattle.records.specs.Orders.{orderOf, orderIn, orderStarts}
+use Rattle.records.specs.Contexts.{checkedContext, countedOn, flawCause, onContext, bindingsIn}
+use Rattle.records.specs.Orders.{orderOf, orderIn, orderStarts, wanted}
 use Rattle.records.specs.ReadBack.{joined, codeBytes}
 use Rattle.trees.specs.Tree.{Tree, labels, size, flat}
 use Rattle.layout.specs.declared.config.Shape.{Shape}
 use Rattle.layout.specs.declared.config.Shaped.{Shaped}
 use Rattle.layout.specs.Config.{inShape, positions}
-use Rattle.memory.specs.Answered.{variablesIn}
 use Rattle.order_spec.specs.declared.answer.Answer.{Answer}
 use Rattle.order_spec.specs.declared.answer.Answer.the-variants.{Accepted, Context, Malformed, Frame, Missing, Kind, Count, Position, Labels, Room, Edition}
-use Rattle.order_spec.specs.Writes.{wanted, countOk, treeOf, contextAfter, present, kindsOk, asked}
+use Rattle.order_spec.specs.Writes.{countOk, treeOf, contextAfter, present, kindsOk, asked}
+use Rattle.records.specs.Names.{lastLabel}
 
 -- document 01's number and values for each answer: 0, with the records, the bindings and the counter after them, where the order is accepted
 abbrev pub causeOf : Answer → List ℕ
@@ -67,7 +65,7 @@ orderIs q = orderOf (orderIn (q .order))
 
 -- how many variables a context has
 abbrev pub placesIn : List ℕ → ℕ
-placesIn context = variablesIn (checkedContext context)
+placesIn context = bindingsIn (checkedContext context)
 
 -- the records of an order as a tree, and the context after it
 abbrev pub orderTree : Shape → List ℕ → Asked → Tree
@@ -79,7 +77,7 @@ orderContext context q = contextAfter context (placesIn context) (q .bindings) (
 -- 9 and 10: records of t, and the context after them
 abbrev pub granted : Asked → Tree → List ℕ → Answer
 granted q t after =
-    cond (ltb 2147483647 (q .counter + labels t)) Labels
+    cond (ltb lastLabel (q .counter + labels t)) Labels
     (cond (ltb (q .recordsRoom) (24 * size t)) (Room (24 * size t))
     (cond (ltb (q .contextRoom) (length after)) (Room (length after)) (Accepted (size t) (q .counter + labels t) (length after / 8))))
 
@@ -93,10 +91,6 @@ decided g context k q =
     (granted q (treeOf g context k (q .bindings) (orderIs q)) (contextAfter context k (q .bindings) (orderIs q)))
     Position) Count) Kind) Missing
 
-abbrev pub onContext : ContextRead → (ℕ → Answer) → Answer
-onContext (Good k) answer = answer k
-onContext (Bad flaw) answer = Context flaw
-
 -- 15 to 17 for the context, then for the bindings, whose places count on; 2 for the order: record 1, the number of its bindings, a record too many; then what is answered on the context's variables
 abbrev pub read : List ℕ → Asked → (ℕ → Answer) → Answer
 read context q answer =
@@ -106,7 +100,7 @@ read context q answer =
     (cond (eqb m (wanted (orderIs q)))
     (cond (eqb (length (q .order)) 24) (answer k) (Malformed 2))
     (Malformed 1))
-    (Malformed 1)))
+    (Malformed 1)) Context) Context
 
 unfoldable pub answerTo : Shape → List ℕ → Asked → Answer
 answerTo g context q = read context q (λ k. decided g context k q)

@@ -16,6 +16,7 @@ use Rattle.code.specs.Code.{loadImmediate, moved, arithmetic}
 use Rattle.memory.specs.Blocks.{eraseBlock, shareBlock}
 use Rattle.memory.specs.Objects.{fst, snd, extIn, storeObject, loadObject}
 use Rattle.print_i64.specs.Print.{printI64}
+use Rattle.records.specs.Names.{mostCount}
 
 -- the bytes of a made variable's binding
 abbrev pub made : Kind → ℕ → List ℕ
@@ -25,21 +26,11 @@ abbrev pub madeAll : Kind → ℕ → ℕ → List ℕ
 madeAll kind place zero = []
 madeAll kind place (suc n) = made kind place ++ madeAll kind (suc place) n
 
--- how many bindings follow an order
-abbrev pub wanted : Order → ℕ
-wanted (Put value) = 0
-wanted (Compute operation a b) = 0
-wanted (Copy a n) = 0
-wanted Drop = 0
-wanted (Store n tag) = 0
-wanted (Load n) = n
-wanted (Print newline a) = 0
-
 -- 7: a copy's n is at most 2^31−1
 abbrev pub countOk : Order → Bool
 countOk (Put value) = true
 countOk (Compute operation a b) = true
-countOk (Copy a n) = leb n 2147483647
+countOk (Copy a n) = leb n mostCount
 countOk Drop = true
 countOk (Store n tag) = true
 countOk (Load n) = true

@@ -10,7 +10,7 @@ use Rattle.records.specs.declared.binding.Binding.{Binding}
 use Rattle.records.specs.declared.order.Order.{Order}
 use Rattle.records.specs.declared.order.Order.the-variants.{Put, Compute, Copy, Drop, Store, Load, Print}
 use Rattle.records.specs.Contexts.{bindingBytes, checkedContext}
-use Rattle.records.specs.Orders.{orderFieldsOf, orderBytes}
+use Rattle.records.specs.Orders.{orderFieldsOf, orderBytes, wanted}
 use Rattle.records.specs.ReadBack.{Each, joined, WellFormedBinding}
 use Rattle.records.proofs.ReadBack.{records-read-back}
 use Rattle.plan_line.specs.declared.orders.Line.{Line}
@@ -18,7 +18,7 @@ use Rattle.plan_line.specs.declared.orders.Line.the-variants.{Empty, Asks, Faul
 use Rattle.plan_line.specs.Words.{linesOf}
 use Rattle.plan_line.specs.Orders.{Words, lineOf}
 use Rattle.plan.specs.Plan.{kindOf, bindings, following, recordsOf, Plan, records, bad, withLine, lineWords, planFrom, planOf}
-use Rattle.plan.specs.Reading.{AskedLine, askedBy, askedIn, recordsFor, bindingsFor, IsRead, PlansAreRead}
+use Rattle.plan.specs.Reading.{AskedLine, askedBy, askedIn, recordsFor, IsRead, PlansAreRead}
 use Rattle.plan.proofs.Putting.{order-size}
 use Rattle.plan.proofs.WellFormed.{Sound, SoundLine, line-sound}
 
@@ -51,7 +51,7 @@ accepted ws h =
 none-accepted : checkedContext [] ≡ Good 0
 none-accepted = records-read-back .context-accepted [] tt (omega arith)
 
-following-accepted : (ws : Words) (o : Order) → bindingsFor o ≤ length (drop 1 ws) → bindingsFor o ≤ 4096 → checkedContext (following o ws) ≡ Good (bindingsFor o)
+following-accepted : (ws : Words) (o : Order) → wanted o ≤ length (drop 1 ws) → wanted o ≤ 4096 → checkedContext (following o ws) ≡ Good (wanted o)
 following-accepted ws (Load n) h g =
     let e = length-take-le n (drop 1 ws) h in
     accepted (take n (drop 1 ws)) (omega arith) ∙ ap Good e

@@ -11,7 +11,7 @@ use Rattle.records.specs.declared.order.Operation.{Operation}
 use Rattle.records.specs.declared.order.Operation.the-variants.{Add, Sub, Mul, Div, Rem}
 use Rattle.records.specs.declared.order.Order.{Order}
 use Rattle.records.specs.declared.order.Order.the-variants.{Put, Compute, Copy, Drop, Store, Load, Print}
-use Rattle.records.specs.Orders.{orderFieldsOf, orderReaders, orderOf, usedByOrder, orderOperandsOk, orderOk}
+use Rattle.records.specs.Orders.{orderFieldsOf, orderReaders, orderOf, usedByOrder, orderOperandsOk, orderOk, wanted}
 use Rattle.records.specs.ReadBack.{WellFormedOrder}
 use Rattle.plan_line.specs.declared.wrong.Wrong.the-variants.{NotNumber, OutOfRange, NotTag, NotNewline, NotKind, TooManyKinds, MissingWord}
 use Rattle.plan_line.specs.declared.numbers.Number.{Number}
@@ -26,7 +26,6 @@ use Rattle.plan_line.specs.declared.orders.Name.{Name}
 use Rattle.plan_line.specs.declared.orders.Name.the-variants.{PutName, ComputeName, CopyName, DropName, StoreName, LoadName, PrintName, OtherName}
 use Rattle.plan_line.specs.Numbers.{allDigits, valueOf, within, naturalOf, negated, integerOf}
 use Rattle.plan_line.specs.Orders.{Words, nameOf, placeAt, integerAt, operatorAt, named, isKind, ended, number, operator, name, putLine, secondLine, operandsLine, computeLine, timesLine, copyLine, tagLine, taggedLine, storeLine, loadLine, newlineLine, printLine, orderLine, lineOf}
-use Rattle.plan.specs.Reading.{bindingsFor}
 use Rattle.text.specs.Text.{ascii}
 
 -- numbers of words are below a bound
@@ -68,15 +67,15 @@ integer-below ((b ∷ w) ∷ ws) =
 -- an order that is well formed and has its kinds
 pub record Sound (ws : Words) (o : Order) : Type 0 where
   pub formed : WellFormedOrder o
-  pub enough : bindingsFor o ≤ length (drop 1 ws)
-  pub few : bindingsFor o ≤ 4096
+  pub enough : wanted o ≤ length (drop 1 ws)
+  pub few : wanted o ≤ 4096
 
 abbrev pub SoundLine : Words → Line → Type 0
 SoundLine ws Empty = Unit {0}
 SoundLine ws (Asks o) = Sound ws o
 SoundLine ws (Faulty wrong) = Unit {0}
 
-plain : (ws : Words) (o : Order) → bindingsFor o ≡ 0 → WellFormedOrder o → Sound ws o
+plain : (ws : Words) (o : Order) → wanted o ≡ 0 → WellFormedOrder o → Sound ws o
 plain ws o e w = record { formed = w; enough = omega arith; few = omega arith }
 
 compute-ok : (operation : Operation) (a b : ℕ) → orderOk (orderFieldsOf (Compute operation a b)) ≡ true

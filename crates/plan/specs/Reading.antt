@@ -8,7 +8,7 @@ use Rattle.records.specs.declared.order.Order.{Order}
 use Rattle.records.specs.declared.order.Order.the-variants.{Put, Compute, Copy, Drop, Store, Load, Print}
 use Rattle.records.specs.declared.order.OrderRead.the-variants.{Whole}
 use Rattle.records.specs.Contexts.{checkedContext}
-use Rattle.records.specs.Orders.{orderRead}
+use Rattle.records.specs.Orders.{orderRead, wanted}
 use Rattle.records.specs.ReadBack.{Each, joined}
 use Rattle.plan_line.specs.declared.orders.Line.{Line}
 use Rattle.plan_line.specs.declared.orders.Line.the-variants.{Empty, Asks, Faulty}
@@ -34,19 +34,9 @@ askedIn (l ∷ ls) = askedBy (lineWords l) (lineOf (lineWords l)) (askedIn ls)
 abbrev pub recordsFor : AskedLine → List ℕ
 recordsFor a = recordsOf (a .order) (a .words)
 
--- how many bindings an order asks for
-abbrev pub bindingsFor : Order → ℕ
-bindingsFor (Load n) = n
-bindingsFor (Put v) = 0
-bindingsFor (Compute operation a b) = 0
-bindingsFor (Copy a n) = 0
-bindingsFor Drop = 0
-bindingsFor (Store n tag) = 0
-bindingsFor (Print newline a) = 0
-
 pub record IsRead (a : AskedLine) : Type 0 where
   pub order-read : orderRead (take 24 (recordsFor a)) ≡ Whole (a .order)
-  pub bindings-accepted : checkedContext (drop 24 (recordsFor a)) ≡ Good (bindingsFor (a .order))
+  pub bindings-accepted : checkedContext (drop 24 (recordsFor a)) ≡ Good (wanted (a .order))
 
 pub record PlansAreRead : Type 0 where
   -- what is written for a text is the records of its lines' orders, one after the other

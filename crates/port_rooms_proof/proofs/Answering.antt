@@ -10,21 +10,21 @@ use lib.ListN.{length}
 use borrow.Author.Tests.{eqb-true, leb-true, le-ltb, lt-ltb}
 use Rattle.records.specs.declared.context.ContextRead.{ContextRead}
 use Rattle.records.specs.declared.context.ContextRead.the-variants as checked
-use Rattle.records.specs.Contexts.{checkedContext, countedOn}
-use Rattle.records.specs.Orders.{orderStarts}
+use Rattle.records.specs.Contexts.{checkedContext, countedOn, bindingsIn, onContext}
+use Rattle.records.specs.Orders.{orderStarts, wanted}
 use Rattle.records.proofs.ContextsRead.{counted-good, context-long}
 use Rattle.trees.specs.Tree.{Tree, labels, size}
 use Rattle.layout.specs.declared.config.Shape.{Shape}
 use Rattle.layout.specs.Config.{Supported, positions, mostVariables}
-use Rattle.memory.specs.Answered.{variablesIn}
 use Rattle.order_spec.specs.declared.answer.Answer.{Answer}
 use Rattle.order_spec.specs.declared.answer.Answer.the-variants.{Accepted, Context, Malformed, Frame, Missing, Kind, Count, Position, Labels, Room, Edition}
-use Rattle.order_spec.specs.Writes.{wanted, countOk, treeOf, contextAfter, present, kindsOk, asked}
-use Rattle.order_spec.specs.Answered.{Asked, accepted, orderIs, placesIn, orderContext, granted, onContext, answerTo}
+use Rattle.order_spec.specs.Writes.{countOk, treeOf, contextAfter, present, kindsOk, asked}
+use Rattle.order_spec.specs.Answered.{Asked, accepted, orderIs, placesIn, orderContext, granted, answerTo}
 use Rattle.order_spec.proofs.Accepting.{all-passed, all-judged}
 use Rattle.order_check.proofs.Leaving.{after-long}
 use Rattle.port_rooms_proof.specs.Sizes.{roomForRecords, roomForContext}
 use Rattle.port_rooms_proof.proofs.OrderSizes.{order-most, few-left}
+use Rattle.records.specs.Names.{lastLabel}
 
 -- before 9
 early : Answer → Bool
@@ -51,7 +51,7 @@ chosen : (b : Bool) (x y : Answer) → early y ≡ true → early (cond b x y) �
 chosen true x y r e = (refl, e)
 chosen false x y r e = let z : _≡_ {A = ℕ} 0 1 = cc in absurd (omega arith)
 
-on-good : (c : ContextRead) (f : ℕ → Answer) → early (onContext c f) ≡ false → (k : ℕ) × (c ≡ checked.Good k) × (early (f k) ≡ false)
+on-good : (c : ContextRead) (f : ℕ → Answer) → early (onContext c f Context) ≡ false → (k : ℕ) × (c ≡ checked.Good k) × (early (f k) ≡ false)
 unfolding early
 on-good (checked.Good k) f e = (k, refl, e)
 on-good (checked.Bad flaw) f e = let z : _≡_ {A = ℕ} 0 1 = cc in absurd (omega arith)
@@ -88,15 +88,15 @@ labels-or-none false records counter bindings bytes e = let z : _≡_ {A = ℕ} 
 module _ (q : Asked) (t : Tree) (after : List ℕ) where
   no-room-wanted : 24 * size t ≤ q .recordsRoom → length after ≤ q .contextRoom → (bytes : ℕ) → granted q t after ≢ Room bytes
   no-room-wanted h l bytes e =
-      labels-or-none (ltb 2147483647 (q .counter + labels t)) (size t) (q .counter + labels t) (length after / 8) bytes
+      labels-or-none (ltb lastLabel (q .counter + labels t)) (size t) (q .counter + labels t) (length after / 8) bytes
       (rw (le-ltb (q .recordsRoom) (24 * size t) h, le-ltb (q .contextRoom) (length after) l) at e)
 
-  pub records-short : {n : ℕ} → q .counter + labels t ≤ 2147483647 → 24 * size t ≡ n → q .recordsRoom < n → granted q t after ≡ Room n
-  records-short {n} l e h = rw (le-ltb 2147483647 (q .counter + labels t) l, e, lt-ltb (q .recordsRoom) n h)
+  pub records-short : {n : ℕ} → q .counter + labels t ≤ lastLabel → 24 * size t ≡ n → q .recordsRoom < n → granted q t after ≡ Room n
+  records-short {n} l e h = rw (le-ltb lastLabel (q .counter + labels t) l, e, lt-ltb (q .recordsRoom) n h)
 
-  pub context-short : {n : ℕ} → q .counter + labels t ≤ 2147483647 → 24 * size t ≤ q .recordsRoom → length after ≡ n → q .contextRoom < n
+  pub context-short : {n : ℕ} → q .counter + labels t ≤ lastLabel → 24 * size t ≤ q .recordsRoom → length after ≡ n → q .contextRoom < n
       → granted q t after ≡ Room n
-  context-short {n} l r e h = rw (le-ltb 2147483647 (q .counter + labels t) l, le-ltb (q .recordsRoom) (24 * size t) r, e, lt-ltb (q .contextRoom) n h)
+  context-short {n} l r e h = rw (le-ltb lastLabel (q .counter + labels t) l, le-ltb (q .recordsRoom) (24 * size t) r, e, lt-ltb (q .contextRoom) n h)
 
 accepted-late : (r : Answer) → accepted r ≡ true → early r ≡ false
 unfolding early
@@ -115,7 +115,7 @@ accepted-late Edition e = sym e
 few-places : (g : Shape) (s : List ℕ) → length s ≤ 8 * mostVariables g → placesIn s ≤ mostVariables g
 few-places g s h = by (checkedContext s) refl
   where
-    by : (c : ContextRead) → checkedContext s ≡ c → variablesIn c ≤ mostVariables g
+    by : (c : ContextRead) → checkedContext s ≡ c → bindingsIn c ≤ mostVariables g
     by (checked.Good n) e = omega (arith, context-long s n e)
     by (checked.Bad flaw) e = omega arith
 

@@ -14,7 +14,7 @@ use Rattle.records.specs.declared.order.Order.{Order}
 use Rattle.records.specs.declared.order.Order.the-variants.{Put, Store}
 use Rattle.records.specs.Bytes.{le}
 use Rattle.records.specs.Contexts.{bindingBytes, checkedContext}
-use Rattle.records.specs.Orders.{orderOf, orderReaders, orderOk, orderOperandsOk, usedByOrder}
+use Rattle.records.specs.Orders.{orderOf, orderReaders, orderOk, orderOperandsOk, usedByOrder, wanted}
 use Rattle.records.specs.ReadBack.{Each, WellFormedBinding, WellFormedOrder}
 use Rattle.records.proofs.OrdersBack.{order-laws}
 use Rattle.records.proofs.ReadBack.{records-read-back}
@@ -25,7 +25,7 @@ use Rattle.layout.specs.Positions.{location}
 use Rattle.memory.specs.Objects.{snd, extIn}
 use Rattle.memory.proofs.Sizes.{store-object-size, immediate-size}
 use Rattle.order_spec.specs.declared.answer.Answer.the-variants.{Room}
-use Rattle.order_spec.specs.Writes.{wanted, countOk, treeOf, contextAfter, present, kindsOk, asked}
+use Rattle.order_spec.specs.Writes.{countOk, treeOf, contextAfter, present, kindsOk, asked}
 use Rattle.order_spec.specs.Answered.{Asked, orderIs, granted, answerTo}
 use Rattle.order_spec.proofs.Accepting.{all-passed, all-judged}
 use Rattle.records.proofs.ContextsRead.{context-long}

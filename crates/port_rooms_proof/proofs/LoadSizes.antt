@@ -10,8 +10,7 @@ use borrow.Author.Tests.{lt-ltb}
 use Rattle.records.specs.declared.code.Code.the-variants.{ADDIM, MOVL, CMPIM}
 use Rattle.trees.specs.Tree.{Tree, nop, leaf, seq, if-zero, size}
 use Rattle.layout.specs.declared.config.Shape.{Shape}
-use Rattle.layout.specs.Config.{Supported, STACK, TEMP, RETURN1, stackOffset, fstOffset, sndOffset, MINUSONE}
-use Rattle.memory.specs.Blocks.{blockRegister}
+use Rattle.layout.specs.Config.{Supported, STACK, TEMP, RETURN1, stackOffset, fstOffset, sndOffset, MINUSONE, registerFor}
 use Rattle.memory.specs.Objects.{fst, snd, chunks, loadFst, setAside, loadValue, loadValues, loadBody, loadSpilled, freed, loadOthers, loadSome, loadObject}
 use Rattle.memory.proofs.Sizes.{chunks-fill, load-field-size, load-values-size, link-size, aside-size, restore-size}
 use Rattle.port_rooms_proof.specs.Sizes.{loadedWithin}
@@ -83,7 +82,7 @@ module _ (g : Shape) (ext : ℕ → Bool) where
 
     pub load-within : (v n : ℕ) → size (loadObject g ext v n) ≤ loadedWithin g n
     load-within v n =
-        let r : ℕ = blockRegister (fst v) in
+        let r : ℕ = registerFor (fst v) in
         let p : Tree = leaf (MOVL TEMP STACK (stackOffset g (fst v))) refl in
         let c : Tree = if-zero (CMPIM r 0 0) refl (loadSome g ext false v n) (seq (leaf (ADDIM r 0 MINUSONE) refl) (loadSome g ext true v n)) in
         let y = at-most (ltb (fst v) 16) nop p 1 (omega arith) (omega arith) in

@@ -10,14 +10,14 @@ use lib.ListN.{length}
 use borrow.Author.Tests.{ltb-false, le-ltb}
 use Rattle.records.specs.declared.check.Checked.{Checked}
 use Rattle.records.specs.declared.check.Checked.the-variants.{Good, Malformed}
-use Rattle.records.specs.Checked.{places, checked}
+use Rattle.records.specs.Checked.{places, checked, onChecked}
 use Rattle.records.specs.Instructions.{codeStarts, checkedCodes}
 use Rattle.records.proofs.Checking.{all-checked, good-within}
 use Rattle.records.proofs.CodesRead.{starts-whole}
-use Rattle.emit.specs.declared.answer.Answer.the-variants.{Arguments, Room}
+use Rattle.emit.specs.declared.answer.Answer.the-variants.{Body, Arguments, Room}
 use Rattle.emit.specs.Answers.{granted}
 use Rattle.layout.specs.declared.config.Shape.{Shape}
-use Rattle.routine.specs.Routine.{routineBytes, accepting, onBody, routineAnswer}
+use Rattle.routine.specs.Routine.{routineBytes, accepting, routineAnswer}
 use Rattle.routine.proofs.Assembling.{bytes-length}
 use Rattle.port_rooms_proof.specs.Sizes.{roomForRoutine}
 
@@ -45,6 +45,6 @@ module _ (g : Shape) (room n : ℕ) (h : roomForRoutine ≤ room) (bytes : ℕ) 
   unfolding routineAnswer
   no-room-wanted body = by (checkedCodes 65506 body) refl
     where
-      by : (c : Checked) → checkedCodes 65506 body ≡ c → onBody c (accepting g room n body) ≢ Room bytes
+      by : (c : Checked) → checkedCodes 65506 body ≡ c → onChecked c (λ k. accepting g room n body) Body ≢ Room bytes
       by (Good k) e r = arguments body (body-long body k e) (ltb 5 n) refl r
       by (Malformed place) e r = let z : _≡_ {A = ℕ} 0 1 = cc in omega arith

@@ -16,9 +16,10 @@ use Rattle.emit.specs.declared.answer.Answer.{Answer}
 use Rattle.emit.specs.declared.answer.Answer.the-variants.{Context, Operand}
 use Rattle.emit.specs.Answers.{unframed, granted, Answers}
 use Rattle.layout.specs.declared.config.Shape.{Shape}
-use Rattle.layout.specs.Config.{STACK, TEMP, stackOffset, inFrame}
+use Rattle.layout.specs.Config.{STACK, TEMP, stackOffset, inFrame, registerFor}
 use Rattle.layout.specs.Positions.{operandOk}
 use Rattle.print_i64.specs.Registers.{registersToSave, firstBackup, backupsUsed}
+use Rattle.records.specs.Names.{PRINTI64, PRINTLNI64}
 
 -- each register into the next free one, from f on
 abbrev pub moves : ℕ → List ℕ → Tree
@@ -57,17 +58,13 @@ restoreRegisters f used rs =
 abbrev pub sourceToTemp : Shape → ℕ → Tree
 sourceToTemp g w = cond (ltb w 16) nop (leaf (MOVL TEMP STACK (stackOffset g w)) refl)
 
--- where the source is at the call
-abbrev pub sourceRegister : ℕ → ℕ
-sourceRegister w = cond (ltb w 16) w TEMP
-
 -- the names PRINT_I64 and PRINTLN_I64
 abbrev pub printName : Bool → ℕ
-printName newline = cond newline 2147483651 2147483650
+printName newline = cond newline PRINTLNI64 PRINTI64
 
 -- the source to register 7, the first argument's, and the call
 abbrev pub callPrint : Bool → ℕ → Tree
-callPrint newline w = seq (leaf (MOV 7 (sourceRegister w)) refl) (leaf (CALL (printName newline)) refl)
+callPrint newline w = seq (leaf (MOV 7 (registerFor w)) refl) (leaf (CALL (printName newline)) refl)
 
 -- the call with the registers rs saved around it
 abbrev pub printSaving : Shape → Bool → ℕ → ℕ → ℕ → List ℕ → Tree

@@ -6,8 +6,8 @@ ghost use Rattle.records.specs.declared.context.ContextRead.the-variants.{Good}
 ghost use Rattle.records.specs.Contexts.{checkedContext, extAt};
 ghost use Rattle.emit.specs.Answers.{Answers};
 ghost use Rattle.emit.specs.Emitted.{Emits};
-ghost use Rattle.layout.specs.Config.{Supported, operands};
-ghost use Rattle.print_i64.specs.Print.{sourceToTemp, sourceRegister, printName, callPrint, printI64, printAnswer, printRecords, Prints};
+ghost use Rattle.layout.specs.Config.{Supported, operands, registerFor};
+ghost use Rattle.print_i64.specs.Print.{sourceToTemp, printName, callPrint, printI64, printAnswer, printRecords, Prints};
 use crate::registers;
 use crate::save;
 use emit::answer::Answer;
@@ -18,13 +18,11 @@ use layout::config::STACK;
 use layout::config::Shape;
 use layout::config::TEMP;
 use records::context::ContextRead;
+use records::name::PRINTLN_I64;
+use records::name::PRINT_I64;
 use records::number::CALL;
 use records::number::MOV;
 use records::number::MOVL;
-
-const PRINT_I64: u32 = 2147483650;
-
-const PRINTLN_I64: u32 = 2147483651;
 
 // The register of a call's first argument.
 const ARG_0: u8 = 7;
@@ -41,12 +39,6 @@ fn source_to_temp(out: &mut [u8], p: Cursor, g: Shape, w: u64) -> Cursor
     emit::cursor::emit(out, p, Row(MOVL, TEMP, STACK, 0, offset, 0))
 }
 
-fn source_register(w: u64) -> u8
-    ensures { λ r. ⌜ r ≡ sourceRegister w ⌝ }
-{
-    if w < 16 { w as u8 } else { TEMP }
-}
-
 fn print_name(newline: bool) -> u32
     ensures { λ r. ⌜ r ≡ printName newline ⌝ }
 {
@@ -57,7 +49,7 @@ fn call_print(out: &mut [u8], p: Cursor, newline: bool, w: u64) -> Cursor
     requires { ⌜ p .at + 48 < 2 ^ 64 ⌝ }
     ensures { λ q. ⌜ Emits (now (out .entry)) p (now (out .exit)) q (callPrint newline w) ⌝ }
 {
-    let source = source_register(w);
+    let source = layout::utils::register_for(w);
     let name = print_name(newline);
     emit::cursor::emit2(
         out,

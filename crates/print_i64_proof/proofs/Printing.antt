@@ -29,7 +29,7 @@ use Rattle.layout_proof.proofs.HeldLemmas.{upd-other, held-register, held-spill
 use Rattle.layout_proof.proofs.RecordLemmas.{spill-MOVL}
 use Rattle.layout_proof.proofs.Runs.{Does, go, so}
 use Rattle.emit_proof.proofs.Trees.{print-readable}
-use Rattle.code_proof.specs.Claims.{fresh}
+use Rattle.machine.specs.Run.{starting}
 use Rattle.code_proof.proofs.Ran.{placed, ends}
 use Rattle.heap.specs.Blocks.{Cell, cell}
 use Rattle.memory_proof.proofs.Variables.{variable, variables}
@@ -181,4 +181,4 @@ pub print-keeps-all-variables : PrintKeepsAllVariables
 unfolding PrintKeepsAllVariables
 print-keeps-all-variables G sup words v s n p newline h q l k =
     rw q (ends G words v h (printRecords G newline (location p) s (Good n)) (print-readable G sup newline (location p) s n) (printI64 G newline (location p) (extAt s) n) refl
-    (position-printed words (extAt s) newline (fresh v) n (placed G sup v h) p l k))
+    (position-printed words (extAt s) newline (starting v) n (placed G sup v h) p l k))

@@ -14,7 +14,8 @@ use Rattle.print_i64.specs.Print.{printName, printRecords}
 use Rattle.machine_step.specs.View.{View}
 use Rattle.machine_step.specs.Step.{Config}
 use Rattle.layout_proof.specs.Held.{held}
-use Rattle.code_proof.specs.Claims.{fresh, Ready, EndsWith}
+use Rattle.code_proof.specs.Claims.{Ready, EndsWith}
+use Rattle.machine.specs.Run.{starting}
 
 -- from c to d a word was printed, and the n variables of these kinds and the heap are as they were
 pub record Prints (G : Shape) (newline : Bool) (word : ℕ) (ext : ℕ → Bool) (n : ℕ) (c d : Config) : Type 0 where
@@ -37,4 +38,4 @@ PrintKeepsAllVariables =
     (G : Shape) → Supported G → (words : ℕ → ℕ) (v : View) (context : List ℕ) (n p : ℕ) (newline : Bool) → Ready G v
     → checkedContext context ≡ Good n → p < 2 * n → p < positions G
     → EndsWith G words (printRecords G newline (location p) context (checkedContext context)) v
-    (Prints G newline (held (fresh v) (location p)) (extAt context) n (fresh v))
+    (Prints G newline (held (starting v) (location p)) (extAt context) n (starting v))

@@ -23,6 +23,11 @@ places size s = (length s + (size - 1)) / size
 unfoldable pub checked : (List ℕ → Bool) → ℕ → ℕ → List ℕ → Checked
 checked ok size limit s = firstBad ok size limit s 0 (places size s)
 
+-- by the number of records where the list is good, or by the place of the bad one
+abbrev pub onChecked : {A : Type 0} → Checked → (ℕ → A) → (ℕ → A) → A
+onChecked (Good n) good bad = good n
+onChecked (Malformed place) good bad = bad place
+
 -- document 01's number and values for each answer: 0 where the list is accepted
 abbrev pub causeOf : Checked → List ℕ
 causeOf (Good n) = ACCEPTED ∷ []

@@ -25,6 +25,15 @@ kindOf k = cond (eqb k 0) Linked Ext
 abbrev pub extAt : List ℕ → ℕ → Bool
 extAt s v = eqb (getD s (8 * v + 2) 0) 1
 
+-- by the number of a context's bindings where it is good, or by its flaw
+abbrev pub onContext : {A : Type 0} → ContextRead → (ℕ → A) → (Flaw → A) → A
+onContext (Good k) good bad = good k
+onContext (Bad flaw) good bad = bad flaw
+
+-- how many bindings it has, none where it is bad
+abbrev pub bindingsIn : ContextRead → ℕ
+bindingsIn read = onContext read (λ k. k) (λ flaw. 0)
+
 -- the 8 bytes of a binding
 unfoldable pub bindingBytes : Binding → List ℕ
 bindingBytes b = 0xA7 ∷ 0x01 ∷ kindByte (b .kind) ∷ 0 ∷ le 4 (b .id)

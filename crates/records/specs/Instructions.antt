@@ -12,6 +12,7 @@ use Rattle.records.specs.declared.code.CodeRead.the-variants.{Record, Ma
 use Rattle.records.specs.Bytes.{le, number}
 use Rattle.records.specs.Checked.{checked}
 use Rattle.records.specs.Codes.{fields, fieldsOf, codeOf}
+use Rattle.records.specs.Names.{firstUnnamed, lastUnnamed}
 
 -- the 24 bytes of a record
 unfoldable pub fieldsBytes : Fields → List ℕ
@@ -35,7 +36,7 @@ registerOk uses r = cond uses (ltb r 16) (eqb r 0)
 
 -- a label is not 0 and not 2^31 plus 4..15
 abbrev pub labelHeld : ℕ → Bool
-labelHeld l = not (eqb l 0) && (ltb l 2147483652 || ltb 2147483663 l)
+labelHeld l = not (eqb l 0) && (ltb l firstUnnamed || ltb lastUnnamed l)
 
 abbrev pub labelOk : Bool → ℕ → Bool
 labelOk uses l = cond uses (labelHeld l) (eqb l 0)

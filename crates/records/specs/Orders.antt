@@ -109,3 +109,13 @@ orderRead s =
 abbrev pub orderCause : OrderRead → List ℕ
 orderCause (Whole order) = ACCEPTED ∷ []
 orderCause (Malformed place) = MALFORMED ∷ place ∷ []
+
+-- how many bindings follow an order: a load's own
+abbrev pub wanted : Order → ℕ
+wanted (Put value) = 0
+wanted (Compute operation a b) = 0
+wanted (Copy a n) = 0
+wanted Drop = 0
+wanted (Store n tag) = 0
+wanted (Load n) = n
+wanted (Print newline a) = 0

@@ -7,6 +7,8 @@ ghost use Rattle.records.specs.Bytes.{stored};
 ghost use Rattle.records.specs.Checked.{causeOf};
 ghost use Rattle.records.specs.Codes.{fieldsOf, codeOf};
 ghost use Rattle.records.specs.Instructions.{bitsOf, fieldsBytes, fieldsIn, registerOk, labelHeld, labelOk, wordOk, operandsOk, fieldsOk, labWith, codeStarts, checkedCodes, codeAt, codeCause};
+use crate::name::FIRST_UNNAMED;
+use crate::name::LAST_UNNAMED;
 use crate::bytes;
 use crate::check::Checked;
 
@@ -254,10 +256,10 @@ pub fn label_held(l: u32) -> bool
     if l == 0 {
         return false;
     }
-    if l < 2147483652 {
+    if l < FIRST_UNNAMED {
         return true;
     }
-    2147483663 < l
+    LAST_UNNAMED < l
 }
 
 fn label_ok(used: bool, l: u32) -> bool

@@ -6,6 +6,7 @@ pub mod bytes; // little-endian numbers in slices
 pub mod check; // the answer of a check
 pub mod binding; // binding records
 pub mod context; // contexts, and what is bad in one
+pub mod name; // labels and names by their numbers
 pub mod code; // instruction records
 pub mod number; // the codes' numbers, for records made in bulk
 pub mod order; // order records

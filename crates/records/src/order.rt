@@ -4,7 +4,7 @@ ghost use Prim.Native.Nat.{_+_, _≤_};
 ghost use lib.ListN.{length};
 ghost use Rattle.records.specs.Answers.{AnswersBy};
 ghost use Rattle.records.specs.Bytes.{stored};
-ghost use Rattle.records.specs.Orders.{flagOf, operationOf, newlineFlag, orderFieldsOf, orderOf, orderBits, orderOperandsOk, orderOk, orderBytes, orderIn, orderStarts, orderRead, orderCause};
+ghost use Rattle.records.specs.Orders.{flagOf, operationOf, newlineFlag, orderFieldsOf, orderOf, orderBits, orderOperandsOk, orderOk, orderBytes, orderIn, orderStarts, orderRead, orderCause, wanted};
 use crate::bytes;
 use crate::code;
 
@@ -225,5 +225,20 @@ pub fn write_order(out: &mut [u8], at: usize, o: Order)
             bytes::store4(out, at + 12, f.n);
             bytes::store8(out, at + 16, f.value);
         }
+    }
+}
+
+// How many bindings follow an order.
+pub fn wanted(order: Order) -> u32
+    ensures { λ r. ⌜ r ≡ wanted order ⌝ }
+{
+    match order {
+        Order::Put(_) => 0,
+        Order::Compute(_, _, _) => 0,
+        Order::Copy(_, _) => 0,
+        Order::Drop => 0,
+        Order::Store(_, _) => 0,
+        Order::Load(n) => n,
+        Order::Print(_, _) => 0,
     }
 }

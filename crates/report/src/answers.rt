@@ -157,7 +157,7 @@ fn put_outcome(text: &mut [u8], at: usize, frame: u64, before: u64, answer: Answ
 {
     match answer {
         Answer::Accepted(records, counter, _) => {
-            put_acceptance(text, at, records as u64, parts::more(counter, before))
+            put_acceptance(text, at, records as u64, layout::utils::excess(counter, before))
         }
         Answer::Context(flaw) => put_flaw(text, at, flaw),
         Answer::Malformed(place) => put_malformed(text, at, place as u64),

@@ -14,13 +14,3 @@ pub fn put_count(text: &mut [u8], at: usize, words: &[u8], number: u64) -> usize
     let next = text::put_bytes(text, at, words);
     text::put_decimal(text, next, number)
 }
-
-// How much more x is than y, 0 where it is less.
-pub fn more(x: u64, y: u64) -> u64
-    ensures { λ r. ⌜ r ≡ x - y ⌝ }
-{
-    if x < y {
-        return 0;
-    }
-    x - y
-}

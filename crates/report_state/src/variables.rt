@@ -27,7 +27,7 @@ fn put_block(text: &mut [u8], at: usize, g: Shape, pointer: u64) -> usize
         return text::put_bytes(text, at, b", empty");
     }
     let bytes = layout::offset::fst_offset(g.fields);
-    let block = parts::more(pointer, 65536) / bytes;
+    let block = layout::utils::excess(pointer, 65536) / bytes;
     parts::put_count(text, at, b", block ", block)
 }
 
@@ -75,14 +75,6 @@ fn put_cell(
     text::put_byte(text, end, b'\n')
 }
 
-// Whether variable k is an integer.
-fn is_ext(context: &[u8], k: usize) -> bool
-    requires { ⌜ 8 * k + 8 ≤ length (now context) ⌝ }
-    ensures { λ r. ⌜ r ≡ extAt (now (context .entry)) k ⌝ }
-{
-    context[8 * k + 2] == 1
-}
-
 // The word at position p.
 pub fn word_at(registers: &[u64], stack: &[u64], table: &[u16; ENTRIES], p: u64) -> u64
     requires { ⌜ (length (now registers) ≡ 16) × (p < length (now stack)) × Table (now table) × (p < entries) ⌝ }
@@ -112,7 +104,7 @@ fn put_variable(
     let place = k as u64;
     let pointer = word_at(registers, stack, table, 2 * place);
     let word = word_at(registers, stack, table, 2 * place + 1);
-    let ext = is_ext(context, k);
+    let ext = layout::utils::is_ext(context, k as u64);
     put_cell(text, at, g, place, ext, pointer, word)
 }
 

@@ -7,8 +7,6 @@ use mathlib.Core.List.{List, [], _∷_, _++_}
 use lib.Dec.{ltb}
 use lib.ListN.{length, getD}
 use lib.Seq.{sets}
-use Rattle.records.specs.declared.check.Checked.{Checked}
-use Rattle.records.specs.declared.check.Checked.the-variants.{Good, Malformed}
 use Rattle.records.specs.declared.code.Code.{Code}
 use Rattle.records.specs.declared.code.Code.the-variants.{ADDI, SUBI, MOV, PUSH, POP, RET, LAB, NOEXECSTACK, TEXT, GLOBAL, EXTERN}
 use Rattle.records.specs.Instructions.{checkedCodes}
@@ -18,19 +16,8 @@ use Rattle.emit.specs.declared.answer.Answer.the-variants.{Body, Operand, Argum
 use Rattle.emit.specs.Answers.{causeOf, granted, accepted}
 use Rattle.layout.specs.declared.config.Shape.{Shape}
 use Rattle.layout.specs.Config.{STACK, HEAP, FREE, blockBytes, shapeOf, inShape}
-
--- the names asm_main, cleanup, PRINT_I64 and PRINTLN_I64
-abbrev ASMMAIN : ℕ
-ASMMAIN = 2147483648
-
-abbrev CLEANUP : ℕ
-CLEANUP = 2147483649
-
-abbrev PRINTI64 : ℕ
-PRINTI64 = 2147483650
-
-abbrev PRINTLNI64 : ℕ
-PRINTLNI64 = 2147483651
+use Rattle.records.specs.Names.{ASMMAIN, CLEANUP, PRINTI64, PRINTLNI64}
+use Rattle.records.specs.Checked.{onChecked}
 
 -- the register that a function's argument is passed in: rdi, rsi, rdx, rcx, r8, r9
 abbrev pub argument : ℕ → ℕ
@@ -43,11 +30,6 @@ preamble = NOEXECSTACK ∷ TEXT ∷ EXTERN PRINTI64 ∷ EXTERN PRINTLNI64 ∷ GL
 abbrev pub moveArguments : ℕ → List Code
 moveArguments zero = []
 moveArguments (suc n) = MOV (2 * suc n + 3) (argument (suc n)) ∷ moveArguments n
-
--- the body's check comes first
-abbrev pub onBody : Checked → Answer → Answer
-onBody (Good k) r = r
-onBody (Malformed place) r = Body place
 
 module _ (g : Shape) where
   -- how many bytes the spills take
@@ -95,12 +77,12 @@ module _ (g : Shape) where
   accepting room n body = cond (ltb 5 n) Arguments (granted 0 room (length (routineBytes n body)) 0)
 
   unfoldable pub routineAnswer : ℕ → ℕ → List ℕ → Answer
-  routineAnswer room n body = onBody (checkedCodes 65506 body) (accepting room n body)
+  routineAnswer room n body = onChecked (checkedCodes 65506 body) (λ k. accepting room n body) Body
 
 -- the answer and the routine's bytes in an edition and a frame of so many spills
 abbrev pub routineIn : ℕ → ℕ → ℕ → ℕ → List ℕ → Answer
 routineIn edition frame room n body =
-    inShape (shapeOf edition frame) (λ g. routineAnswer g room n body) (onBody (checkedCodes 65506 body) Operand) Edition
+    inShape (shapeOf edition frame) (λ g. routineAnswer g room n body) (onChecked (checkedCodes 65506 body) (λ k. Operand) Body) Edition
 
 abbrev pub routineBytesIn : ℕ → ℕ → ℕ → List ℕ → List ℕ
 routineBytesIn edition frame n body = inShape (shapeOf edition frame) (λ g. routineBytes g n body) [] []

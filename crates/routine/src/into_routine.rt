@@ -7,9 +7,10 @@ ghost use lib.Seq.{sets};
 ghost use Rattle.records.specs.Instructions.{checkedCodes};
 ghost use Rattle.emit.specs.Emitted.{fieldsList, Emitted};
 ghost use Rattle.emit.specs.Answers.{accepted};
-ghost use Rattle.emit.specs.declared.answer.Answer.the-variants.{Operand};
+ghost use Rattle.emit.specs.declared.answer.Answer.the-variants.{Operand, Body};
 ghost use Rattle.layout.specs.Config.{Supported};
-ghost use Rattle.routine.specs.Routine.{argument, preamble, setup, moveArguments, head, cleanup, routineBytes, accepting, onBody, routineAnswer, routineIn, routineBytesIn, Assembles};
+ghost use Rattle.routine.specs.Routine.{argument, preamble, setup, moveArguments, head, cleanup, routineBytes, accepting, routineAnswer, routineIn, routineBytesIn, Assembles};
+ghost use Rattle.records.specs.Checked.{onChecked};
 use emit::answer::Answer;
 use emit::cursor::Cursor;
 use emit::cursor::Row;
@@ -19,6 +20,10 @@ use layout::config::STACK;
 use layout::config::Shape;
 use layout::config::Shaped;
 use records::check::Checked;
+use records::name::ASM_MAIN;
+use records::name::CLEANUP;
+use records::name::PRINTLN_I64;
+use records::name::PRINT_I64;
 use records::number::ADDI;
 use records::number::EXTERN;
 use records::number::GLOBAL;
@@ -30,14 +35,6 @@ use records::number::PUSH;
 use records::number::RET;
 use records::number::SUBI;
 use records::number::TEXT;
-
-const ASM_MAIN: u32 = 2147483648;
-
-const CLEANUP: u32 = 2147483649;
-
-const PRINT_I64: u32 = 2147483650;
-
-const PRINTLN_I64: u32 = 2147483651;
 
 // The most records of a body.
 const MOST: usize = 65506;
@@ -204,7 +201,7 @@ fn routine_in(out: &mut [u8], g: Shape, body: &[u8], arguments: usize) -> Answer
 
 // What a frame of another number of spills is answered.
 fn unframed(body: &[u8]) -> Answer
-    ensures { λ r. ⌜ (r ≡ onBody (checkedCodes 65506 (now (body .entry))) Operand) × (accepted r ≡ false) ⌝ }
+    ensures { λ r. ⌜ (r ≡ onChecked (checkedCodes 65506 (now (body .entry))) (λ k. Operand) Body) × (accepted r ≡ false) ⌝ }
 {
     match records::code::check_codes(body, MOST) {
         Checked::Good(_) => Answer::Operand,

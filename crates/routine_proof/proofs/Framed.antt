@@ -20,7 +20,7 @@ use Rattle.machine_step.specs.View.{View, upd, putReg}
 use Rattle.machine_step.specs.Step.{Config, config, end, step}
 use Rattle.machine.proofs.Places.{place-1, place-2, place-3, place-4, place-5, place-6}
 use Rattle.machine.specs.declared.run.Answer.the-variants.{Ended, Limit}
-use Rattle.machine.specs.Run.{codesOf, runs, started, ran}
+use Rattle.machine.specs.Run.{codesOf, runs, started, ran, starting}
 use Rattle.machine.specs.Run as machine
 use Rattle.trees_proof.specs.Evaluation.{done}
 use Rattle.trees_proof.specs.Claims.{Reaches}
@@ -28,9 +28,10 @@ use Rattle.trees_proof.proofs.Steps.{at-drop, drop-part, after}
 use Rattle.routine.specs.Routine.{argument, moveArguments, head, cleanup, routineBytes}
 use Rattle.routine.proofs.Assembling.{head-length, routine-records}
 use Rattle.emit_proof.proofs.Routines.{items-length, few-arguments, routine-readable}
-use Rattle.routine_proof.specs.Claims.{SavedIn, SetUp, Returned, routine, fresh, Frames, RoutineReturns}
+use Rattle.routine_proof.specs.Claims.{SavedIn, SetUp, Returned, routine, Frames, RoutineReturns}
 use Rattle.routine_proof.proofs.Depth.{reached-deep}
 use Rattle.routine_proof.proofs.Through.{through, passes, reached, ended}
+use Rattle.records.specs.Names.{CLEANUP}
 
 -- a state whose STACK is known, with that number written in
 abbrev pointed : View → ℕ → View
@@ -74,7 +75,7 @@ framed v registers = config (record { reg = registers; stk = saves v; mem = v .m
 
 record Entry (G : Shape) (words : ℕ → ℕ) (n : ℕ) (v : View) : Type 0 where
   to : Config
-  run : through words (head G n) (fresh v) ≡ some to
+  run : through words (head G n) (starting v) ≡ some to
   state : SetUp G n v to
 
 module _ (G : Shape) (v : View) where
@@ -105,7 +106,7 @@ module _ (G : Shape) (supported : Supported G) (words : ℕ → ℕ) (v : View) 
   abbrev pushedRegisters : ℕ → ℕ
   pushedRegisters = upd (upd (upd (upd (upd (upd (upd (v .reg) 0 1099511627768) 0 1099511627760) 0 1099511627752) 0 1099511627744) 0 1099511627736) 0 1099511627728) 0 1099511627720
 
-  pushes-run : (xs : List Code) → through words (PUSH 2 ∷ PUSH 3 ∷ PUSH 12 ∷ PUSH 13 ∷ PUSH 14 ∷ PUSH 15 ∷ xs) (fresh (entering v)) ≡ through words xs (framed (entering v) pushedRegisters)
+  pushes-run : (xs : List Code) → through words (PUSH 2 ∷ PUSH 3 ∷ PUSH 12 ∷ PUSH 13 ∷ PUSH 14 ∷ PUSH 15 ∷ xs) (starting (entering v)) ≡ through words xs (framed (entering v) pushedRegisters)
   unfolding step difference
   pushes-run xs = rw (place-1 (v .depth) (v .size) deep, place-2 (v .depth) (v .size) deep, place-3 (v .depth) (v .size) deep, place-4 (v .depth) (v .size) deep, place-5 (v .depth) (v .size) deep, place-6 (v .depth) (v .size) deep)
 
@@ -129,7 +130,7 @@ abbrev popped : List Code
 popped = POP 15 ∷ POP 14 ∷ POP 13 ∷ POP 12 ∷ POP 3 ∷ POP 2 ∷ []
 
 abbrev front : Shape → List Code
-front G = LAB 2147483649 ∷ ADDI 0 (8 * G .spills) ∷ popped
+front G = LAB CLEANUP ∷ ADDI 0 (8 * G .spills) ∷ popped
 
 -- after the second of them
 abbrev leaving : Config → ℕ → Config
@@ -207,8 +208,8 @@ module _ (G : Shape) (words : ℕ → ℕ) (n : ℕ) (body : List Code) (v : Vie
 
   module _ (x : Entry G words n v) where
     -- the run to the body's place
-    to-body : (left made : ℕ) → runs words p (16 + n + left) made 0 (fresh v) ≡ runs words p left (made + (16 + n)) (16 + n) (x .to)
-    to-body left made = rw (head-length G n, zero-add) at (passes words p (head G n) 0 (body ++ cleanup G) (fresh v) (x .to) refl (x .run) left made)
+    to-body : (left made : ℕ) → runs words p (16 + n + left) made 0 (starting v) ≡ runs words p left (made + (16 + n)) (16 + n) (x .to)
+    to-body left made = rw (head-length G n, zero-add) at (passes words p (head G n) 0 (body ++ cleanup G) (starting v) (x .to) refl (x .run) left made)
 
     -- a record stands there, the body's first or the cleanup's
     stopped : started words p (16 + n) v ≡ machine.done (Limit (16 + n)) (x .to)
@@ -219,14 +220,14 @@ module _ (G : Shape) (words : ℕ → ℕ) (n : ℕ) (body : List Code) (v : Vie
         by [] e = rw (at-drop p (16 + n) e)
         by (c ∷ cs) e = rw (at-drop p (16 + n) e)
 
-    enters : Reaches words p (16 + n) 0 (16 + n) (fresh v) (x .to)
+    enters : Reaches words p (16 + n) 0 (16 + n) (starting v) (x .to)
     enters = record { steps = 16 + n; within = omega arith; run = to-body }
 
     module _ (most : ℕ) (b : Config) (g : Reaches words p most (16 + n) (16 + n + length body) (x .to) b) where
-      to-cleanup : Reaches words p (16 + n + most) 0 (16 + n + length body) (fresh v) b
+      to-cleanup : Reaches words p (16 + n + most) 0 (16 + n + length body) (starting v) b
       to-cleanup = after words p (16 + n) most 0 (16 + n) (16 + n + length body) (done b) enters g (omega arith) (16 + n + most) (omega arith)
 
-      to-return : (e : Config) → through words (front G) b ≡ some e → Reaches words p (16 + n + most + 8) 0 (16 + n + length body + 8) (fresh v) e
+      to-return : (e : Config) → through words (front G) b ≡ some e → Reaches words p (16 + n + most + 8) 0 (16 + n + length body + 8) (starting v) e
       to-return e h =
           after words p (16 + n + most) 8 0 (16 + n + length body) (16 + n + length body + 8) (done e) to-cleanup
           (reached words p (front G) (16 + n + length body) (RET ∷ []) b e cleanup-place h) (omega arith) (16 + n + most + 8) (omega arith)
@@ -234,7 +235,7 @@ module _ (G : Shape) (words : ℕ → ℕ) (n : ℕ) (body : List Code) (v : Vie
       returned : (y : Exit G words (v .reg) b) (limit : ℕ) → 16 + n + most + 9 ≤ limit → (k : ℕ) × (k ≤ limit) × (started words p limit v ≡ machine.done (Ended k) (y .last))
       returned y limit h =
           let z : drop (16 + n + length body + 8) p ≡ RET ∷ [] = drop-part p (16 + n + length body) 8 (front G) (RET ∷ []) cleanup-place refl in
-          ended words p (16 + n + length body + 8) (fresh v) (y .to) (y .last) z (y .return) (16 + n + most + 8) limit (to-return (y .to) (y .run)) (omega arith)
+          ended words p (16 + n + length body + 8) (starting v) (y .to) (y .last) z (y .return) (16 + n + most + 8) limit (to-return (y .to) (y .run)) (omega arith)
 
 -- ---- the whole, as bytes
 

@@ -14,12 +14,11 @@ use Rattle.emit.specs.Answers.{accepted}
 use Rattle.layout.specs.declared.config.Shape.{Shape}
 use Rattle.layout.specs.Config.{Supported, STACK, HEAP, FREE, stackDepth, framePointer, blockBytes, blockWords}
 use Rattle.word.specs.Words.{sum}
-use Rattle.machine_step.specs.declared.instruction.Compared.the-variants.{Absent}
 use Rattle.machine_step.specs.View.{View}
 use Rattle.machine_step.specs.Memory.{stackEnd, stackEntry, heapOk}
-use Rattle.machine_step.specs.Step.{Config, config}
+use Rattle.machine_step.specs.Step.{Config}
 use Rattle.machine.specs.declared.run.Answer.the-variants.{Ended, Limit}
-use Rattle.machine.specs.Run.{done, codesOf, ran}
+use Rattle.machine.specs.Run.{done, codesOf, ran, starting}
 use Rattle.trees_proof.specs.Claims.{Reaches}
 use Rattle.routine.specs.Routine.{argument, head, cleanup, routineBytes, routineAnswer}
 
@@ -72,9 +71,6 @@ pub record Returned (registers : ℕ → ℕ) (b d : Config) : Type 0 where
 abbrev pub routine : Shape → ℕ → ℕ → List ℕ → List Code
 routine G n k body = head G n ++ (codesOf k body ++ cleanup G)
 
-abbrev pub fresh : View → Config
-fresh v = config v Absent []
-
 -- a run of the routine's bytes that ends at RET
 pub record Returns (G : Shape) (words : ℕ → ℕ) (bytes : List ℕ) (limit : ℕ) (v : View) (b : Config) : Type 0 where
   pub steps : ℕ
@@ -87,7 +83,7 @@ pub record Returns (G : Shape) (words : ℕ → ℕ) (bytes : List ℕ) (limit :
 pub record Frames (G : Shape) (words : ℕ → ℕ) (n k : ℕ) (body : List ℕ) (v : View) : Type 0 where
   -- the configuration that the body starts from, at place 16 + n: a run of the routine's bytes comes to it in 16 + n steps
   pub entered : Config
-  pub enters : Reaches words (routine G n k body) (16 + n) 0 (16 + n) (fresh v) entered
+  pub enters : Reaches words (routine G n k body) (16 + n) 0 (16 + n) (starting v) entered
   pub starts : ran (blockWords G) words (routineBytes G n body) (16 + n) v ≡ done (Limit (16 + n)) entered
   pub state : SetUp G n v entered
   -- if the body comes to the cleanup's place, by its end or by a jump, with STACK and the saved words as they were

@@ -26,10 +26,12 @@ use Rattle.order_spec.specs.Answered.{Asked, orderIs, accepted, causeOf, grante
 use Rattle.order_spec.specs.Plain.{plainly}
 use Rattle.order_spec.specs.Writes.{made, treeOf, contextAfter, present, kindsOk, asked}
 use Rattle.order_spec.proofs.Accepting.{all-passed, all-judged}
-use Rattle.soundness.specs.Claims.{Item, isAccepted, reached, values, acquired, AllOwed, After, HeapStaysSoundOnAcquired}
+use Rattle.soundness.specs.Claims.{Item, reached, values, acquired, AllOwed, After, HeapStaysSoundOnAcquired}
+use Rattle.channel_step.specs.Playing.{isAccepted}
 use Rattle.soundness.specs.Example.{putSeven}
 use Rattle.soundness.proofs.Induction.{heap-stays-sound-on-acquired}
 use Rattle.soundness.specs.Puts.{puts, sevens}
+use Rattle.records.specs.Names.{lastLabel}
 
 count-sevens : (n : ℕ) → countOf (sevens n) ≡ n
 count-sevens zero = refl
@@ -40,8 +42,8 @@ one-more zero = refl
 one-more (suc n) = ap (λ (vs : Values). cons (integer 7) vs) (one-more n)
 
 -- records and a context that fit are granted
-fitting : (q : Asked) (t : Tree) (after : List ℕ) → q .counter + labels t ≤ 2147483647 → 24 * size t ≤ q .recordsRoom → length after ≤ q .contextRoom → accepted (granted q t after) ≡ true
-fitting q t after l r c = rw (le-ltb 2147483647 (q .counter + labels t) l, le-ltb (q .recordsRoom) (24 * size t) r, le-ltb (q .contextRoom) (length after) c)
+fitting : (q : Asked) (t : Tree) (after : List ℕ) → q .counter + labels t ≤ lastLabel → 24 * size t ≤ q .recordsRoom → length after ≤ q .contextRoom → accepted (granted q t after) ≡ true
+fitting q t after l r c = rw (le-ltb lastLabel (q .counter + labels t) l, le-ltb (q .recordsRoom) (24 * size t) r, le-ltb (q .contextRoom) (length after) c)
 
 made-long : (k : ℕ) → length (made Ext k) ≡ 8
 unfolding bindingBytes le
@@ -75,7 +77,7 @@ module _ (g : Shape) (sup : Supported g) (blocks : ℕ) (two : 2 ≤ blocks) (mo
   none-acquired : (n : ℕ) → acquired g blocks (puts n) ≡ 0
   unfolding puts putSeven orderBytes le number orderIn orderOf orderReaders
   none-acquired zero = refl
-  none-acquired (suc n) = by (isAccepted g (reached g blocks (puts n)) putSeven) (none-acquired n)
+  none-acquired (suc n) = by (isAccepted g (reached g blocks (puts n)) (putSeven .asked)) (none-acquired n)
     where
       by : (b : Bool) → acquired g blocks (puts n) ≡ 0 → cond b 0 0 + acquired g blocks (puts n) ≡ 0
       by true e = omega arith
@@ -104,7 +106,7 @@ module _ (g : Shape) (sup : Supported g) (blocks : ℕ) (two : 2 ≤ blocks) (mo
   held zero h = refl
   held (suc n) h =
       let before : values g blocks (puts n) ≡ sevens n = held n (omega arith) in
-      put-on n (isAccepted g (reached g blocks (puts n)) putSeven) (values g blocks (puts n)) (put-accepted g sup (reached g blocks (puts n) .context) n (good-after n before) (omega arith)) before
+      put-on n (isAccepted g (reached g blocks (puts n)) (putSeven .asked)) (values g blocks (puts n)) (put-accepted g sup (reached g blocks (puts n) .context) n (good-after n before) (omega arith)) before
 
   pub next-refused : causeOf (answerTo g (reached g blocks (puts (mostVariables g)) .context) (putSeven .asked)) ≡ 8 ∷ []
   next-refused =
@@ -162,10 +164,10 @@ module _ (g : Shape) (sup : Supported g) {n tag : ℕ} (it : Item) (w : Stores n
         let two : 2 ≤ blocks = omega arith in
         let before = held g sup blocks two limit n most in
         let good = good-after g sup blocks two limit n before in
-        stored (isAccepted g (reached g blocks (puts n)) it) (orderIs (it .asked)) (values g blocks (puts n)) ws (store-accepted (reached g blocks (puts n) .context) good) (w .order-is) before p
+        stored (isAccepted g (reached g blocks (puts n)) (it .asked)) (orderIs (it .asked)) (values g blocks (puts n)) ws (store-accepted (reached g blocks (puts n) .context) good) (w .order-is) before p
 
     acquired-so : acquired g blocks (it ∷ puts n) ≤ length (objectSizes g n)
-    acquired-so = rw (w .order-is) (by (isAccepted g (reached g blocks (puts n)) it) (none-acquired g sup blocks (omega arith) limit n))
+    acquired-so = rw (w .order-is) (by (isAccepted g (reached g blocks (puts n)) (it .asked)) (none-acquired g sup blocks (omega arith) limit n))
       where
         by : (b : Bool) → acquired g blocks (puts n) ≡ 0 → cond b (length (objectSizes g n)) 0 + acquired g blocks (puts n) ≤ length (objectSizes g n)
         by true e = omega arith

@@ -11,9 +11,8 @@ use Rattle.layout.specs.Config.{positions}
 use Rattle.records.specs.declared.context.ContextRead.the-variants.{Good}
 use Rattle.records.specs.declared.order.Order.{Order}
 use Rattle.records.specs.declared.order.Order.the-variants.{Put, Compute, Copy, Drop, Store, Load, Print}
-use Rattle.records.specs.Contexts.{checkedContext, extAt}
+use Rattle.records.specs.Contexts.{checkedContext, extAt, bindingsIn}
 use Rattle.machine_step.specs.Step.{Config}
-use Rattle.memory.specs.Answered.{variablesIn}
 use Rattle.heap.specs.Blocks.{pointers}
 use Rattle.heap.specs.Claims.{AbstractHeapStaysSound, HeapAfter, Reaches}
 use Rattle.heap.proofs.GrowthLemmas.{Bounded, represents-bounded, store-reaches}
@@ -35,7 +34,7 @@ use Rattle.word.specs.Results.{result}
 use Rattle.order_spec.specs.Plain.{integerOf, plainly, AsStored, OwedKinds}
 use Rattle.channel_step.specs.Playing.{Channel}
 use Rattle.soundness.specs.Claims.{stateOf, SoundAt, acquires, changes, Owed}
-use Rattle.soundness.proofs.Ending.{start}
+use Rattle.machine.specs.Run.{starting}
 use Rattle.soundness.proofs.Appending.{Performed}
 use Rattle.soundness.proofs.Rooms.{represents-within}
 
@@ -82,7 +81,7 @@ legal bindings (Print newline a) vs e w = let z : _≡_ {A = ℕ} 0 1 = cc in ab
 
 -- how many variables a context has
 pub places-are : (context : List ℕ) (k : ℕ) → checkedContext context ≡ Good k → placesIn context ≡ k
-places-are context k e = ap variablesIn e
+places-are context k e = ap bindingsIn e
 
 module _ (G : Shape) where
   -- for a channel beside the plain machine's values, with the frontier below a bound, and the states before
@@ -90,10 +89,10 @@ module _ (G : Shape) where
     pub places : checkedContext (ch .context) ≡ Good (countOf vs)
     pub kinds : KindsFrom (extAt (ch .context)) 0 vs
     pub few : 2 * countOf vs < positions G
-    pub placed : Placed G blocks (start (ch .view))
+    pub placed : Placed G blocks (starting (ch .view))
     pub frontier : ℕ
     pub low : frontier < bound
-    pub represents : Represents (objectSizes G) (L G) (heapOf G (start (ch .view))) frontier (variables (extAt (ch .context)) (start (ch .view)) 0 (countOf vs)) vs
+    pub represents : Represents (objectSizes G) (L G) (heapOf G (starting (ch .view))) frontier (variables (extAt (ch .context)) (starting (ch .view)) 0 (countOf vs)) vs
     pub run : Run (objectSizes G) (L G) past (stateOf G ch vs)
 
   -- what is carried is what is claimed of the channel, where the bound is within the heap
@@ -120,13 +119,13 @@ module _ (G : Shape) where
   stored-blocks (Print newline a) vs = refl
 
   state-is : (ch : Channel) (k : ℕ) (vs ws : Values) → placesIn (ch .context) ≡ k → vs ≡ ws
-      → _≡_ {A = State} (record { memory = heapOf G (start (ch .view)); variables = variables (extAt (ch .context)) (start (ch .view)) 0 k; values = vs }) (stateOf G ch ws)
+      → _≡_ {A = State} (record { memory = heapOf G (starting (ch .view)); variables = variables (extAt (ch .context)) (starting (ch .view)) 0 k; values = vs }) (stateOf G ch ws)
   state-is ch k vs ws e f = rw (e, f)
 
   -- a bound leaves room for the blocks that the variables lead to before an order, and those that it acquires
   abbrev pub Room : Channel → Values → Order → ℕ → Type 0
   Room ch vs o bound =
-      (count : ℕ) → ReachableCount (heapOf G (start (ch .view)) .fields) (pointers (variables (extAt (ch .context)) (start (ch .view)) 0 (countOf vs))) count → suc (count + acquires G o) < bound
+      (count : ℕ) → ReachableCount (heapOf G (starting (ch .view)) .fields) (pointers (variables (extAt (ch .context)) (starting (ch .view)) 0 (countOf vs))) count → suc (count + acquires G o) < bound
 
   -- the variables hold the plain machine's values after an order, and the frontier is below a bound
   abbrev pub BoundedAfter : Values → Order → List ℕ → ℕ → Config → Type 0
@@ -135,7 +134,7 @@ module _ (G : Shape) where
   -- an order that changes something, on from a channel
   module _ {blocks bound : ℕ} {past : List State} {ch : Channel} {vs : Values} (f : Carried blocks bound past ch vs) (bindings : List ℕ) (o : Order) (changing : changes o ≡ true) (owed : Owed bindings o vs) (context : List ℕ) where
     abbrev Did : Config → Type 0
-    Did d = Performed G blocks (start (ch .view)) (abstractly o vs) (extAt (ch .context)) (extAt context) (countOf vs) (countOf (plainly o vs)) d
+    Did d = Performed G blocks (starting (ch .view)) (abstractly o vs) (extAt (ch .context)) (extAt context) (countOf vs) (countOf (plainly o vs)) d
 
     -- with room for what is reachable before it and what it acquires
     pub bounded-by-room : (bound′ : ℕ) → bound ≤ bound′ → Room ch vs o bound′ → (d : Config) → Did d → BoundedAfter vs o context bound′ d
@@ -151,7 +150,7 @@ module _ (G : Shape) where
     pub reaches-on : checkedContext context ≡ Good (countOf (plainly o vs)) → (d : Config) → Did d → acquires G o ≢ 0
         → (n m : ℕ) → Reaches n (stateOf G ch vs) → Reaches m (stateOf G (record { context = context; view = d .state }) (plainly o vs)) → m ≡ n + acquires G o
     reaches-on good d p some n m a b =
-        let before : ReachableCount (heapOf G (start (ch .view)) .fields) (pointers (variables (extAt (ch .context)) (start (ch .view)) 0 (countOf vs))) n = rw (places-are (ch .context) (countOf vs) (f .places)) at a in
+        let before : ReachableCount (heapOf G (starting (ch .view)) .fields) (pointers (variables (extAt (ch .context)) (starting (ch .view)) 0 (countOf vs))) n = rw (places-are (ch .context) (countOf vs) (f .places)) at a in
         let after : ReachableCount (heapOf G d .fields) (pointers (variables (extAt context) d 0 (countOf (plainly o vs)))) m = rw (places-are context (countOf (plainly o vs)) good) at b in
         omega (arith, store-reaches (p .performs) (λ e. some (sym (stored-blocks o vs) ∙ ap (λ (k : ℕ). length (objectSizes G k)) e)) (f .represents) before after, stored-blocks o vs)
 
@@ -173,11 +172,11 @@ module _ (G : Shape) where
 
   -- a print, which leaves variables and heap as they were
   module _ {blocks bound : ℕ} {past : List State} {ch : Channel} {vs : Values} (f : Carried blocks bound past ch vs) (bound′ : ℕ) (grows : bound ≤ bound′) where
-    pub state-same : (d : Config) → variables (extAt (ch .context)) d 0 (countOf vs) ≡ variables (extAt (ch .context)) (start (ch .view)) 0 (countOf vs) → heapOf G d ≡ heapOf G (start (ch .view))
+    pub state-same : (d : Config) → variables (extAt (ch .context)) d 0 (countOf vs) ≡ variables (extAt (ch .context)) (starting (ch .view)) 0 (countOf vs) → heapOf G d ≡ heapOf G (starting (ch .view))
         → stateOf G (record { context = ch .context; view = d .state }) vs ≡ stateOf G ch vs
     state-same d v h = rw (places-are (ch .context) (countOf vs) (f .places), h, v)
 
-    pub carried-same : (d : Config) → variables (extAt (ch .context)) d 0 (countOf vs) ≡ variables (extAt (ch .context)) (start (ch .view)) 0 (countOf vs) → heapOf G d ≡ heapOf G (start (ch .view)) → Placed G blocks d
+    pub carried-same : (d : Config) → variables (extAt (ch .context)) d 0 (countOf vs) ≡ variables (extAt (ch .context)) (starting (ch .view)) 0 (countOf vs) → heapOf G d ≡ heapOf G (starting (ch .view)) → Placed G blocks d
         → Carried blocks bound′ past (record { context = ch .context; view = d .state }) vs
     carried-same d v h p =
         let next : Channel = record { context = ch .context; view = d .state } in

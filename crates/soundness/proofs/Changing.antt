@@ -24,7 +24,8 @@ use Rattle.trees_proof.specs.Evaluation.{done, evaluate}
 use Rattle.heap.proofs.ValueLemmas.{hold-at}
 use Rattle.heap.specs.Blocks.{Cell, pointers}
 use Rattle.heap.specs.Reachability.{ReachableCount}
-use Rattle.heap.specs.Values.{Value, integer, object, Values, nil, cons, countOf, joined, firstOf, restOf, copies, valueAt, Holds, HoldAll, KindsFrom}
+use Rattle.heap.specs.Values.{Value, integer, object, Values, nil, cons, countOf, joined, firstOf, restOf, copies, valueAt, KindsFrom}
+use Rattle.heap.specs.Apart.{HoldsApart, HoldAllApart}
 use Rattle.heap.specs.Orders as abstract
 use Rattle.heap.specs.Orders.{State, listOf}
 use Rattle.layout_proof.specs.Held.{held, Keeps}
@@ -35,14 +36,14 @@ use Rattle.heap.proofs.OrderLemmas.{storedBy}
 use Rattle.memory_proof.proofs.Shown.{heapOf}
 use Rattle.memory_proof.proofs.Variables.{variable, variables, variables-length}
 use Rattle.order_context_proof.proofs.Bindings.{good-length}
-use Rattle.order_context_proof.proofs.Kinds.{ext-left, ext-right, ext-take, ext-made, ext-made-all, kind-at, ext-in, ext-in-whole}
+use Rattle.order_context_proof.proofs.KindsAfter.{ext-left, ext-right, ext-take, ext-made, ext-made-all, kind-at, ext-in, ext-in-whole}
 use Rattle.order_context_proof.proofs.ValueKinds.{count-joined, count-first, count-copies, integer-at, kinds-moved}
 use Rattle.word.specs.Results.{result, resultDefined}
 use Rattle.order_spec.specs.Plain.{integerOf, plainly, AsStored, OwedKinds, OwedResult}
 use Rattle.order_spec.specs.Writes.{made, madeAll, kindAt, treeOf, contextAfter, present, kindsOk, asked}
 use Rattle.channel_step.specs.Playing.{Channel}
 use Rattle.soundness.specs.Claims.{changes, Owed}
-use Rattle.soundness.proofs.Ending.{start}
+use Rattle.machine.specs.Run.{starting}
 use Rattle.soundness.proofs.Appending.{Performed, put-does, compute-does, compute-stops}
 use Rattle.soundness.proofs.Copying.{among, copy-does}
 use Rattle.soundness.proofs.Dropping.{drop-does, store-tries}
@@ -50,13 +51,13 @@ use Rattle.soundness.proofs.Loading.{Below, load-does}
 use Rattle.soundness.proofs.Carried.{Carried, Room, abstractly}
 
 -- an integer variable's Snd is the plain machine's integer
-pub integer-there : (G : Shape) (fields : ℕ → List Cell) (linked : ℕ → ℕ) (ext : ℕ → Bool) (c : Config) (vs : Values) → HoldAll (objectSizes G) fields linked vs (variables ext c 0 (countOf vs)) → KindsFrom ext 0 vs
+pub integer-there : (G : Shape) (fields : ℕ → List Cell) (linked : ℕ → ℕ) (ext : ℕ → Bool) (c : Config) (vs : Values) → HoldAllApart (objectSizes G) fields linked vs (variables ext c 0 (countOf vs)) → KindsFrom ext 0 vs
     → (a : ℕ) → a < countOf vs → ext a ≡ true → held c (location (2 * a + 1)) ≡ integerOf (valueAt a vs)
 integer-there G fields linked ext c vs holds kinds a h e =
     let z : 0 + a ≡ a = omega arith in
     let i = integer-at ext 0 vs a kinds h (rw z e) in
     let q = hold-at (objectSizes G) fields linked (variables ext c 0 a) (variable ext c a) (variables ext c (suc a) (countOf vs - suc a)) vs (rw (among ext c a (countOf vs) h) at holds) in
-    let p : Holds (objectSizes G) fields linked (integer (i .0)) (variable ext c a) = rw (variables-length ext c 0 a, i .1) at q in
+    let p : HoldsApart (objectSizes G) fields linked (integer (i .0)) (variable ext c a) = rw (variables-length ext c 0 a, i .1) at q in
     rw (i .1) (p .1)
 
 module _ (G : Shape) where
@@ -83,7 +84,7 @@ module _ (G : Shape) where
     K = countOf vs
 
     abbrev C : Config
-    C = start (ch .view)
+    C = starting (ch .view)
 
     abbrev E : ℕ → Bool
     E = extAt (ch .context)

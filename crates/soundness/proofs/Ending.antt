@@ -1,6 +1,5 @@
 -- A tree that does something ends as a run of its records' bytes, with their number as the step limit.
 use mathlib.Core.Bool.{true}
-use mathlib.Core.List.{[]}
 use mathlib.Core.Path.{_≡_, sym, _∙_, ap}
 use Prim.Native.Nat.{ℕ, _+_, _*_, _/_, _%_, _≤_}
 use native.Mathlib.Nat.{add-zero, mul-div-cancel-left, div-add-mod}
@@ -10,12 +9,11 @@ use Rattle.layout.specs.declared.config.Shape.{Shape}
 use Rattle.layout.specs.Config.{blockWords}
 use Rattle.records.specs.ReadBack.{joined, codeBytes}
 use Rattle.trees.specs.Tree.{Tree, labels, size, flat}
-use Rattle.machine_step.specs.declared.instruction.Compared.the-variants.{Absent}
 use Rattle.machine_step.specs.Memory.{heapOk}
-use Rattle.machine_step.specs.Step.{Config, config}
+use Rattle.machine_step.specs.Step.{Config}
 use Rattle.machine_step.specs.View.{View}
 use Rattle.machine.specs.declared.run.Answer.the-variants.{Ended}
-use Rattle.machine.specs.Run.{done, ran, started}
+use Rattle.machine.specs.Run.{done, ran, started, starting}
 use Rattle.trees_proof.specs.Evaluation.{evaluate}
 use Rattle.trees_proof.specs.Evaluation as evaluation
 use Rattle.trees_proof.proofs.Trees.{tree-ends}
@@ -23,13 +21,10 @@ use Rattle.layout_proof.specs.Held.{Placed}
 use Rattle.layout_proof.proofs.Runs.{Does}
 use Rattle.order_formed_proof.proofs.Formed.{Formed}
 use Rattle.order_formed_proof.proofs.Bytes.{ran-started}
-
--- no compare made, and no call
-abbrev pub start : View → Config
-start v = config v Absent []
+use Rattle.records.specs.Names.{lastLabel}
 
 module _ (G : Shape) where
-  pub heap-ok : (blocks : ℕ) (v : View) → Placed G blocks (start v) → 2 ≤ blocks → heapOk (blockWords G) (v .size) ≡ true
+  pub heap-ok : (blocks : ℕ) (v : View) → Placed G blocks (starting v) → 2 ≤ blocks → heapOk (blockWords G) (v .size) ≡ true
   unfolding heapOk
   heap-ok blocks v p h =
       let q : (blockWords G * blocks) / blockWords G ≡ blocks = mul-div-cancel-left blocks (omega arith) in
@@ -41,12 +36,12 @@ module _ (G : Shape) where
     pub steps : ℕ
     pub within : steps ≤ size t
     pub last : Config
-    pub tree : evaluate words t (start v) ≡ evaluation.done last
+    pub tree : evaluate words t (starting v) ≡ evaluation.done last
     pub run : ran (blockWords G) words (joined codeBytes (flat t counter)) (size t) v ≡ done (Ended steps) last
     pub post : Q last
 
-  pub ends : {words : ℕ → ℕ} {t : Tree} {v : View} {Q : Config → Type 0} (counter : ℕ) → Formed t → counter + labels t ≤ 2147483647 → size t ≤ 65536 → heapOk (blockWords G) (v .size) ≡ true
-      → Does words t (start v) Q → Ends words t counter v Q
+  pub ends : {words : ℕ → ℕ} {t : Tree} {v : View} {Q : Config → Type 0} (counter : ℕ) → Formed t → counter + labels t ≤ lastLabel → size t ≤ 65536 → heapOk (blockWords G) (v .size) ≡ true
+      → Does words t (starting v) Q → Ends words t counter v Q
   ends {words} {t} {v} counter f l m h d =
       let e = tree-ends words t counter 0 v (d .to) (d .run) in
       record {

@@ -38,11 +38,11 @@ owed =
     no e = let z : _≡_ {A = ℕ} 0 1 = cc in omega arith
 
 -- an object of two integers has one block
-two-held : (fields : ℕ → List Cell) (linked : ℕ → ℕ) (c : Cell) (chunks : List (List Cell)) → Object fields linked (c .fst) chunks → lengths chunks ≡ 2 ∷ []
-    → HoldAll (objectSizes base) fields linked (cons (integer 7) (cons (integer 120) nil)) (concat chunks) → (c .fst ≢ 0) × (unused : List Cell) × (fields (c .fst) ≡ unused ++ (cell 0 7 ∷ cell 0 120 ∷ []))
-two-held fields linked c [] o l h = let z : _≡_ {A = ℕ} 0 1 = cc in absurd (omega arith)
-two-held fields linked c (d ∷ e ∷ chunks) o l h = let z : _≡_ {A = ℕ} 0 1 = cc in absurd (omega arith)
-two-held fields linked c (d ∷ []) o l h =
+two-held : (fields : ℕ → List Cell) (c : Cell) (chunks : List (List Cell)) → Object fields (c .fst) chunks → lengths chunks ≡ 2 ∷ []
+    → HoldAll (objectSizes base) fields (cons (integer 7) (cons (integer 120) nil)) (concat chunks) → (c .fst ≢ 0) × (unused : List Cell) × (fields (c .fst) ≡ unused ++ (cell 0 7 ∷ cell 0 120 ∷ []))
+two-held fields c [] o l h = let z : _≡_ {A = ℕ} 0 1 = cc in absurd (omega arith)
+two-held fields c (d ∷ e ∷ chunks) o l h = let z : _≡_ {A = ℕ} 0 1 = cc in absurd (omega arith)
+two-held fields c (d ∷ []) o l h =
     let first = h .0 in
     let second = h .4 .0 in
     let is : d ≡ cell 0 7 ∷ cell 0 120 ∷ []
@@ -55,7 +55,7 @@ unfolding HeapStaysSoundOnAcquired
 worked-list-is-sound =
     let a = heap-stays-sound-on-acquired base base-supported 4 workedList (rw two (omega arith)) (omega arith) owed in
     let s = a .sound .heap in
-    let h : HoldAll (objectSizes base) (stateAfter base 4 workedList .memory .fields) (s .linked) workedValues (stateAfter base 4 workedList .variables) = rw plain at (s .holds) in
+    let h : HoldAll (objectSizes base) (stateAfter base 4 workedList .memory .fields) workedValues (stateAfter base 4 workedList .variables) = rw plain at (s .holds) in
     let o = h .3 in
-    let t = two-held (stateAfter base 4 workedList .memory .fields) (s .linked) (h .0) (o .2) (o .3) (o .5) (o .4) in
+    let t = two-held (stateAfter base 4 workedList .memory .fields) (h .0) (o .1) (o .2) (o .4) (o .3) in
     record { acquires-two = two; plain-values = plain; after = a; shown = (h .0, h .2 ∙ ap (λ (r : List Cell). h .0 ∷ r) (h .4), o .0, t .0, t .1, t .2) }

@@ -22,7 +22,8 @@ use Rattle.memory.specs.Objects.{objectSizes}
 use Rattle.order_spec.specs.Answered.{answerTo}
 use Rattle.order_spec.specs.Plain.{plainly}
 use Rattle.order_spec.specs.Writes.{treeOf, contextAfter, present, kindsOk, asked}
-use Rattle.soundness.specs.Claims.{Item, runOf, reached, values, acquired, AllOwed, PeakWithin, stateAfter, Ran, AllRan, HeapStaysSound}
+use Rattle.soundness.specs.Claims.{Item, reached, values, acquired, AllOwed, PeakWithin, stateAfter, Ran, AllRan, HeapStaysSound}
+use Rattle.channel_step.specs.Playing.{runOf}
 use Rattle.soundness.specs.Peak.{NoFault, Unfaulted, OneFewerIsTooFew}
 use Rattle.soundness.specs.Example.{putSeven, storeOne, loadReleased}
 use Rattle.soundness.proofs.Induction.{heap-stays-sound, left-by-runs}
@@ -81,14 +82,14 @@ no-fault blocks (it ∷ its) r = ((λ e. ended (r .0 e)), no-fault blocks its (r
     kind (Fault k p) = 1
     kind (Limit k) = 2
 
-    ended : Ran base (reached base blocks its) (values base blocks its) it → (steps place : ℕ) → runOf base (reached base blocks its) it .answer ≢ Fault steps place
+    ended : Ran base (reached base blocks its) (values base blocks its) it → (steps place : ℕ) → runOf base (reached base blocks its) (it .asked) (it .words) .answer ≢ Fault steps place
     ended s steps place f = let z : _≡_ {A = ℕ} 0 1 = ap kind (sym (s .ended) ∙ f) in absurd (omega arith)
 
 -- an object of one has a block
-one-block : (fields : ℕ → List Cell) (linked : ℕ → ℕ) (p : ℕ) (chunks : List (List Cell)) → Object fields linked p chunks → lengths chunks ≡ 1 ∷ [] → p ≢ 0
-one-block fields linked p [] o l = let z : _≡_ {A = ℕ} 0 1 = cc in absurd (omega arith)
-one-block fields linked p (c ∷ []) o l = o .0
-one-block fields linked p (c ∷ d ∷ chunks) o l = o .0
+one-block : (fields : ℕ → List Cell) (p : ℕ) (chunks : List (List Cell)) → Object fields p chunks → lengths chunks ≡ 1 ∷ [] → p ≢ 0
+one-block fields p [] o l = let z : _≡_ {A = ℕ} 0 1 = cc in absurd (omega arith)
+one-block fields p (c ∷ []) o l = o .0
+one-block fields p (c ∷ d ∷ chunks) o l = o .0
 
 pub one-fewer-is-too-few : OneFewerIsTooFew
 unfolding OneFewerIsTooFew
@@ -104,10 +105,10 @@ one-fewer-is-too-few claim =
     let l = left-by-runs base base-supported 2 short u in
     let h = a .sound .heap in
     let s = stateAfter base 2 short in
-    let held : HoldAll (objectSizes base) (s .memory .fields) (h .linked) (cons (object 5 (cons (integer 7) nil)) nil) (s .variables) = rw short-values at (h .holds) in
+    let held : HoldAll (objectSizes base) (s .memory .fields) (cons (object 5 (cons (integer 7) nil)) nil) (s .variables) = rw short-values at (h .holds) in
     let c : Cell = held .0 in
     let o = held .3 in
     let is : pointers (s .variables) ≡ c .fst ∷ [] = ap pointers (held .2 ∙ ap (λ (r : List Cell). c ∷ r) (held .4)) in
-    let nz = one-block (s .memory .fields) (h .linked) (c .fst) (o .2) (o .3) (o .5) in
-    let there = h .reachable-count .complete (c .fst) (start nz (rw is (omega (arith, same-self (c .fst))))) in
-    omega (arith, frontier-unique (l .heap .sound) (h .sound), a .sound .frontier-there, l .past-peak, l .is-peak .within .0 (h .reachable) (h .reachable-count), h .reachable-count .size, occ-length (c .fst) (h .reachable-count .list))
+    let nz = one-block (s .memory .fields) (c .fst) (o .1) (o .2) (o .4) in
+    let there = h .beyond .reachable-count .complete (c .fst) (start nz (rw is (omega (arith, same-self (c .fst))))) in
+    omega (arith, frontier-unique (l .heap .sound) (h .sound), a .sound .frontier-there, l .past-peak, l .is-peak .within .0 (h .beyond .reachable) (h .beyond .reachable-count), h .beyond .reachable-count .size, occ-length (c .fst) (h .beyond .reachable-count .list))

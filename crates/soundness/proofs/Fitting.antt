@@ -18,10 +18,10 @@ use Rattle.heap.specs.Orders.{Every}
 use Rattle.order_spec.specs.Answered.{orderIs, placesIn, orderContext}
 use Rattle.order_spec.specs.Plain.{plainly}
 use Rattle.order_spec.specs.Writes.{treeOf}
-use Rattle.channel_step.specs.Playing.{Channel}
-use Rattle.soundness.specs.Claims.{Item, isAccepted, acquires, changes, stateOf, reached, values, stateAfter, statesBefore, AllOwed, PeakWithin, HeapStaysSound}
+use Rattle.channel_step.specs.Playing.{Channel, isAccepted}
+use Rattle.soundness.specs.Claims.{Item, acquires, changes, stateOf, reached, values, stateAfter, statesBefore, AllOwed, PeakWithin, HeapStaysSound}
 use Rattle.soundness.specs.Peak.{Unfaulted, PeakIsEnough}
-use Rattle.soundness.proofs.Ending.{start}
+use Rattle.machine.specs.Run.{starting}
 use Rattle.soundness.proofs.Induction.{zeros, StepOn, heap-stays-sound, unfaulted-before, stepped-by-runs, owed-by-runs, left-by-runs, stepped-by-peak}
 
 never : {A : Type 0} → false ≡ true → A
@@ -36,10 +36,10 @@ module _ (G : Shape) (sup : Supported G) where
   abbrev treeOn : Channel → Item → Tree
   treeOn ch it = treeOf G (ch .context) (placesIn (ch .context)) (it .asked .bindings) (orderIs (it .asked))
 
-  reached-is : {bound bound′ : ℕ} (blocks : ℕ) (it : Item) (its : List Item) → isAccepted G (reached G blocks its) it ≡ true → (s : StepOn G sup blocks bound bound′ it its) → reached G blocks (it ∷ its) ≡ leftBy (reached G blocks its) it (s .to)
+  reached-is : {bound bound′ : ℕ} (blocks : ℕ) (it : Item) (its : List Item) → isAccepted G (reached G blocks its) (it .asked) ≡ true → (s : StepOn G sup blocks bound bound′ it its) → reached G blocks (it ∷ its) ≡ leftBy (reached G blocks its) it (s .to)
   reached-is blocks it its e s = rw (e, s .left)
 
-  state-is : {bound bound′ : ℕ} (blocks : ℕ) (it : Item) (its : List Item) → isAccepted G (reached G blocks its) it ≡ true → (s : StepOn G sup blocks bound bound′ it its)
+  state-is : {bound bound′ : ℕ} (blocks : ℕ) (it : Item) (its : List Item) → isAccepted G (reached G blocks its) (it .asked) ≡ true → (s : StepOn G sup blocks bound bound′ it its)
       → stateAfter G blocks (it ∷ its) ≡ stateOf G (leftBy (reached G blocks its) it (s .to)) (plainly (orderIs (it .asked)) (values G blocks its))
   state-is blocks it its e s = rw (e, s .left)
 
@@ -49,25 +49,25 @@ module _ (G : Shape) (sup : Supported G) where
     SoFar its = Every (ReachesAtMost peak) (stateAfter G blocks its ∷ statesBefore G blocks its)
 
     so-far-before : (it : Item) (its : List Item) → Unfaulted G blocks (it ∷ its) → SoFar (it ∷ its) → SoFar its
-    so-far-before it its u h = by (isAccepted G (reached G blocks its) it) refl
+    so-far-before it its u h = by (isAccepted G (reached G blocks its) (it .asked)) refl
       where
-        changing : (q : Bool) → changes (orderIs (it .asked)) ≡ q → isAccepted G (reached G blocks its) it ≡ true → SoFar its
+        changing : (q : Bool) → changes (orderIs (it .asked)) ≡ q → isAccepted G (reached G blocks its) (it .asked) ≡ true → SoFar its
         changing true c e = (rw (e, c) at h) .1
         changing false c e =
             let s = stepped-by-runs G sup blocks it its u e in
             (subst (ReachesAtMost peak) (state-is blocks it its e s ∙ s .kept c) (h .0), (rw (e, c) at h) .1)
 
-        by : (q : Bool) → isAccepted G (reached G blocks its) it ≡ q → SoFar its
+        by : (q : Bool) → isAccepted G (reached G blocks its) (it .asked) ≡ q → SoFar its
         by true e = changing (changes (orderIs (it .asked))) refl e
         by false e = rw e at h
 
     -- what an accepted store of some counts is within the peak, since the variables lead to as many blocks after it
-    counted : (it : Item) (its : List Item) → Unfaulted G blocks (it ∷ its) → SoFar (it ∷ its) → isAccepted G (reached G blocks its) it ≡ true → acquires G (orderIs (it .asked)) ≢ 0
+    counted : (it : Item) (its : List Item) → Unfaulted G blocks (it ∷ its) → SoFar (it ∷ its) → isAccepted G (reached G blocks its) (it .asked) ≡ true → acquires G (orderIs (it .asked)) ≢ 0
         → (count : ℕ) → Reaches count (stateAfter G blocks its) → count + acquires G (orderIs (it .asked)) ≤ peak
     counted it its u h e some count r =
         let s = stepped-by-runs G sup blocks it its u e in
         let after = left-by-runs G sup blocks (it ∷ its) u .heap in
-        omega (arith, h .0 (after .reachable) (after .reachable-count), s .reaches some count (after .reachable) r (subst (Reaches (after .reachable)) (state-is blocks it its e s) (after .reachable-count)))
+        omega (arith, h .0 (after .beyond .reachable) (after .beyond .reachable-count), s .reaches some count (after .beyond .reachable) r (subst (Reaches (after .beyond .reachable)) (state-is blocks it its e s) (after .beyond .reachable-count)))
 
     -- a channel beside the fitted heap
     abbrev refitted : Channel → Channel
@@ -85,10 +85,10 @@ module _ (G : Shape) (sup : Supported G) where
         rw (m, length-replicate {A = ℕ} (blockWords G * fitted) 0)
 
     module _ (it : Item) (its : List Item) (u : Unfaulted G blocks (it ∷ its)) (h : SoFar (it ∷ its)) (a : Fitted its) where
-      accepted-alike : (q : Bool) → isAccepted G (reached G blocks its) it ≡ q → isAccepted G (reached G fitted its) it ≡ q
-      accepted-alike q e = ap (λ (ch : Channel). isAccepted G ch it) (a .channel) ∙ e
+      accepted-alike : (q : Bool) → isAccepted G (reached G blocks its) (it .asked) ≡ q → isAccepted G (reached G fitted its) (it .asked) ≡ q
+      accepted-alike q e = ap (λ (ch : Channel). isAccepted G ch (it .asked)) (a .channel) ∙ e
 
-      refused : isAccepted G (reached G blocks its) it ≡ false → Fitted (it ∷ its)
+      refused : isAccepted G (reached G blocks its) (it .asked) ≡ false → Fitted (it ∷ its)
       refused e =
           let f = accepted-alike false e in
           record {
@@ -98,7 +98,7 @@ module _ (G : Shape) (sup : Supported G) where
             owed = (λ t. never (sym f ∙ t), a .owed);
           }
 
-      accepted : isAccepted G (reached G blocks its) it ≡ true → Fitted (it ∷ its)
+      accepted : isAccepted G (reached G blocks its) (it .asked) ≡ true → Fitted (it ∷ its)
       accepted e = record {
         channel = reached-is fitted it its f t ∙ ap (λ (ch : Channel). leftBy ch it (t .to)) (a .channel) ∙ ap (leftBy (refitted (reached G blocks its)) it) ends-alike ∙ ap refitted (sym (reached-is blocks it its e s));
         same-values = rw (e, f, a .same-values);
@@ -106,7 +106,7 @@ module _ (G : Shape) (sup : Supported G) where
         owed = owed;
       }
         where
-          f : isAccepted G (reached G fitted its) it ≡ true
+          f : isAccepted G (reached G fitted its) (it .asked) ≡ true
           f = accepted-alike true e
 
           s : StepOn G sup blocks (suc blocks) (suc blocks) it its
@@ -123,14 +123,14 @@ module _ (G : Shape) (sup : Supported G) where
 
           ends-alike : t .to ≡ resized (blockWords G * fitted) (s .to)
           ends-alike =
-              evaluate-sizes (it .words) (treeOn (reached G blocks its) it) (blockWords G * fitted) (start (reached G blocks its .view)) (s .to) (t .to) (s .tree)
-              (subst (λ (ch : Channel). evaluate (it .words) (treeOn ch it) (start (ch .view)) ≡ done (t .to)) (a .channel) (t .tree))
+              evaluate-sizes (it .words) (treeOn (reached G blocks its) it) (blockWords G * fitted) (starting (reached G blocks its .view)) (s .to) (t .to) (s .tree)
+              (subst (λ (ch : Channel). evaluate (it .words) (treeOn ch it) (starting (ch .view)) ≡ done (t .to)) (a .channel) (t .tree))
 
     fitted-on : (its : List Item) → Unfaulted G blocks its → SoFar its → Fitted its
     fitted-on [] u h = record { channel = first; same-values = refl; within = tt; owed = tt }
-    fitted-on (it ∷ its) u h = by (isAccepted G (reached G blocks its) it) refl (fitted-on its (unfaulted-before G sup blocks u) (so-far-before it its u h))
+    fitted-on (it ∷ its) u h = by (isAccepted G (reached G blocks its) (it .asked)) refl (fitted-on its (unfaulted-before G sup blocks u) (so-far-before it its u h))
       where
-        by : (q : Bool) → isAccepted G (reached G blocks its) it ≡ q → Fitted its → Fitted (it ∷ its)
+        by : (q : Bool) → isAccepted G (reached G blocks its) (it .asked) ≡ q → Fitted its → Fitted (it ∷ its)
         by true e a = accepted it its u h a e
         by false e a = refused it its u h a e
 

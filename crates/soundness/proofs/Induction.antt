@@ -39,12 +39,12 @@ use Rattle.order_spec.specs.declared.answer.Answer.{Answer}
 use Rattle.order_spec.specs.declared.answer.Answer.the-variants as answers
 use Rattle.order_spec.specs.Answered.{accepted, orderIs, placesIn, answerTo, counterAfter}
 use Rattle.order_spec.specs.Plain.{OwedKinds}
-use Rattle.channel_step.specs.Playing.{Channel, fresh}
-use Rattle.soundness.specs.Claims.{Item, isAccepted, runOf, reached, values, acquired, changes, PeakWithin, AllOwed, stateAfter, statesBefore, SoundChannel, SoundBefore, AllRan, Refused, AllRefused, After, HeapStaysSound, HeapStaysSoundOnAcquired, acquires, Owed}
+use Rattle.channel_step.specs.Playing.{Channel, fresh, isAccepted, runOf}
+use Rattle.soundness.specs.Claims.{Item, reached, values, acquired, changes, PeakWithin, AllOwed, stateAfter, statesBefore, SoundChannel, SoundBefore, AllRan, Refused, AllRefused, After, HeapStaysSound, HeapStaysSoundOnAcquired, acquires, Owed}
 use Rattle.soundness.specs.Peak.{NoFault, LoadsOwed, ReachesWithin, HeapAfterList, PeakOf, Unfaulted, FrontierWithinPeakOfLists, FrontierIsPeak}
 use Rattle.soundness.specs.Shapes.{EveryShapeStaysSound}
 use Rattle.order_spec.proofs.Accepting.{Taken, taken}
-use Rattle.soundness.proofs.Ending.{start}
+use Rattle.machine.specs.Run.{starting}
 use Rattle.soundness.proofs.Carried.{Carried, heap-after, sound-at, Room, bounded-by-room, bounded-by-run, places-are}
 use Rattle.soundness.proofs.Changing.{changing-tries, result-by-run}
 use Rattle.soundness.proofs.Stepping.{SteppedAt, Way, runAt, not-faulted, stepped}
@@ -65,7 +65,7 @@ module _ (G : Shape) (sup : Supported G) where
       by false = refl
 
   -- a refused order
-  refused : (ch : Channel) (it : Item) → isAccepted G ch it ≡ false → Refused G ch it
+  refused : (ch : Channel) (it : Item) → isAccepted G ch (it .asked) ≡ false → Refused G ch it
   refused ch it e = record { channel-kept = rw e; records-kept = λ o. rw e; context-kept = λ o. rw e; counter-kept = by (answerTo G (ch .context) (it .asked)) e }
     where
       by : (r : Answer) → accepted r ≡ false → counterAfter (it .asked .counter) r ≡ it .asked .counter
@@ -90,7 +90,7 @@ module _ (G : Shape) (sup : Supported G) where
   StepOn blocks bound bound′ it its = SteppedAt G blocks bound bound′ (statesBefore G blocks its) (reached G blocks its) (values G blocks its) it (placesIn (reached G blocks its .context))
 
   module _ (blocks : ℕ) (most : blocks ≤ 1048576) where
-    first : Fresh (L G) (heapOf G (start (fresh G blocks .view)))
+    first : Fresh (L G) (heapOf G (starting (fresh G blocks .view)))
     first = record { zeroed = zeroed (blockWords G * blocks); first = omega arith; second = omega arith }
 
     none-yet : (bound : ℕ) → 2 ≤ bound → Carried G blocks bound [] (fresh G blocks) nil
@@ -102,7 +102,7 @@ module _ (G : Shape) (sup : Supported G) where
       frontier = 1;
       low = omega arith;
       represents = represents-fresh first;
-      run = subst (λ (k : ℕ). Run (objectSizes G) (L G) [] (record { memory = heapOf G (start (fresh G blocks .view)); variables = variables (extAt []) (start (fresh G blocks .view)) 0 k; values = nil })) (sym (places-are [] 0 good-none)) (abstract.fresh first);
+      run = subst (λ (k : ℕ). Run (objectSizes G) (L G) [] (record { memory = heapOf G (starting (fresh G blocks .view)); variables = variables (extAt []) (starting (fresh G blocks .view)) 0 k; values = nil })) (sym (places-are [] 0 good-none)) (abstract.fresh first);
     }
 
     -- what the induction carries after a list, for a bound
@@ -126,13 +126,13 @@ module _ (G : Shape) (sup : Supported G) where
       two : (its : List Item) → 2 ≤ bound its
       blocks-two : (its : List Item) → granted its → 2 ≤ blocks
       grows : (it : Item) (its : List Item) → bound its ≤ bound (it ∷ its)
-      refused : (it : Item) (its : List Item) → isAccepted G (reached G blocks its) it ≡ false → bound (it ∷ its) ≡ bound its
-      owed : (it : Item) (its : List Item) → granted (it ∷ its) → isAccepted G (reached G blocks its) it ≡ true → TakenAt it its → CarriedAt (bound its) its → OwedAt it its
-      way : (it : Item) (its : List Item) → granted (it ∷ its) → isAccepted G (reached G blocks its) it ≡ true → TakenAt it its → CarriedAt (bound its) its → WayAt (bound its) (bound (it ∷ its)) it its
+      refused : (it : Item) (its : List Item) → isAccepted G (reached G blocks its) (it .asked) ≡ false → bound (it ∷ its) ≡ bound its
+      owed : (it : Item) (its : List Item) → granted (it ∷ its) → isAccepted G (reached G blocks its) (it .asked) ≡ true → TakenAt it its → CarriedAt (bound its) its → OwedAt it its
+      way : (it : Item) (its : List Item) → granted (it ∷ its) → isAccepted G (reached G blocks its) (it .asked) ≡ true → TakenAt it its → CarriedAt (bound its) its → WayAt (bound its) (bound (it ∷ its)) it its
 
     module _ (g : Grants) where
       -- an accepted item
-      step : (it : Item) (its : List Item) → isAccepted G (reached G blocks its) it ≡ true → g .granted (it ∷ its) → CarriedAt (g .bound its) its → StepOn blocks (g .bound its) (g .bound (it ∷ its)) it its
+      step : (it : Item) (its : List Item) → isAccepted G (reached G blocks its) (it .asked) ≡ true → g .granted (it ∷ its) → CarriedAt (g .bound its) its → StepOn blocks (g .bound its) (g .bound (it ∷ its)) it its
       step it its e h f =
           let t = taken G (reached G blocks its .context) (it .asked) (countOf (values G blocks its)) (f .places) e in
           subst (λ (k : ℕ). SteppedAt G blocks (g .bound its) (g .bound (it ∷ its)) (statesBefore G blocks its) (reached G blocks its) (values G blocks its) it k)
@@ -142,9 +142,9 @@ module _ (G : Shape) (sup : Supported G) where
 
       carried : (its : List Item) → g .granted its → CarriedAt (g .bound its) its
       carried [] h = none-yet (g .bound []) (g .two [])
-      carried (it ∷ its) h = by (isAccepted G (reached G blocks its) it) refl (carried its (g .before it its h))
+      carried (it ∷ its) h = by (isAccepted G (reached G blocks its) (it .asked)) refl (carried its (g .before it its h))
         where
-          by : (q : Bool) → isAccepted G (reached G blocks its) it ≡ q → CarriedAt (g .bound its) its → CarriedAt (g .bound (it ∷ its)) (it ∷ its)
+          by : (q : Bool) → isAccepted G (reached G blocks its) (it .asked) ≡ q → CarriedAt (g .bound its) its → CarriedAt (g .bound (it ∷ its)) (it ∷ its)
           by true e f = rw e (step it its e h f .carried)
           by false e f = rw (e, g .refused it its e) f
 
@@ -218,14 +218,14 @@ module _ (G : Shape) (sup : Supported G) where
     }
 
     -- by runs that meet no fault
-    tree-done : (it : Item) (its : List Item) → 2 ≤ blocks → ((steps place : ℕ) → runOf G (reached G blocks its) it .answer ≢ Fault steps place) → TakenAt it its → (f : CarriedAt (suc blocks) its)
-        → (d : Config) × (evaluate (it .words) (treeOf G (reached G blocks its .context) (countOf (values G blocks its)) (it .asked .bindings) (orderIs (it .asked))) (start (reached G blocks its .view)) ≡ done d)
+    tree-done : (it : Item) (its : List Item) → 2 ≤ blocks → ((steps place : ℕ) → runOf G (reached G blocks its) (it .asked) (it .words) .answer ≢ Fault steps place) → TakenAt it its → (f : CarriedAt (suc blocks) its)
+        → (d : Config) × (evaluate (it .words) (treeOf G (reached G blocks its .context) (countOf (values G blocks its)) (it .asked .bindings) (orderIs (it .asked))) (starting (reached G blocks its .view)) ≡ done d)
     tree-done it its two n t f =
         not-faulted G blocks (suc blocks) (suc blocks) (statesBefore G blocks its) (reached G blocks its) (values G blocks its) it f t two
         (subst (λ (k : ℕ). (steps place : ℕ) → runAt G blocks (suc blocks) (suc blocks) (statesBefore G blocks its) (reached G blocks its) (values G blocks its) it k .answer ≢ Fault steps place)
         (places-are (reached G blocks its .context) (countOf (values G blocks its)) (f .places)) n)
 
-    owed-by-run : (it : Item) (its : List Item) → 2 ≤ blocks → ((steps place : ℕ) → runOf G (reached G blocks its) it .answer ≢ Fault steps place) → OwedKinds (it .asked .bindings) (orderIs (it .asked)) (values G blocks its)
+    owed-by-run : (it : Item) (its : List Item) → 2 ≤ blocks → ((steps place : ℕ) → runOf G (reached G blocks its) (it .asked) (it .words) .answer ≢ Fault steps place) → OwedKinds (it .asked .bindings) (orderIs (it .asked)) (values G blocks its)
         → TakenAt it its → CarriedAt (suc blocks) its → OwedAt it its
     owed-by-run it its two n kinds t f =
         let d = tree-done it its two n t f in
@@ -252,13 +252,13 @@ module _ (G : Shape) (sup : Supported G) where
     -- the fresh state's variables lead to nothing
     first-reaches : (peak : ℕ) → ReachesAtMost peak (stateAfter G blocks [])
     first-reaches peak =
-        subst (λ (k : ℕ). (count : ℕ) → ReachableCount (heapOf G (start (fresh G blocks .view)) .fields) (pointers (variables (extAt []) (start (fresh G blocks .view)) 0 k)) count → count ≤ peak)
+        subst (λ (k : ℕ). (count : ℕ) → ReachableCount (heapOf G (starting (fresh G blocks .view)) .fields) (pointers (variables (extAt []) (starting (fresh G blocks .view)) 0 k)) count → count ≤ peak)
         (sym (places-are [] 0 good-none)) (λ count k. omega (arith, nothing-led _ [] (λ b nz. refl) count k))
 
     -- the states so far are the fresh one and those after the orders
     every : (peak : ℕ) (its : List Item) → ReachesWithin G blocks peak its → Every (ReachesAtMost peak) (stateAfter G blocks its ∷ statesBefore G blocks its)
     every peak [] h = (first-reaches peak, tt)
-    every peak (it ∷ its) h = (h .0, by (isAccepted G (reached G blocks its) it && changes (orderIs (it .asked))) (every peak its (h .1)))
+    every peak (it ∷ its) h = (h .0, by (isAccepted G (reached G blocks its) (it .asked) && changes (orderIs (it .asked))) (every peak its (h .1)))
       where
         by : (q : Bool) → Every (ReachesAtMost peak) (stateAfter G blocks its ∷ statesBefore G blocks its) → Every (ReachesAtMost peak) (cond q (stateAfter G blocks its ∷ statesBefore G blocks its) (statesBefore G blocks its))
         by true e = e
@@ -284,11 +284,11 @@ module _ (G : Shape) (sup : Supported G) where
     unfolding by-runs
     carried-by-runs its u = carried blocks (u .most) (by-runs blocks (u .most) (u .two)) its (u .no-fault, u .loads)
 
-    pub stepped-by-runs : (it : Item) (its : List Item) → Unfaulted G blocks (it ∷ its) → isAccepted G (reached G blocks its) it ≡ true → StepOn blocks (suc blocks) (suc blocks) it its
+    pub stepped-by-runs : (it : Item) (its : List Item) → Unfaulted G blocks (it ∷ its) → isAccepted G (reached G blocks its) (it .asked) ≡ true → StepOn blocks (suc blocks) (suc blocks) it its
     unfolding by-runs
     stepped-by-runs it its u e = step blocks (u .most) (by-runs blocks (u .most) (u .two)) it its e (u .no-fault, u .loads) (carried-by-runs its (unfaulted-before u))
 
-    pub owed-by-runs : (it : Item) (its : List Item) → Unfaulted G blocks (it ∷ its) → isAccepted G (reached G blocks its) it ≡ true → Owed (it .asked .bindings) (orderIs (it .asked)) (values G blocks its)
+    pub owed-by-runs : (it : Item) (its : List Item) → Unfaulted G blocks (it ∷ its) → isAccepted G (reached G blocks its) (it .asked) ≡ true → Owed (it .asked .bindings) (orderIs (it .asked)) (values G blocks its)
     owed-by-runs it its u e =
         let f = carried-by-runs its (unfaulted-before u) in
         owed-by-run blocks (u .most) it its (u .two) (u .no-fault .0 e) (u .loads .0 e) (taken G (reached G blocks its .context) (it .asked) (countOf (values G blocks its)) (f .places) e) f
@@ -311,7 +311,7 @@ module _ (G : Shape) (sup : Supported G) where
         record { heap = s .0; within = omega (arith, s .1); peak = p .0; is-peak = p .1; past-peak = p .2; whole = f .placed .words }
 
   -- a step on a heap of two blocks more than the peak
-  pub stepped-by-peak : (blocks peak : ℕ) → blocks ≤ 1048576 → 2 + peak ≤ blocks → (it : Item) (its : List Item) → PeakWithin G blocks peak (it ∷ its) → AllOwed G blocks (it ∷ its) → isAccepted G (reached G blocks its) it ≡ true
+  pub stepped-by-peak : (blocks peak : ℕ) → blocks ≤ 1048576 → 2 + peak ≤ blocks → (it : Item) (its : List Item) → PeakWithin G blocks peak (it ∷ its) → AllOwed G blocks (it ∷ its) → isAccepted G (reached G blocks its) (it .asked) ≡ true
       → StepOn blocks blocks blocks it its
   unfolding by-peak
   stepped-by-peak blocks peak most enough it its h w e =

@@ -23,6 +23,7 @@ use Rattle.soundness.specs.Operations.{MemoryDoes, OperationsDoWhatTheyN
 use Rattle.soundness.proofs.Operating.{operations-do-what-they-name-on-acquired}
 use Rattle.soundness.specs.Example.{putSeven, storeOne}
 use Rattle.soundness.specs.Operated.{oneStored, WorkedOperations}
+use Rattle.records.specs.Names.{mostCount}
 
 one : acquired base 4 oneStored ≡ 1
 unfolding answerTo orderBytes le number checkedContext firstFlaw bindingBytes orderIn orderOf orderReaders orderOk orderOperandsOk usedByOrder orderStarts treeOf contextAfter present kindsOk asked plainly location stackOffset putSeven storeOne
@@ -42,7 +43,7 @@ worked-operations = record {
   plain-values = plain;
   stored = λ words. does words .stores 1 (omega (arith, one)) refl;
   loaded = λ words. does words .loads (made Ext 0) (refl, (refl, tt)) refl;
-  shared = λ words. does words .shares 0 2147483647 (omega arith) refl refl;
+  shared = λ words. does words .shares 0 mostCount (omega arith) refl refl;
   erased = λ words. does words .erases 0 (omega arith) refl refl;
 }
   where

@@ -26,7 +26,7 @@ use Rattle.memory.specs.Blocks.{eraseBlock, shareBlock}
 use Rattle.memory.proofs.Sizes.{erase-size, share-size, store-object-size, object-size}
 use Rattle.machine_step.specs.Step.{Config}
 use Rattle.machine_step.specs.View.{View}
-use Rattle.machine.specs.Run.{Done}
+use Rattle.machine.specs.Run.{Done, starting}
 use Rattle.heap.specs.Blocks.{Cell, cell, pointers, Memory}
 use Rattle.heap.proofs.ConsistencyLemmas.{consistent-same-roots, drop-consistent}
 use Rattle.heap.proofs.CountingLemmas.{occ-replicate, occ-replicate-other, occ-pointers}
@@ -36,8 +36,9 @@ use Rattle.heap.specs.Operations.{Share, withHeaders, withLazy}
 use Rattle.heap.specs.Orders.{State, store, load}
 use Rattle.heap.proofs.OrderLemmas.{represents-copy}
 use Rattle.heap.proofs.SoundLemmas.{sound, sound-refs}
-use Rattle.heap.proofs.ValueLemmas.{hold-joined, hold-first, hold-rest}
-use Rattle.heap.specs.Values.{Value, integer, object, Values, nil, cons, countOf, joined, firstOf, restOf, valueAt, copies, HoldAll}
+use Rattle.heap.proofs.ValueLemmas.{hold-joined, hold-first, hold-rest, held-plainly}
+use Rattle.heap.specs.Values.{Value, integer, object, Values, nil, cons, countOf, joined, firstOf, restOf, valueAt, copies}
+use Rattle.heap.specs.Apart.{HoldAllApart}
 use Rattle.heap.specs.Words.{addressOf, numberOf, byAddress, headers}
 use Rattle.layout_proof.specs.Held.{held, Keeps, Placed}
 use Rattle.layout_proof.proofs.HeldLemmas.{keeps-refl, placed-keeps, location-free, location-grows}
@@ -51,7 +52,7 @@ use Rattle.order_formed_proof.proofs.Blocks.{formed-erase, formed-share}
 use Rattle.order_formed_proof.proofs.Objects.{formed-store, formed-load}
 use Rattle.order_context_proof.proofs.After.{count-within, context-after}
 use Rattle.order_context_proof.proofs.Bindings.{good-length, good-none, good-take}
-use Rattle.order_context_proof.proofs.Kinds.{ext-left, ext-right, ext-take, ext-made, ext-in-whole}
+use Rattle.order_context_proof.proofs.KindsAfter.{ext-left, ext-right, ext-take, ext-made, ext-in-whole}
 use Rattle.order_context_proof.proofs.ValueKinds.{isInteger, kinds-at, count-joined, count-first}
 use Rattle.order_spec.specs.Answered.{placesIn}
 use Rattle.order_spec.specs.Plain.{plainly, AsStored}
@@ -59,13 +60,14 @@ use Rattle.order_spec.specs.Writes.{made, treeOf, contextAfter, present, asked}
 use Rattle.channel_step.specs.Playing.{Channel}
 use Rattle.soundness.specs.Claims.{acquired, stateOf, SoundAt}
 use Rattle.soundness.proofs.Appending.{Performed}
-use Rattle.soundness.proofs.Ending.{start, heap-ok, ends}
+use Rattle.soundness.proofs.Ending.{heap-ok, ends}
 use Rattle.soundness.proofs.Carried.{Carried, sound-at, places-are, Room, bounded-by-room, carried-on}
 use Rattle.soundness.proofs.Changing.{loaded-most, load-keeps}
 use Rattle.soundness.proofs.Copying.{among}
 use Rattle.order_formed_proof.proofs.Granting.{erase-granted, share-granted, store-granted, load-granted}
 use Rattle.soundness.proofs.Induction.{carried-within-peak, carried-on-acquired, peak-room}
 use Rattle.soundness.specs.Operations.{RunLeaves, heldAt, Stay, FieldsStay, SoundFor, Stored, Loaded, Shared, Erased, OperationsDoWhatTheyName, OperationsDoWhatTheyNameOnAcquired}
+use Rattle.records.specs.Names.{lastLabel}
 
 -- what a tree keeps stays
 stays : {G : Shape} {N : ℕ} {P Q : ℕ → Type 0} (c d : Config) → Placed G N c → Keeps P c d → ((l : ℕ) → Q l → P l) → Stay G Q (c .state) (d .state)
@@ -84,9 +86,8 @@ module _ (G : Shape) (sup : Supported G) where
     frontier = frontier;
     frontier-there = h;
     sound = sound (r .consistent);
-    linked = r .linked;
-    one-pointer = λ b nz l. omega (arith, r .consistent .one-pointer b nz l, sound-refs (r .consistent) b);
-    holds = r .holds;
+    holds = held-plainly (r .holds);
+    links = record { linked = r .linked; one-pointer = λ b nz l. omega (arith, r .consistent .one-pointer b nz l, sound-refs (r .consistent) b); holds = r .holds };
   }
 
   -- no block begins at 0
@@ -99,13 +100,13 @@ module _ (G : Shape) (sup : Supported G) where
     K = countOf vs
 
     abbrev C : Config
-    C = start (ch .view)
+    C = starting (ch .view)
 
     abbrev E : ℕ → Bool
     E = extAt (ch .context)
 
     -- the run of a tree's bytes leaves what the tree does
-    leaves : {t : Tree} {Left : View → Type 0} → Formed t → counter + labels t ≤ 2147483647 → size t ≤ 65536 → Does words t C (λ d. (d .calls ≡ []) × Left (d .state)) → RunLeaves G words ch t counter Left
+    leaves : {t : Tree} {Left : View → Type 0} → Formed t → counter + labels t ≤ lastLabel → size t ≤ 65536 → Does words t C (λ d. (d .calls ≡ []) × Left (d .state)) → RunLeaves G words ch t counter Left
     leaves {t} {Left} w l m d =
         let r = ends G counter w l m (heap-ok G blocks (ch .view) (f .placed) two) d in
         record {
@@ -164,10 +165,10 @@ module _ (G : Shape) (sup : Supported G) where
           let rep = split-there in
           let c : Consistent (L G) (heapOf G C) (rep .linked) (f .frontier) (variable E C a .fst ∷ pointers (X ++ Y))
           = consistent-same-roots (variable E C a .fst ∷ pointers (X ++ Y)) (λ b nz. omega (arith, occ-pointers b X (variable E C a ∷ Y), occ-pointers b X Y)) (rep .consistent) in
-          let front : HoldAll (objectSizes G) (heapOf G C .fields) (rep .linked) (firstOf (length X) vs) X = hold-first (objectSizes G) (heapOf G C .fields) (rep .linked) X (variable E C a ∷ Y) vs (rep .holds) in
-          let back : HoldAll (objectSizes G) (heapOf G C .fields) (rep .linked) (restOf 1 (restOf (length X) vs)) Y
+          let front : HoldAllApart (objectSizes G) (heapOf G C .fields) (rep .linked) (firstOf (length X) vs) X = hold-first (objectSizes G) (heapOf G C .fields) (rep .linked) X (variable E C a ∷ Y) vs (rep .holds) in
+          let back : HoldAllApart (objectSizes G) (heapOf G C .fields) (rep .linked) (restOf 1 (restOf (length X) vs)) Y
           = hold-rest (objectSizes G) (heapOf G C .fields) (rep .linked) (variable E C a ∷ []) Y (restOf (length X) vs) (hold-rest (objectSizes G) (heapOf G C .fields) (rep .linked) X (variable E C a ∷ Y) vs (rep .holds)) in
-          let all : HoldAll (objectSizes G) (heapOf G C .fields) (rep .linked) (joined (firstOf (length X) vs) (restOf 1 (restOf (length X) vs))) (X ++ Y)
+          let all : HoldAllApart (objectSizes G) (heapOf G C .fields) (rep .linked) (joined (firstOf (length X) vs) (restOf 1 (restOf (length X) vs))) (X ++ Y)
           = hold-joined (objectSizes G) (heapOf G C .fields) (rep .linked) (firstOf (length X) vs) (restOf 1 (restOf (length X) vs)) X Y front back in
           let others : Represents (objectSizes G) (L G) (withLazy (heapOf G C) (headers (G .fields) (d .state .mem)) (d .state .reg 3)) (f .frontier) (X ++ Y) (joined (firstOf a vs) (restOf (suc a) vs))
           = record { linked = rep .linked; consistent = drop-consistent (headers (G .fields) (d .state .mem)) (d .state .reg 3) (x .0) c; holds = rw (variables-length E C 0 a, rest-of-rest a vs) at all } in
@@ -262,7 +263,7 @@ module _ (G : Shape) (sup : Supported G) where
         let is : storeTree G (ch .context) n ≡ storeObject G E (K - n) n
         = ap (λ (x : ℕ → Bool). storeObject G x (placesIn (ch .context) - n) n) kinds ∙ ap (λ (k : ℕ). storeObject G E (k - n) n) (places-are (ch .context) K (f .places)) in
         subst (λ (t : Tree). RunLeaves G words ch t counter (Stored G blocks past ch vs n)) (sym is)
-        (leaves (formed-store G sup E (K - n) n) (subst (λ (t : Tree). counter + labels t ≤ 2147483647) is (g .2)) (omega (arith, store-object-size G E sup (K - n) n .1, f .few, g .0, sup .frame)) (store-does n (g .0) bound′ grows enough roomy))
+        (leaves (formed-store G sup E (K - n) n) (subst (λ (t : Tree). counter + labels t ≤ lastLabel) is (g .2)) (omega (arith, store-object-size G E sup (K - n) n .1, f .few, g .0, sup .frame)) (store-does n (g .0) bound′ grows enough roomy))
 
     -- ---- load
 
@@ -332,8 +333,8 @@ module _ (G : Shape) (sup : Supported G) where
         let n : placesIn bindings ≡ g .0 = places-are bindings (g .0) (g .1) in
         let good : checkedContext bindings ≡ Good (placesIn bindings) = g .1 ∙ ap Good (sym n) in
         let fitting : loadFits G (K - 1) (placesIn bindings) ≡ true = ap (loadFits G (K - 1)) n ∙ g .2 in
-        let labelled : counter + labels (loadObject G (extIn bindings (K - 1)) (K - 1) (placesIn bindings)) ≤ 2147483647
-        = subst (λ (m : ℕ). counter + labels (loadObject G (extIn bindings (K - 1)) (K - 1) m) ≤ 2147483647) (sym n) (g .3) in
+        let labelled : counter + labels (loadObject G (extIn bindings (K - 1)) (K - 1) (placesIn bindings)) ≤ lastLabel
+        = subst (λ (m : ℕ). counter + labels (loadObject G (extIn bindings (K - 1)) (K - 1) m) ≤ lastLabel) (sym n) (g .3) in
         let most = loaded-most G (f .placed .shape) (K - 1) (placesIn bindings) (omega (arith, f .few)) (loaded-asked (K - 1) (placesIn bindings) fitting) in
         subst (λ (v : ℕ). RunLeaves G words ch (loadObject G (extIn bindings v) v (placesIn bindings)) counter (Loaded G blocks past ch vs bindings)) (sym (places-are (take (8 * (K - 1)) (ch .context)) (K - 1) front))
         (leaves (formed-load G sup (extIn bindings (K - 1)) (K - 1) (placesIn bindings)) labelled (omega (arith, object-size G (extIn bindings (K - 1)) sup (K - 1) (placesIn bindings) .1, sup .frame)) (load-does bindings good fitting owed))

@@ -18,11 +18,11 @@ use Rattle.memory_proof.proofs.Shown.{heapOf}
 use Rattle.order_spec.specs.Answered.{orderIs, placesIn}
 use Rattle.order_spec.specs.Plain.{integerOf}
 use Rattle.order_spec.specs.Writes.{present, kindsOk, asked}
-use Rattle.channel_step.specs.Playing.{Channel}
+use Rattle.channel_step.specs.Playing.{Channel, isAccepted, runOf}
 use Rattle.order_spec.proofs.Accepting.{Taken, taken}
 use Rattle.report_state.specs.Prints.{printedText, wordOf, printsOf, prints}
-use Rattle.soundness.specs.Claims.{Item, isAccepted, runOf, reached, values, callsOf, Ran, SoundAt, SoundChannel, SoundBefore, AllRan}
-use Rattle.soundness.proofs.Ending.{start}
+use Rattle.soundness.specs.Claims.{Item, reached, values, callsOf, Ran, SoundAt, SoundChannel, SoundBefore, AllRan}
+use Rattle.machine.specs.Run.{starting}
 use Rattle.soundness.proofs.Carried.{places-are}
 use Rattle.soundness.proofs.Changing.{integer-there}
 use Rattle.soundness.specs.Prints.{callTexts, putFor, calledFor, putIn, calledIn, PrintedIsCalled}
@@ -49,7 +49,7 @@ module _ {g : Shape} (sup : Supported g) {blocks : ℕ} {past : List State} {ch 
       let h : a < countOf vs = ltb-true a (countOf vs) (rw e at (t .there)) in
       let x : extAt (ch .context) a ≡ true = rw e at (t .of-kind) in
       let p : 2 * a + 2 ≤ positions g = rw e at (t .placed) in
-      let w : wordOf (ch .view .reg) (ch .view .stk) a ≡ integerOf (valueAt a vs) = integer-there g (heapOf g (start (ch .view)) .fields) (s .heap .linked) (extAt (ch .context)) (start (ch .view)) vs (rw k at (s .heap .holds)) (s .kinds) a h x in
+      let w : wordOf (ch .view .reg) (ch .view .stk) a ≡ integerOf (valueAt a vs) = integer-there g (heapOf g (starting (ch .view)) .fields) (s .heap .beyond .links .linked) (extAt (ch .context)) (starting (ch .view)) vs (rw k at (s .heap .beyond .links .holds)) (s .kinds) a h x in
       rw (lt-ltb (2 * a + 1) (positions g) (omega arith), w) (texts newline (integerOf (valueAt a vs)))
     where
       texts : (newline : Bool) (number : ℕ) → printedText newline number ≡ callTexts (record { name = printName newline; number = number } ∷ [])
@@ -60,11 +60,11 @@ pub printed-is-called : PrintedIsCalled
 unfolding PrintedIsCalled
 printed-is-called g sup blocks its a = along its (a .sound-before) (a .ran)
   where
-    same : (it : Item) (its : List Item) → SoundChannel g blocks its → (isAccepted g (reached g blocks its) it ≡ true → Ran g (reached g blocks its) (values g blocks its) it) → putFor g (reached g blocks its) it ≡ calledFor g (reached g blocks its) it
-    same it its s r = by (isAccepted g (reached g blocks its) it) refl
+    same : (it : Item) (its : List Item) → SoundChannel g blocks its → (isAccepted g (reached g blocks its) (it .asked) ≡ true → Ran g (reached g blocks its) (values g blocks its) it) → putFor g (reached g blocks its) it ≡ calledFor g (reached g blocks its) it
+    same it its s r = by (isAccepted g (reached g blocks its) (it .asked)) refl
       where
-        by : (q : Bool) → isAccepted g (reached g blocks its) it ≡ q
-            → cond q (prints g (reached g blocks its .view .reg) (reached g blocks its .view .stk) (orderRead (it .asked .order))) [] ≡ cond q (callTexts (runOf g (reached g blocks its) it .last .calls)) []
+        by : (q : Bool) → isAccepted g (reached g blocks its) (it .asked) ≡ q
+            → cond q (prints g (reached g blocks its .view .reg) (reached g blocks its .view .stk) (orderRead (it .asked .order))) [] ≡ cond q (callTexts (runOf g (reached g blocks its) (it .asked) (it .words) .last .calls)) []
         by false e = refl
         by true e =
             let t = taken g (reached g blocks its .context) (it .asked) (countOf (values g blocks its)) (s .places) e in

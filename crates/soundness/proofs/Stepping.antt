@@ -22,7 +22,7 @@ use Rattle.machine.specs.declared.run.Answer.the-variants.{Ended, Fault}
 use Rattle.trees_proof.specs.Evaluation.{Evaluated, done, faulted, evaluate}
 use Rattle.trees_proof.specs.Claims.{Answers, TreeRunsWhole}
 use Rattle.trees_proof.proofs.Trees.{tree-runs-whole}
-use Rattle.machine.specs.Run.{Done, ran, started}
+use Rattle.machine.specs.Run.{Done, ran, started, starting}
 use Rattle.heap.specs.Claims.{Reaches}
 use Rattle.heap.specs.Orders.{State}
 use Rattle.heap.specs.Values.{Values, countOf}
@@ -40,7 +40,7 @@ use Rattle.order_spec.specs.Answered.{orderIs}
 use Rattle.channel_step.specs.Playing.{Channel}
 use Rattle.soundness.specs.Claims.{Item, stateOf, Owed, acquires, callsOf, changes}
 use Rattle.order_spec.proofs.Accepting.{Taken}
-use Rattle.soundness.proofs.Ending.{start, heap-ok, Ends, ends}
+use Rattle.soundness.proofs.Ending.{heap-ok, Ends, ends}
 use Rattle.soundness.proofs.Carried.{Carried, abstractly, BoundedAfter, reaches-on, carried-on, state-same, carried-same}
 use Rattle.soundness.proofs.Changing.{integer-held}
 use Rattle.soundness.proofs.Appending.{Performed}
@@ -82,7 +82,7 @@ module _ (G : Shape) where
       pub carried : Carried G blocks bound′ (pastOf O (stateOf G ch vs) past) (leftBy k (runAt k .last)) (plainly O vs)
       -- what the tree has done is what the run has left
       pub to : Config
-      pub tree : evaluate (it .words) (treeAt k) (start (ch .view)) ≡ done to
+      pub tree : evaluate (it .words) (treeAt k) (starting (ch .view)) ≡ done to
       pub left : runAt k .last ≡ to
       -- a store leaves the variables with the blocks before it and those it acquires; an order that changes nothing leaves the state
       pub reaches : acquires G O ≢ 0 → (n m : ℕ) → Reaches n (stateOf G ch vs) → Reaches m (stateOf G (leftBy k to) (plainly O vs)) → m ≡ n + acquires G O
@@ -91,15 +91,15 @@ module _ (G : Shape) where
     -- how an order that changes something is known to do so, with the frontier below the bound after it
     abbrev pub Way : Type 0
     Way =
-        changes O ≡ true → Does (it .words) (treeAt (countOf vs)) (start (ch .view))
-        (λ d. Performed G blocks (start (ch .view)) (abstractly O vs) (extAt (ch .context)) (extAt (contextAfter (ch .context) (countOf vs) (it .asked .bindings) O)) (countOf vs) (countOf (plainly O vs)) d
+        changes O ≡ true → Does (it .words) (treeAt (countOf vs)) (starting (ch .view))
+        (λ d. Performed G blocks (starting (ch .view)) (abstractly O vs) (extAt (ch .context)) (extAt (contextAfter (ch .context) (countOf vs) (it .asked .bindings) O)) (countOf vs) (countOf (plainly O vs)) d
         × BoundedAfter G vs O (contextAfter (ch .context) (countOf vs) (it .asked .bindings) O) bound′ d)
 
     module _ (f : Carried G blocks bound past ch vs) (w : Taken G (ch .context) (it .asked) (countOf vs)) (two : 2 ≤ blocks) where
       -- the tree does not fault, where its records' run does not
-      pub not-faulted : ((steps place : ℕ) → runAt (countOf vs) .answer ≢ Fault steps place) → (d : Config) × (evaluate (it .words) (treeAt (countOf vs)) (start (ch .view)) ≡ done d)
+      pub not-faulted : ((steps place : ℕ) → runAt (countOf vs) .answer ≢ Fault steps place) → (d : Config) × (evaluate (it .words) (treeAt (countOf vs)) (starting (ch .view)) ≡ done d)
       unfolding TreeRunsWhole
-      not-faulted n = by (evaluate (it .words) (treeAt (countOf vs)) (start (ch .view))) (tree-runs-whole (it .words) (treeAt (countOf vs)) (it .asked .counter) 0 (ch .view))
+      not-faulted n = by (evaluate (it .words) (treeAt (countOf vs)) (starting (ch .view))) (tree-runs-whole (it .words) (treeAt (countOf vs)) (it .asked .counter) 0 (ch .view))
         where
           whole : (k : ℕ) → runAt (countOf vs) ≡ started (it .words) (flat (treeAt (countOf vs)) (it .asked .counter)) (size (treeAt (countOf vs)) + 0) (ch .view)
           whole k =
@@ -114,7 +114,7 @@ module _ (G : Shape) where
 
     module _ (f : Carried G blocks bound past ch vs) (w : Taken G (ch .context) (it .asked) (countOf vs)) (owed : Owed (it .asked .bindings) O vs) (grows : bound ≤ bound′) (two : 2 ≤ blocks) (way : Way) where
       -- the tree's run, from what the tree does
-      ended-by : {Q : Config → Type 0} → Does (it .words) (treeAt (countOf vs)) (start (ch .view)) Q → Ends G (it .words) (treeAt (countOf vs)) (it .asked .counter) (ch .view) Q
+      ended-by : {Q : Config → Type 0} → Does (it .words) (treeAt (countOf vs)) (starting (ch .view)) Q → Ends G (it .words) (treeAt (countOf vs)) (it .asked .counter) (ch .view) Q
       ended-by d =
           ends G (it .asked .counter) (order-formed G (f .placed .shape) (ch .context) (countOf vs) (it .asked .bindings) O (order-well-formed (it .asked .order) (w .starts) (it .order-bytes))) (w .labelled)
           (order-size G (f .placed .shape) (ch .context) (countOf vs) (it .asked .bindings) O (w .there) (w .placed)) (heap-ok G blocks (ch .view) (f .placed) two) d
@@ -140,16 +140,16 @@ module _ (G : Shape) where
 
       abbrev Prints : Bool → ℕ → Config → Type 0
       Prints newline a d =
-          (variables (extAt (ch .context)) d 0 (countOf vs) ≡ variables (extAt (ch .context)) (start (ch .view)) 0 (countOf vs)) × (heapOf G d ≡ heapOf G (start (ch .view))) × Placed G blocks d
-          × (d .calls ≡ [] ++ (record { name = printName newline; number = held (start (ch .view)) (location (2 * a + 1)) } ∷ []))
+          (variables (extAt (ch .context)) d 0 (countOf vs) ≡ variables (extAt (ch .context)) (starting (ch .view)) 0 (countOf vs)) × (heapOf G d ≡ heapOf G (starting (ch .view))) × Placed G blocks d
+          × (d .calls ≡ [] ++ (record { name = printName newline; number = held (starting (ch .view)) (location (2 * a + 1)) } ∷ []))
 
       printed : (newline : Bool) (a : ℕ) → O ≡ Print newline a → SteppedAt (countOf vs)
       unfolding treeOf present kindsOk contextAfter plainly
       printed newline a e =
           let h : a < countOf vs = ltb-true a (countOf vs) (rw e at (w .there)) in
           let x : extAt (ch .context) a ≡ true = rw e at (w .of-kind) in
-          let d : Does (it .words) (treeAt (countOf vs)) (start (ch .view)) (Prints newline a)
-          = rw e (print-does (it .words) (extAt (ch .context)) newline (start (ch .view)) (countOf vs) a (f .placed) h (f .few) x) in
+          let d : Does (it .words) (treeAt (countOf vs)) (starting (ch .view)) (Prints newline a)
+          = rw e (print-does (it .words) (extAt (ch .context)) newline (starting (ch .view)) (countOf vs) a (f .placed) h (f .few) x) in
           let r = ended-by d in
           let q = r .post in
           record {

@@ -26,8 +26,7 @@ use Rattle.memory.specs.Objects.{objectSizes}
 use Rattle.layout.specs.Frame.{variablesIn}
 use Rattle.order_spec.specs.Answered.{Asked, orderIs, placesIn, answerTo, recordsOutput, contextOutput, counterAfter}
 use Rattle.order_spec.specs.Plain.{integerOf, plainly, OwedKinds, OwedResult}
-use Rattle.channel_step.specs.Playing.{Channel, fresh}
-use Rattle.channel_step.specs.Playing as play
+use Rattle.channel_step.specs.Playing.{Channel, fresh, isAccepted, recordCount, runOf, next}
 
 -- one item of a list: any bytes as order and bindings, any counter and output lengths, any nine words
 pub record Item : Type 0 where
@@ -61,19 +60,6 @@ changes (Load n) = true
 changes (Print newline a) = false
 
 module _ (g : Shape) where
-  -- an item on a channel: whether it is accepted, how many records it has, their run, and the channel after it
-  abbrev pub isAccepted : Channel → Item → Bool
-  isAccepted ch it = play.isAccepted g ch (it .asked)
-
-  abbrev pub recordCount : Channel → Item → ℕ
-  recordCount ch it = play.recordCount g ch (it .asked)
-
-  abbrev pub runOf : Channel → Item → Done
-  runOf ch it = play.runOf g ch (it .asked) (it .words)
-
-  abbrev pub next : Channel → Item → Channel
-  next ch it = play.next g ch (it .asked) (it .words)
-
   -- the blocks that an order acquires
   abbrev pub acquires : Order → ℕ
   acquires (Put value) = 0
@@ -87,9 +73,9 @@ module _ (g : Shape) where
   -- how an accepted order's run came out: it ended, in no more steps than it has records, and made the order's calls
   pub record Ran (ch : Channel) (vs : Values) (it : Item) : Type 0 where
     pub steps : ℕ
-    pub within : steps ≤ recordCount ch it
-    pub ended : runOf ch it .answer ≡ Ended steps
-    pub calls : runOf ch it .last .calls ≡ callsOf (orderIs (it .asked)) vs
+    pub within : steps ≤ recordCount g ch (it .asked)
+    pub ended : runOf g ch (it .asked) (it .words) .answer ≡ Ended steps
+    pub calls : runOf g ch (it .asked) (it .words) .last .calls ≡ callsOf (orderIs (it .asked)) vs
 
   -- the heap that a channel's words show, HEAP and FREE, and its variables as pairs of words, beside values
   abbrev pub stateOf : Channel → Values → State
@@ -119,7 +105,7 @@ module _ (g : Shape) where
   -- A refused order leaves the channel, its two outputs, whatever they held, and the counter as they were: by the definitions that the contracts of
   -- `channel_step::channel::play`, of the order function and of the library's order cite.
   pub record Refused (ch : Channel) (it : Item) : Type 0 where
-    pub channel-kept : next ch it ≡ ch
+    pub channel-kept : next g ch (it .asked) (it .words) ≡ ch
     pub records-kept : (o : List ℕ) → recordsOutput g (ch .context) (it .asked) o ≡ o
     pub context-kept : (o : List ℕ) → contextOutput g (ch .context) (it .asked) o ≡ o
     pub counter-kept : counterAfter (it .asked .counter) (answerTo g (ch .context) (it .asked)) ≡ it .asked .counter
@@ -129,12 +115,12 @@ module _ (g : Shape) where
     -- the channel after a list
     abbrev pub reached : List Item → Channel
     reached [] = fresh g blocks
-    reached (it ∷ its) = next (reached its) it
+    reached (it ∷ its) = next g (reached its) (it .asked) (it .words)
 
     -- the plain machine's values after a list: it is fed the accepted orders
     abbrev pub values : List Item → Values
     values [] = nil
-    values (it ∷ its) = cond (isAccepted (reached its) it) (plainly (orderIs (it .asked)) (values its)) (values its)
+    values (it ∷ its) = cond (isAccepted g (reached its) (it .asked)) (plainly (orderIs (it .asked)) (values its)) (values its)
 
     abbrev pub stateAfter : List Item → State
     stateAfter its = stateOf (reached its) (values its)
@@ -142,24 +128,24 @@ module _ (g : Shape) where
     -- what the user owes each accepted order
     abbrev pub AllOwed : List Item → Type 0
     AllOwed [] = Unit {0}
-    AllOwed (it ∷ its) = (isAccepted (reached its) it ≡ true → Owed (it .asked .bindings) (orderIs (it .asked)) (values its)) × AllOwed its
+    AllOwed (it ∷ its) = (isAccepted g (reached its) (it .asked) ≡ true → Owed (it .asked .bindings) (orderIs (it .asked)) (values its)) × AllOwed its
 
     -- The peak is at most so many blocks: each accepted store of some counts the blocks that the variables lead to before it and those that it acquires,
-    -- whether or not its run ends. The variables lead to one number of blocks (`reachable-unique`).
+    -- whether or not its run ends. The variables lead to one number of blocks (`HeapBeyond .reachable-unique`).
     abbrev pub PeakWithin : ℕ → List Item → Type 0
     PeakWithin peak [] = Unit {0}
     PeakWithin peak (it ∷ its) =
-        (isAccepted (reached its) it ≡ true → acquires (orderIs (it .asked)) ≢ 0 → (count : ℕ) → Reaches count (stateAfter its) → count + acquires (orderIs (it .asked)) ≤ peak) × PeakWithin peak its
+        (isAccepted g (reached its) (it .asked) ≡ true → acquires (orderIs (it .asked)) ≢ 0 → (count : ℕ) → Reaches count (stateAfter its) → count + acquires (orderIs (it .asked)) ≤ peak) × PeakWithin peak its
 
     -- the blocks that the accepted orders acquire
     abbrev pub acquired : List Item → ℕ
     acquired [] = 0
-    acquired (it ∷ its) = cond (isAccepted (reached its) it) (acquires (orderIs (it .asked))) 0 + acquired its
+    acquired (it ∷ its) = cond (isAccepted g (reached its) (it .asked)) (acquires (orderIs (it .asked))) 0 + acquired its
 
     -- the states before, newest first; refused orders and prints leave the state as it was, so it stands once
     abbrev pub statesBefore : List Item → List State
     statesBefore [] = []
-    statesBefore (it ∷ its) = cond (isAccepted (reached its) it && changes (orderIs (it .asked))) (stateAfter its ∷ statesBefore its) (statesBefore its)
+    statesBefore (it ∷ its) = cond (isAccepted g (reached its) (it .asked) && changes (orderIs (it .asked))) (stateAfter its ∷ statesBefore its) (statesBefore its)
 
     -- what holds of the channel after a list
     abbrev pub SoundChannel : List Item → Type 0
@@ -173,12 +159,12 @@ module _ (g : Shape) where
     -- each accepted order's run
     abbrev pub AllRan : List Item → Type 0
     AllRan [] = Unit {0}
-    AllRan (it ∷ its) = (isAccepted (reached its) it ≡ true → Ran (reached its) (values its) it) × AllRan its
+    AllRan (it ∷ its) = (isAccepted g (reached its) (it .asked) ≡ true → Ran (reached its) (values its) it) × AllRan its
 
     -- each refused order changed nothing
     abbrev pub AllRefused : List Item → Type 0
     AllRefused [] = Unit {0}
-    AllRefused (it ∷ its) = (isAccepted (reached its) it ≡ false → Refused (reached its) it) × AllRefused its
+    AllRefused (it ∷ its) = (isAccepted g (reached its) (it .asked) ≡ false → Refused (reached its) it) × AllRefused its
 
     pub record After (its : List Item) : Type 0 where
       pub sound : SoundChannel its

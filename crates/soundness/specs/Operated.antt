@@ -17,6 +17,7 @@ use Rattle.channel_step.specs.Playing.{Channel}
 use Rattle.soundness.specs.Claims.{Item, reached, values, statesBefore}
 use Rattle.soundness.specs.Operations.{RunLeaves, Stored, Loaded, Shared, Erased}
 use Rattle.soundness.specs.Example.{putSeven, storeOne}
+use Rattle.records.specs.Names.{mostCount}
 
 -- newest first
 abbrev pub oneStored : List Item
@@ -34,5 +35,5 @@ pub record WorkedOperations : Type 0 where
   pub stored : (words : ℕ → ℕ) → Leaves words (storeTree base (channel .context) 1) (λ past vs. Stored base 4 past channel vs 1)
   pub loaded : (words : ℕ → ℕ) → Leaves words (loadTree base (made Ext 0) []) (λ past vs. Loaded base 4 past channel vs (made Ext 0))
   -- by the most that share_block_n takes
-  pub shared : (words : ℕ → ℕ) → Leaves words (shareBlock base (location 0) 2147483647) (λ past vs. Shared base 4 past channel vs 0 2147483647)
+  pub shared : (words : ℕ → ℕ) → Leaves words (shareBlock base (location 0) mostCount) (λ past vs. Shared base 4 past channel vs 0 mostCount)
   pub erased : (words : ℕ → ℕ) → Leaves words (eraseBlock base (location 0)) (λ past vs. Erased base 4 past channel vs 0)

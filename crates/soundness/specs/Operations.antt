@@ -29,6 +29,7 @@ use Rattle.heap.specs.Operations.{Elsewhere, Erase}
 use Rattle.heap.specs.Orders.{State}
 use Rattle.heap.specs.Values as values
 use Rattle.heap.specs.Values.{Values, countOf, firstOf, restOf, valueAt, copies, HoldAll}
+use Rattle.heap.specs.Apart.{LinksApart}
 use Rattle.heap.specs.Words.{stride, wordAt, memoryOf, layout}
 use Rattle.layout_proof.specs.Held.{NoSpill}
 use Rattle.layout.specs.Frame.{heldIn, variableIn, variablesIn}
@@ -76,14 +77,13 @@ module _ (g : Shape) where
   FieldsStay v v′ =
       (block word : ℕ) → 0 < word → word < stride (g .fields) → v′ .mem (wordAt (g .fields) block word) ≡ v .mem (wordAt (g .fields) block word)
 
-  -- a heap that is sound for these variables, which hold their values; its frontier is a block of the heap, and a link's block has one pointer at most
+  -- a heap that is sound for these variables, which hold their values; its frontier is a block of the heap. Beyond what document 01 asks: links are told apart
   pub record SoundFor (blocks : ℕ) (M : Memory) (variables : List Cell) (vs : Values) : Type 0 where
     pub frontier : ℕ
     pub frontier-there : frontier < blocks
     pub sound : Sound (layout (g .fields)) M frontier (pointers variables)
-    pub linked : ℕ → ℕ
-    pub one-pointer : (b : ℕ) → b ≢ 0 → linked b ≢ 0 → occ b (pointers variables) + refs (children (M .fields)) b (sound .lazy) + refs (children (M .fields)) b (sound .held) ≤ 1
-    pub holds : HoldAll (objectSizes g) (M .fields) linked vs variables
+    pub holds : HoldAll (objectSizes g) (M .fields) vs variables
+    pub links : LinksApart (objectSizes g) M variables vs (sound .lazy) (sound .held)
 
   -- what each leaves, from a channel with the plain machine's values beside it; the states before are `past`
   module _ (blocks : ℕ) (past : List State) (ch : Channel) (vs : Values) where

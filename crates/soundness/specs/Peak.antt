@@ -13,19 +13,20 @@ use Rattle.heap.specs.Claims.{HeapAfter, ReachesAtMost, Peak}
 use Rattle.memory.specs.Objects.{objectSizes}
 use Rattle.order_spec.specs.Answered.{orderIs}
 use Rattle.order_spec.specs.Plain.{OwedKinds}
-use Rattle.soundness.specs.Claims.{Item, isAccepted, runOf, reached, values, stateAfter, AllOwed, PeakWithin, statesBefore, After}
+use Rattle.soundness.specs.Claims.{Item, reached, values, stateAfter, AllOwed, PeakWithin, statesBefore, After}
+use Rattle.channel_step.specs.Playing.{isAccepted, runOf}
 
 module _ (g : Shape) where
   module _ (blocks : ℕ) where
     -- no accepted order's run has met a fault
     abbrev pub NoFault : List Item → Type 0
     NoFault [] = Unit {0}
-    NoFault (it ∷ its) = (isAccepted g (reached g blocks its) it ≡ true → (steps place : ℕ) → runOf g (reached g blocks its) it .answer ≢ Fault steps place) × NoFault its
+    NoFault (it ∷ its) = (isAccepted g (reached g blocks its) (it .asked) ≡ true → (steps place : ℕ) → runOf g (reached g blocks its) (it .asked) (it .words) .answer ≢ Fault steps place) × NoFault its
 
     -- each accepted load names the kinds that its object was stored with
     abbrev pub LoadsOwed : List Item → Type 0
     LoadsOwed [] = Unit {0}
-    LoadsOwed (it ∷ its) = (isAccepted g (reached g blocks its) it ≡ true → OwedKinds (it .asked .bindings) (orderIs (it .asked)) (values g blocks its)) × LoadsOwed its
+    LoadsOwed (it ∷ its) = (isAccepted g (reached g blocks its) (it .asked) ≡ true → OwedKinds (it .asked .bindings) (orderIs (it .asked)) (values g blocks its)) × LoadsOwed its
 
     -- after any one order so far the variables lead to at most so many blocks
     abbrev pub ReachesWithin : ℕ → List Item → Type 0

@@ -10,9 +10,9 @@ use Rattle.layout.specs.Config.{Supported}
 use Rattle.records.specs.Orders.{orderRead}
 use Rattle.print_i64.specs.Print.{printName}
 use Rattle.machine_step.specs.Step.{Call}
-use Rattle.channel_step.specs.Playing.{Channel}
+use Rattle.channel_step.specs.Playing.{Channel, isAccepted, runOf}
 use Rattle.report_state.specs.Prints.{printedText, prints}
-use Rattle.soundness.specs.Claims.{Item, isAccepted, runOf, reached, After}
+use Rattle.soundness.specs.Claims.{Item, reached, After}
 
 -- what a call writes: the word in register 7, and a newline if its name asks for one
 abbrev pub callText : Call → List ℕ
@@ -25,10 +25,10 @@ callTexts (c ∷ cs) = callText c ++ callTexts cs
 module _ (g : Shape) where
   -- what the program puts for an item, and what the calls of its run write
   abbrev pub putFor : Channel → Item → List ℕ
-  putFor ch it = cond (isAccepted g ch it) (prints g (ch .view .reg) (ch .view .stk) (orderRead (it .asked .order))) []
+  putFor ch it = cond (isAccepted g ch (it .asked)) (prints g (ch .view .reg) (ch .view .stk) (orderRead (it .asked .order))) []
 
   abbrev pub calledFor : Channel → Item → List ℕ
-  calledFor ch it = cond (isAccepted g ch it) (callTexts (runOf g ch it .last .calls)) []
+  calledFor ch it = cond (isAccepted g ch (it .asked)) (callTexts (runOf g ch (it .asked) (it .words) .last .calls)) []
 
   -- after a list, the newest item's last
   module _ (blocks : ℕ) where

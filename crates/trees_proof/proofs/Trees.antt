@@ -12,12 +12,11 @@ use Rattle.records.specs.declared.code.Code.{Code}
 use Rattle.records.specs.declared.code.Code.the-variants.{LAB, JMPL}
 use Rattle.trees.specs.Tree.{Tree, nop, leaf, seq, skip-if-zero, if-zero, labels, size, flatAt, flat}
 use Rattle.trees.proofs.Flat.{length-flat}
-use Rattle.machine_step.specs.declared.instruction.Compared.the-variants.{Absent}
 use Rattle.machine_step.specs.View.{View}
-use Rattle.machine_step.specs.Step.{Config, config, dropped, step}
+use Rattle.machine_step.specs.Step.{Config, dropped, step}
 use Rattle.machine.specs.declared.run.Answer.the-variants.{Ended}
 use Rattle.machine.specs.declared.run.Found.the-variants.{At}
-use Rattle.machine.specs.Run.{find, runs, started}
+use Rattle.machine.specs.Run.{find, runs, started, starting}
 use Rattle.machine.specs.Run as machine
 use Rattle.trees_proof.specs.Evaluation.{Evaluated, done, faulted, evaluated, andThen, evaluate}
 use Rattle.trees_proof.specs.Claims.{RunsAs, TreeRunsWithin, Answers, TreeRunsWhole}
@@ -123,12 +122,12 @@ tree-runs-within words t c n before after z f g =
 pub tree-runs-whole : TreeRunsWhole
 unfolding TreeRunsWhole TreeRunsWithin machine.placesOf
 tree-runs-whole words t c more v =
-    let z : Config = config v Absent [] in
+    let z : Config = starting v in
     let d : RunsAs words (flat t c) (size t) 0 (size t) z (evaluate words t z) = rw (append-nil, zero-add) at (tree-runs-within words t c 0 [] [] z (λ l a b. refl) (λ l a b. refl)) in
     rw (← length-flat t c 0) (answers words (flat t c) more z (evaluate words t z) (rw (length-flat t c 0) d))
 
 -- the same for callers who know what the tree does
-pub tree-ends : (words : ℕ → ℕ) (t : Tree) (c more : ℕ) (v : View) (d : Config) → evaluate words t (config v Absent []) ≡ done d
+pub tree-ends : (words : ℕ → ℕ) (t : Tree) (c more : ℕ) (v : View) (d : Config) → evaluate words t (starting v) ≡ done d
     → (k : ℕ) × (k ≤ size t) × (started words (flat t c) (size t + more) v ≡ machine.done (Ended k) d)
 unfolding TreeRunsWhole
 tree-ends words t c more v d e = subst (Answers (size t) (started words (flat t c) (size t + more) v)) e (tree-runs-whole words t c more v)

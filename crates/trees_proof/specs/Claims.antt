@@ -7,11 +7,10 @@ use mathlib.Core.List.{List, [], _++_}
 use lib.ListN.{length}
 use Rattle.records.specs.declared.code.Code.{Code}
 use Rattle.trees.specs.Tree.{Tree, labels, size, flatAt, flat}
-use Rattle.machine_step.specs.declared.instruction.Compared.the-variants.{Absent}
 use Rattle.machine_step.specs.View.{View}
-use Rattle.machine_step.specs.Step.{Config, config}
+use Rattle.machine_step.specs.Step.{Config}
 use Rattle.machine.specs.declared.run.Answer.the-variants.{Ended, Fault}
-use Rattle.machine.specs.Run.{Done, placesOf, runs, started}
+use Rattle.machine.specs.Run.{Done, placesOf, runs, started, starting}
 use Rattle.machine.specs.Run as machine
 use Rattle.trees_proof.specs.Evaluation.{Evaluated, done, faulted, evaluate}
 
@@ -53,4 +52,4 @@ Answers most r (faulted d) = (k : ℕ) × (place : ℕ) × (k < most) × (0 < pl
 -- a tree's records alone, from the first, with no compare made and no call, and a step limit of their number or more
 unfoldable pub TreeRunsWhole : Type 0
 TreeRunsWhole =
-    (words : ℕ → ℕ) (t : Tree) (c more : ℕ) (v : View) → Answers (size t) (started words (flat t c) (size t + more) v) (evaluate words t (config v Absent []))
+    (words : ℕ → ℕ) (t : Tree) (c more : ℕ) (v : View) → Answers (size t) (started words (flat t c) (size t + more) v) (evaluate words t (starting v))

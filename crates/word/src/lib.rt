@@ -3,6 +3,12 @@ ghost use mathlib.Core.Path.{_≡_};
 ghost use Prim.Native.Nat.{_<_};
 ghost use Rattle.word.specs.Words as is;
 
+// The largest word, which is minus one where it is signed.
+const LARGEST: u64 = 18446744073709551615;
+
+// The lowest word that is negative where it is signed.
+const SIGN: u64 = 9223372036854775808;
+
 pub fn sum(x: u64, y: u64) -> u64
     ensures { λ r. ⌜ r ≡ is.sum x y ⌝ }
 {
@@ -31,20 +37,20 @@ pub fn product(x: u64, y: u64) -> u64
 pub fn signs(x: u64) -> u64
     ensures { λ r. ⌜ r ≡ is.signs x ⌝ }
 {
-    if x < 9223372036854775808 {
+    if x < SIGN {
         0
     } else {
-        18446744073709551615
+        LARGEST
     }
 }
 
 fn magnitude(x: u64) -> u64
     ensures { λ r. ⌜ r ≡ is.magnitude x ⌝ }
 {
-    if x < 9223372036854775808 {
+    if x < SIGN {
         x
     } else {
-        18446744073709551615 - x + 1
+        LARGEST - x + 1
     }
 }
 
@@ -54,7 +60,7 @@ fn negated(x: u64) -> u64
     if x == 0 {
         0
     } else {
-        18446744073709551615 - x + 1
+        LARGEST - x + 1
     }
 }
 
@@ -65,14 +71,14 @@ pub fn quotient(x: u64, d: u64) -> u64
     let m = magnitude(x);
     let n = magnitude(d);
     let q = m / n;
-    if x < 9223372036854775808 {
-        if d < 9223372036854775808 {
+    if x < SIGN {
+        if d < SIGN {
             q
         } else {
             negated(q)
         }
     } else {
-        if d < 9223372036854775808 {
+        if d < SIGN {
             negated(q)
         } else {
             q
@@ -87,7 +93,7 @@ pub fn remainder(x: u64, d: u64) -> u64
     let m = magnitude(x);
     let n = magnitude(d);
     let q = m % n;
-    if x < 9223372036854775808 {
+    if x < SIGN {
         q
     } else {
         negated(q)
@@ -104,14 +110,14 @@ pub fn divides(high: u64, low: u64, d: u64) -> bool
     if d == 0 {
         return false;
     }
-    if low == 9223372036854775808 {} else {
+    if low == SIGN {} else {
         return true;
     }
-    d != 18446744073709551615
+    d != LARGEST
 }
 
 pub fn less(x: u64, y: u64) -> bool
     ensures { λ r. ⌜ r ≡ is.less x y ⌝ }
 {
-    sum(x, 9223372036854775808) < sum(y, 9223372036854775808)
+    sum(x, SIGN) < sum(y, SIGN)
 }

@@ -17,4 +17,4 @@ count-blocks-in-spec =
     (λ c κs. search needs)
     (λ c κs. search needs)
     (λ c κs. search needs)
-    (λ c. counts _ _ _ (c .before .before .before .before .before .before .before .before .block-words .ensures .0) _ _ (c .before .before .before .before .before .before .walk-list .ensures) (c .before .before .before .before .walk-chain .ensures .0) (c .before .before .before .before .walk-chain .ensures .1) (c .before .before .before .number-of .ensures) (c .before .before .less .ensures) (c .before .less2 .ensures) (c .less3 .ensures)))
+    (λ c. counts _ _ _ (c .before .before .before .before .before .before .before .before .block-words .ensures .0) _ _ (c .before .before .before .before .before .before .walk-list .ensures) (c .before .before .before .before .walk-chain .ensures .0) (c .before .before .before .before .walk-chain .ensures .1) (c .before .before .before .number-of .ensures) (c .before .before .excess .ensures) (c .before .excess2 .ensures) (c .excess3 .ensures)))

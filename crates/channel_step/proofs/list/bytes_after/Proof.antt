@@ -2,7 +2,7 @@ use borrow.Author.Needs.{needs}
 use Prim.Native.Nat.{_*_}
 use mathlib.Core.Path.{sym, ap, _∙_}
 use Rattle.records.specs.declared.order.Order.{Order}
-use Rattle.order_spec.specs.Writes.{wanted}
+use Rattle.records.specs.Orders.{wanted}
 use Rattle.channel_step.specs.Lists.{bytesAfter}
 use Rattle.channel_step.proofs.list.bytes_after.Statement.{statement}
 use Rattle.channel_step.proofs.list.bytes_after.Tie as tie

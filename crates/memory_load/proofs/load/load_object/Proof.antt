@@ -24,4 +24,4 @@ load-object-spec =
     (λ c κs. search needs)
     (λ c κs. let a = c .before .before .before .before .before .before .before .before .before .before .args in let w = c .before .before .before .before .before .before .before .before .before .before .pre in let f = fits-all (a .g) (w .5) (a .v) (a .n) (w .2) (c .before .before .before .before .before .before .before .if1 .left) in let d = c .before .before .before .before .into-register .ensures in let r : ℕ = c .before .before .before .before .before .before .location-at .result in let t : Tree = leaf (MOVL TEMP STACK (stackOffset (a .g) r)) refl in let z = either (ltb r 16) nop t 0 1 refl refl (omega arith) (omega arith) in (w .0, w .1, f, omega (arith, w .3, d .place, z .1), omega (arith, w .4, d .drawn, z .0), w .5))
     (λ c. search needs)
-    (λ c. rw (ne-eqb _ 0 (c .before .before .before .before .before .before .before .before .before .before .if1 .left), ← (c .before .before .before .before .before .before .before .before .before .location-at .ensures .0), ← (c .before .before .before .register-of .ensures)) (c .before .before .before .before .before .before .before .into-register .ensures ⨟ c .before .before .load-counted .ensures)))
+    (λ c. rw (ne-eqb _ 0 (c .before .before .before .before .before .before .before .before .before .before .if1 .left), ← (c .before .before .before .before .before .before .before .before .before .location-at .ensures .0), ← (c .before .before .before .register-for .ensures)) (c .before .before .before .before .before .before .before .into-register .ensures ⨟ c .before .before .load-counted .ensures)))

@@ -14,4 +14,4 @@ call-print-spec =
     (λ c κs. search needs)
     (λ c κs. search needs)
     (λ c. search needs)
-    (λ c. rw (← (c .before .before .before .before .before .source-register .ensures), ← (c .before .before .before .before .print-name .ensures)) (grown (seq (leaf (MOV 7 (c .before .before .before .before .before .source-register .result)) refl) (leaf (CALL (c .before .before .before .before .print-name .result)) refl)) (c .before .before .emit2 .ensures) refl refl)))
+    (λ c. rw (← (c .before .before .before .before .before .register-for .ensures), ← (c .before .before .before .before .print-name .ensures)) (grown (seq (leaf (MOV 7 (c .before .before .before .before .before .register-for .result)) refl) (leaf (CALL (c .before .before .before .before .print-name .result)) refl)) (c .before .before .emit2 .ensures) refl refl)))

@@ -41,7 +41,7 @@ put-outcome-spec =
     (λ c. search needs)
     (λ c κs. search needs)
     (λ c. search needs)
-    (λ c. rw (c .before .before .before .before .before .before .answer .given .1, ← (c .before .before .before .more .ensures)) (at-most (c .before .before .put-acceptance .ensures) (omega arith)))
+    (λ c. rw (c .before .before .before .before .before .before .answer .given .1, ← (c .before .before .before .excess .ensures)) (at-most (c .before .before .put-acceptance .ensures) (omega arith)))
     (λ c. search needs)
     (λ c. rw (c .before .before .before .before .before .answer2 .given .1) (c .before .before .put-flaw .ensures (c .before .before .before .before .before .before .before .before .args .frame)))
     (λ c. search needs)

@@ -21,4 +21,4 @@ put-block-spec =
     (λ c. search needs)
     (λ c κs. search needs)
     (λ c. search needs)
-    (λ c. rw (ne-eqb _ 0 (c .before .before .before .before .before .before .before .if1 .left), ← (c .before .before .before .before .before .more .ensures), ← (c .before .before .before .before .before .before .fst-offset .ensures)) (c .before .before .put-count .ensures)))
+    (λ c. rw (ne-eqb _ 0 (c .before .before .before .before .before .before .before .if1 .left), ← (c .before .before .before .before .before .excess .ensures), ← (c .before .before .before .before .before .before .fst-offset .ensures)) (c .before .before .put-count .ensures)))

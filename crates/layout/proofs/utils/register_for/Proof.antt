@@ -1,10 +1,10 @@
 use borrow.Author.Needs.{needs}
 use borrow.Author.Tests.{lt-ltb, le-ltb}
-use Rattle.memory_load.proofs.load.register_of.Statement.{statement}
-use Rattle.memory_load.proofs.load.register_of.Tie as tie
+use Rattle.layout.proofs.utils.register_for.Statement.{statement}
+use Rattle.layout.proofs.utils.register_for.Tie as tie
 
-pub register-of-spec : {M : Type 1} → statement M
-register-of-spec =
+pub register-for-spec : {M : Type 1} → statement M
+register-for-spec =
     tie.close
     (tie.spec
     (λ c. search needs)

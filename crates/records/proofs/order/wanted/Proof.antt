@@ -1,6 +1,6 @@
 use borrow.Author.Needs.{needs}
-use Rattle.order_check.proofs.checks.wanted.Statement.{statement}
-use Rattle.order_check.proofs.checks.wanted.Tie as tie
+use Rattle.records.proofs.order.wanted.Statement.{statement}
+use Rattle.records.proofs.order.wanted.Tie as tie
 
 pub wanted-spec : {M : Type 1} → statement M
 wanted-spec =
