@@ -2,15 +2,15 @@
 // and the variables and blocks at the end, unless a run did not end. An argument `listing` asks for the instructions too, `edition N` for the blocks of an edition
 // and `frame N` for a frame of so many spills, of the files after it; the edition is 1 and a frame has 256 where none is asked.
 ghost use Prim.Native.Nat.{_<_, _≤_};
+use channel_step::channel::Channel;
 use heap_chains::Counted;
 use libc::STDERR_FILENO;
 use libc::STDIN_FILENO;
 use libc::STDOUT_FILENO;
+use order_spec::answer::OrderAnswer;
 use program_options::Heard;
 use program_options::Options;
 use program_options::Said;
-use order_spec::answer::Answer;
-use channel_step::channel::Channel;
 
 // What print calls leave in registers: nothing depends on it.
 const LEFT: u64 = 0x5A5A5A5A5A5A5A5A;
@@ -69,22 +69,22 @@ fn list(records: &[u8], text: &mut [u8]) {
     }
 }
 
-fn is_ended(ran: machine::run::Answer) -> bool {
+fn is_ended(ran: machine::run::RunAnswer) -> bool {
     match ran {
-        machine::run::Answer::Ended(_) => true,
-        machine::run::Answer::Malformed(_) => false,
-        machine::run::Answer::Fault(_, _) => false,
-        machine::run::Answer::Limit(_) => false,
+        machine::run::RunAnswer::Ended(_) => true,
+        machine::run::RunAnswer::Malformed(_) => false,
+        machine::run::RunAnswer::Fault(_, _) => false,
+        machine::run::RunAnswer::Limit(_) => false,
     }
 }
 
-fn tell(frame: u64, number: u64, order: &[u8], before: u64, answer: Answer) {
+fn tell(frame: u64, number: u64, order: &[u8], before: u64, answer: OrderAnswer) {
     let mut line = [0u8; 256];
     let size = report::answers::put_order(&mut line, 0, frame, number, order, before, answer);
     show(&line, size);
 }
 
-fn tell_stop(number: u64, order: &[u8], ran: machine::run::Answer) {
+fn tell_stop(number: u64, order: &[u8], ran: machine::run::RunAnswer) {
     let mut line = [0u8; 256];
     let size = report::stops::put_stop(&mut line, 0, number, order, ran);
     show(&line, size);
@@ -136,7 +136,7 @@ fn accepted(
     listed: bool,
     g: Going,
     count: usize,
-    ran: machine::run::Answer,
+    ran: machine::run::RunAnswer,
 ) -> usize {
     let channel = g.channel;
     let registers = channel.registers;
@@ -172,7 +172,7 @@ fn item(
     let ran = played.ran;
     let channel = played.channel;
     tell(channel.frame, g.number, order, g.counter, answer);
-    let Answer::Accepted(count, counter, _) = answer else {
+    let OrderAnswer::Accepted(count, counter, _) = answer else {
         return Going {
             at: next,
             number: word::sum(g.number, 1),

@@ -9,7 +9,7 @@ use lib.ListN.{length, take, drop, length-take, length-drop}
 use lib.Seq.{take-all}
 use Rattle.records.specs.declared.order.OrderRead.{OrderRead}
 use Rattle.records.specs.Orders.{orderRead}
-use Rattle.channel_step.specs.declared.list.Item.{Item}
+use Rattle.channel_step.specs.declared.list.ItemEnds.{ItemEnds}
 use Rattle.channel_step.specs.Lists.{bytesAfter, orderAt, bindingsAt, itemAt, FindsItem}
 
 -- what is left of a list is taken whole
@@ -25,7 +25,7 @@ taken : (n k : ℕ) (s : List ℕ) → length (take n (drop k s)) ≡ min n (len
 taken n k s = length-take n (drop k s) ∙ ap (min n) (length-drop k s)
 
 module _ (list : List ℕ) (at : ℕ) where
-  abbrev itemOf : ℕ → ℕ → Item
+  abbrev itemOf : ℕ → ℕ → ItemEnds
   itemOf x y = record { «order_end» = at + x; end = at + x + y }
 
   item-of : (x y : ℕ) → x ≡ length (orderAt list at) → y ≡ length (bindingsAt list at) → itemOf x y ≡ itemAt list at

@@ -20,21 +20,21 @@ use Rattle.layout.specs.declared.config.Shaped.{Shaped}
 use Rattle.layout.specs.declared.config.Shaped.the-variants.{In, NoFrame, NoEdition}
 use Rattle.layout.specs.Config.{Supported, larger, mostVariables, stackDepth, blockWords}
 use Rattle.machine_step.specs.View.{View, view}
-use Rattle.machine.specs.declared.run.Answer as run
-use Rattle.machine.specs.declared.run.Answer.the-variants.{Ended}
+use Rattle.machine.specs.declared.run.RunAnswer.{RunAnswer}
+use Rattle.machine.specs.declared.run.RunAnswer.the-variants.{Ended}
 use Rattle.machine.specs.State.{freshRegisters}
 use Rattle.machine.specs.Run.{Done, ran, Leaves}
-use Rattle.order_spec.specs.declared.answer.Answer.{Answer}
-use Rattle.order_spec.specs.declared.answer.Answer.the-variants.{Accepted, Context, Malformed, Frame, Missing, Kind, Count, Position, Labels, Room, Edition}
+use Rattle.order_spec.specs.declared.answer.OrderAnswer.{OrderAnswer}
+use Rattle.order_spec.specs.declared.answer.OrderAnswer.the-variants.{Accepted, Context, Malformed, Frame, Missing, Kind, Count, Position, Labels, Room, Edition}
 use Rattle.order_spec.proofs.answer.Answer.{the-type}
 use Rattle.order_spec.specs.Writes.{treeOf, contextAfter}
-use Rattle.order_spec.specs.Answered.{Asked, accepted, orderIs, orderTree, orderContext, answerTo, unframed, recordsOf}
+use Rattle.order_spec.specs.Answered.{Asked, orderAccepted, orderIs, orderTree, orderContext, answerTo, unframedOrder, orderRecords}
 use Rattle.records.proofs.ContextsRead.{context-long}
 use Rattle.order_check.proofs.Leaving.{after-long}
 use Rattle.order.specs.Answers.{AnswersOrder}
 use Rattle.order.specs.Answers as answering
 use Rattle.channel_step.specs.declared.channel.Channel as code
-use Rattle.channel_step.specs.Playing.{Channel, fresh, isAccepted, channelOf, shapeIn, asking, Plays, Stays, unframedOn, SameShape, PlaysIn}
+use Rattle.channel_step.specs.Playing.{Channel, fresh, isAccepted, channelOf, shapeIn, askingOn, Plays, Stays, unframedOn, SameShape, PlaysIn}
 use Rattle.order_spec.proofs.Accepting.{good-context, taken}
 
 -- an edition and a frame have one shape, or none for one cause
@@ -77,11 +77,11 @@ module _ (g : Shape) (u : Supported g) where
   starts-so e blocks = rw (e, take-replicate (stackDepth g) (stackDepth larger) 0 depth-there)
 
 -- a context of which all bytes are in use
-pub all-used : {f : Shaped} {q : Asked} {r : Answer} {o o′ a a′ : List ℕ} (s : List ℕ) (used : ℕ) → length s ≤ used → AnswersOrder f s q r o o′ a a′ → AnswersOrder f (take used s) q r o o′ a a′
+pub all-used : {f : Shaped} {q : Asked} {r : OrderAnswer} {o o′ a a′ : List ℕ} (s : List ℕ) (used : ℕ) → length s ≤ used → AnswersOrder f s q r o o′ a a′ → AnswersOrder f (take used s) q r o o′ a a′
 all-used s used h w = rw (take-all used s h) w
 
 -- an answer that is none but the first of its kinds is a refusal
-pub not-accepted : (r : Answer) → OneOf (1 ∷ 2 ∷ 3 ∷ 4 ∷ 5 ∷ 6 ∷ 7 ∷ 8 ∷ 9 ∷ 10 ∷ []) (tagOf the-type r) → accepted r ≡ false
+pub not-accepted : (r : OrderAnswer) → OneOf (1 ∷ 2 ∷ 3 ∷ 4 ∷ 5 ∷ 6 ∷ 7 ∷ 8 ∷ 9 ∷ 10 ∷ []) (tagOf the-type r) → orderAccepted r ≡ false
 not-accepted (Accepted records counter bindings) k = absurd (miss (1 ∷ 2 ∷ 3 ∷ 4 ∷ 5 ∷ 6 ∷ 7 ∷ 8 ∷ 9 ∷ 10 ∷ []) 0 tt k)
 not-accepted (Context flaw) k = refl
 not-accepted (Malformed place) k = refl
@@ -109,7 +109,7 @@ last-same e = cc
 
 pub counted : (g : Shape) (context : List ℕ) (q : Asked) {n d m : ℕ} → answerTo g context q ≡ Accepted n d m → CountedAt g context q n m (bindingsIn (checkedContext context))
 counted g context q {n} {d} {m} e =
-    let yes : accepted (answerTo g context q) ≡ true = ap accepted e in
+    let yes : orderAccepted (answerTo g context q) ≡ true = ap orderAccepted e in
     let u = good-context g context q yes in
     let w = taken g context q (u .0) (u .1) yes in
     let long = after-long context (u .0) (q .bindings) (orderIs q) (context-long context (u .0) (u .1)) (context-long (q .bindings) _ (w .bindings-good)) in
@@ -127,10 +127,10 @@ start-of o s n e h = rw (sets-eq s o 0 (omega arith)) (take-at s _ n e)
 records-long : (t : Tree) (c : ℕ) → length (joined codeBytes (flat t c)) ≡ 24 * size t
 records-long t c = omega (arith, joined-length code-laws (flat t c), length-flat t c 0)
 
-module _ {g : Shape} (ch : Channel) (q : Asked) (words : ℕ → ℕ) {r : Answer} {o o′ a a′ : List ℕ} (s : AnswersOrder (In g) (ch .context) q r o o′ a a′) where
-  pub refused-plays : accepted r ≡ false → Plays g ch q words ch r (Ended 0) o o′
+module _ {g : Shape} (ch : Channel) (q : Asked) (words : ℕ → ℕ) {r : OrderAnswer} {o o′ a a′ : List ℕ} (s : AnswersOrder (In g) (ch .context) q r o o′ a a′) where
+  pub refused-plays : orderAccepted r ≡ false → Plays g ch q words ch r (Ended 0) o o′
   refused-plays f =
-      let e : isAccepted g ch q ≡ false = ap accepted (sym (s .answer)) ∙ f in
+      let e : isAccepted g ch q ≡ false = ap orderAccepted (sym (s .answer)) ∙ f in
       record { channel = rw e; answer = answers-by (s .answer); ran = answers-by (rw e); records = s .records }
 
   module _ {n d m : ℕ} (e : r ≡ Accepted n d m) (l : length o ≡ q .recordsRoom) where
@@ -138,7 +138,7 @@ module _ {g : Shape} (ch : Channel) (q : Asked) (words : ℕ → ℕ) {r : Answe
     counts = counted g (ch .context) q (sym (s .answer) ∙ e)
 
     yes : isAccepted g ch q ≡ true
-    yes = ap accepted (sym (s .answer) ∙ e)
+    yes = ap orderAccepted (sym (s .answer) ∙ e)
 
     pub records-there : 24 * n ≤ length o′
     records-there =
@@ -148,15 +148,15 @@ module _ {g : Shape} (ch : Channel) (q : Asked) (words : ℕ → ℕ) {r : Answe
     pub bindings-there : 8 * m ≤ q .contextRoom
     bindings-there = counts .context-fits
 
-    pub accepted-plays : length a ≡ q .contextRoom → {x : run.Answer} {v : View} → Leaves x v (ran (blockWords g) words (take (24 * n) o′) n (ch .view))
+    pub accepted-plays : length a ≡ q .contextRoom → {x : RunAnswer} {v : View} → Leaves x v (ran (blockWords g) words (take (24 * n) o′) n (ch .view))
         → Plays g ch q words (record { context = take (8 * m) a′; view = v }) (Accepted n d m) x o o′
     accepted-plays k w =
         let c = counts in
-        let records : take (24 * n) o′ ≡ recordsOf g (ch .context) q =
-        ap (take (24 * n)) (s .records ∙ rw yes) ∙ start-of o (recordsOf g (ch .context) q) (24 * n) (omega (arith, records-long (orderTree g (ch .context) q) (q .counter), c .records)) (omega (arith, c .records-fit)) in
+        let records : take (24 * n) o′ ≡ orderRecords g (ch .context) q =
+        ap (take (24 * n)) (s .records ∙ rw yes) ∙ start-of o (orderRecords g (ch .context) q) (24 * n) (omega (arith, records-long (orderTree g (ch .context) q) (q .counter), c .records)) (omega (arith, c .records-fit)) in
         let after : take (8 * m) a′ ≡ orderContext (ch .context) q =
         ap (take (8 * m)) (s .after ∙ rw yes) ∙ start-of a (orderContext (ch .context) q) (8 * m) (sym (c .bindings)) (omega (arith, c .context-fits)) in
-        let runs : ran (blockWords g) words (take (24 * n) o′) n (ch .view) ≡ ran (blockWords g) words (recordsOf g (ch .context) q) (size (orderTree g (ch .context) q)) (ch .view) =
+        let runs : ran (blockWords g) words (take (24 * n) o′) n (ch .view) ≡ ran (blockWords g) words (orderRecords g (ch .context) q) (size (orderTree g (ch .context) q)) (ch .view) =
         rw (records, c .records) in
         record {
           channel = rw (yes, after, w .last, runs);
@@ -166,7 +166,7 @@ module _ {g : Shape} (ch : Channel) (q : Asked) (words : ℕ → ℕ) {r : Answe
         }
 
     -- the same where the outputs are the first parts of a longer context and stack
-    pub accepted-plays-on : length a ≡ q .contextRoom → (context stack : List ℕ) {x : run.Answer} (R S H : List ℕ) → length S ≡ stackDepth g
+    pub accepted-plays-on : length a ≡ q .contextRoom → (context stack : List ℕ) {x : RunAnswer} (R S H : List ℕ) → length S ≡ stackDepth g
         → Leaves x (view R S H) (ran (blockWords g) words (take (24 * n) o′) n (ch .view))
         → Plays g ch q words (record { context = take (8 * m) (a′ ++ context); view = view R (take (stackDepth g) (S ++ stack)) H }) (Accepted n d m) x o o′
     accepted-plays-on k context stack R S H h w =
@@ -174,8 +174,8 @@ module _ {g : Shape} (ch : Channel) (q : Asked) (words : ℕ → ℕ) {r : Answe
         rw (take-append-le (8 * m) a′ context (omega (arith, long, k, bindings-there)), take-at S stack (stackDepth g) h) (accepted-plays k w)
 
 -- the room of a frame
-pub in-shape : {f : Shaped} {g : Shape} {context order bindings : List ℕ} {counter : ℕ} {r : Answer} {o o′ a a′ : List ℕ} → f ≡ In g → length a ≡ 8 * mostVariables g
-    → AnswersOrder f context (answering.asking order bindings counter o a) r o o′ a a′ → AnswersOrder (In g) context (asking g order bindings counter o) r o o′ a a′
+pub in-shape : {f : Shaped} {g : Shape} {context order bindings : List ℕ} {counter : ℕ} {r : OrderAnswer} {o o′ a a′ : List ℕ} → f ≡ In g → length a ≡ 8 * mostVariables g
+    → AnswersOrder f context (answering.asking order bindings counter o a) r o o′ a a′ → AnswersOrder (In g) context (askingOn g order bindings counter o) r o o′ a a′
 in-shape e l w = rw (e, l) at w
 
 -- an edition and a frame are kept
@@ -183,17 +183,17 @@ same-channel : {c c′ : code.Channel} → c′ ≡ c → SameShape c c′
 same-channel e = record { edition = ap (λ (z : code.Channel). z .edition) e; frame = ap (λ (z : code.Channel). z .frame) e }
 
 -- by the channel's edition and frame
-module _ {c : code.Channel} {order bindings : List ℕ} {counter : ℕ} {r : Answer} {o o′ : List ℕ} where
+module _ {c : code.Channel} {order bindings : List ℕ} {counter : ℕ} {r : OrderAnswer} {o o′ : List ℕ} where
   -- what the answer leaves where there is no such frame, whatever room is lent for the context
   pub refused-stays : {a a′ : List ℕ} → shapeIn c ≡ NoFrame → AnswersOrder (shapeIn c) (take (c .used) (c .context)) (answering.asking order bindings counter o a) r o o′ a a′
       → (heap : List ℕ) → Stays c (unframedOn c (answering.asking order bindings counter o [])) c heap heap r (Ended 0) o o′
-  unfolding unframed
+  unfolding unframedOrder
   refused-stays e w heap =
       let s = rw e at w in
       record { answer = answers-by (s .answer); channel = refl; heap-kept = refl; ran = answers-by refl; records = s .records }
 
-  module _ {c′ : code.Channel} {words : ℕ → ℕ} {heap heap′ : List ℕ} {x : run.Answer} where
-    pub plays-known : {g : Shape} → shapeIn c ≡ In g → SameShape c c′ → Plays g (channelOf g c heap) (asking g order bindings counter o) words (channelOf g c′ heap′) r x o o′
+  module _ {c′ : code.Channel} {words : ℕ → ℕ} {heap heap′ : List ℕ} {x : RunAnswer} where
+    pub plays-known : {g : Shape} → shapeIn c ≡ In g → SameShape c c′ → Plays g (channelOf g c heap) (askingOn g order bindings counter o) words (channelOf g c′ heap′) r x o o′
         → PlaysIn c order bindings counter words c′ heap heap′ r x o o′
     plays-known e k p = record { same-shape = k; known = λ h f. rw (same-shape e f) at p; no-frame = λ f. framed f e; no-edition = λ f. known f e }
 

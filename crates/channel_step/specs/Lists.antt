@@ -6,7 +6,7 @@ use lib.ListN.{length, take, drop}
 use Rattle.records.specs.declared.order.OrderRead.{OrderRead}
 use Rattle.records.specs.declared.order.OrderRead.the-variants.{Whole, Malformed}
 use Rattle.records.specs.Orders.{orderRead, wanted}
-use Rattle.channel_step.specs.declared.list.Item.{Item}
+use Rattle.channel_step.specs.declared.list.ItemEnds.{ItemEnds}
 
 -- how many bytes of bindings follow an order; none follow one that does not read
 abbrev pub bytesAfter : OrderRead → ℕ
@@ -22,11 +22,11 @@ abbrev pub bindingsAt : List ℕ → ℕ → List ℕ
 bindingsAt list at = take (bytesAfter (orderRead (orderAt list at))) (drop (at + length (orderAt list at)) list)
 
 -- where the order ends, and where its bindings do
-unfoldable pub itemAt : List ℕ → ℕ → Item
+unfoldable pub itemAt : List ℕ → ℕ → ItemEnds
 itemAt list at = record { «order_end» = at + length (orderAt list at); end = at + length (orderAt list at) + length (bindingsAt list at) }
 
 -- that item, and where it stands: each item of a list ends after it starts, and within the list
-pub record FindsItem (list : List ℕ) (at : ℕ) (item : Item) : Type 0 where
+pub record FindsItem (list : List ℕ) (at : ℕ) (item : ItemEnds) : Type 0 where
   pub item-is : item ≡ itemAt list at
   pub order-after : at ≤ item .«order_end»
   pub bindings-after : item .«order_end» ≤ item .end

@@ -15,7 +15,7 @@ use layout::config;
 use layout::config::Choice;
 use layout::config::Shape;
 use layout::config::Shaped;
-use order_spec::answer::Answer;
+use order_spec::answer::OrderAnswer;
 
 // The bytes of a context with as many variables as the largest frame has positions for, and the words of that frame's stack.
 pub const CONTEXT: usize = 2088;
@@ -39,8 +39,8 @@ pub struct Channel {
 // The channel after an order, its answer, and how its run ended.
 pub struct Played {
     pub channel: Channel,
-    pub answer: Answer,
-    pub ran: machine::run::Answer,
+    pub answer: OrderAnswer,
+    pub ran: machine::run::RunAnswer,
 }
 
 // How many words of a channel's stack are its frame's; none where there is no such frame.
@@ -89,7 +89,7 @@ fn ask(
     counter: u64,
     order: &[u8],
     bindings: &[u8],
-) -> Answer
+) -> OrderAnswer
     ensures { λ r. ⌜ answering.AnswersOrder (shapeOf edition frame) (take used (now (context .entry))) (answering.asking (now (order .entry)) (now (bindings .entry)) counter (now («records_out» .entry)) (now («context_out» .entry))) r (now («records_out» .entry)) (now («records_out» .exit)) (now («context_out» .entry)) (now («context_out» .exit)) ⌝ }
 {
     if used <= context.len() {
@@ -125,7 +125,7 @@ fn run_records(
     stack: &mut [u64],
     heap: &mut [u64],
     words: &[u64; 9],
-) -> machine::run::Answer
+) -> machine::run::RunAnswer
     requires { ⌜ (24 * count ≤ length (now records)) × Supported g ⌝ }
     ensures { λ r. ⌜ Leaves r (view (now (registers .exit)) (now (stack .exit)) (now (heap .exit))) (ran (blockWords g) (wordsOf (now (words .entry))) (take (24 * count) (now (records .entry))) count (view (now (registers .entry)) (now (stack .entry)) (now (heap .entry)))) ⌝ }
 {
@@ -154,7 +154,7 @@ fn play_in(
     words: [u64; 9],
 ) -> Played
     requires { ⌜ (is.shapeIn channel ≡ In g) × Supported g ⌝ }
-    ensures { λ r. ⌜ is.SameShape channel (r .channel) × is.Plays g (is.channelOf g channel (now (heap .entry))) (is.asking g (now (order .entry)) (now (bindings .entry)) counter (now («records_out» .entry))) (wordsOf words) (is.channelOf g (r .channel) (now (heap .exit))) (r .answer) (r .ran) (now («records_out» .entry)) (now («records_out» .exit)) ⌝ }
+    ensures { λ r. ⌜ is.SameShape channel (r .channel) × is.Plays g (is.channelOf g channel (now (heap .entry))) (is.askingOn g (now (order .entry)) (now (bindings .entry)) counter (now («records_out» .entry))) (wordsOf words) (is.channelOf g (r .channel) (now (heap .exit))) (r .answer) (r .ran) (now («records_out» .entry)) (now («records_out» .exit)) ⌝ }
 {
     let room = (8 * ((g.spills + 11) / 2)) as usize;
     let depth = (g.spills + 64) as usize;
@@ -173,11 +173,11 @@ fn play_in(
         order,
         bindings,
     );
-    let Answer::Accepted(records, _, count) = answer else {
+    let OrderAnswer::Accepted(records, _, count) = answer else {
         return Played {
             channel,
             answer,
-            ran: machine::run::Answer::Ended(0),
+            ran: machine::run::RunAnswer::Ended(0),
         };
     };
     let ran = run_records(
@@ -230,7 +230,7 @@ fn refuse(
     Played {
         channel,
         answer,
-        ran: machine::run::Answer::Ended(0),
+        ran: machine::run::RunAnswer::Ended(0),
     }
 }
 
@@ -260,8 +260,8 @@ pub fn play(
         Shaped::NoFrame => refuse(channel, records_out, counter, order, bindings),
         Shaped::NoEdition => Played {
             channel,
-            answer: Answer::Edition,
-            ran: machine::run::Answer::Ended(0),
+            answer: OrderAnswer::Edition,
+            ran: machine::run::RunAnswer::Ended(0),
         },
     }
 }

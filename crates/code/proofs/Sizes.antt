@@ -5,12 +5,12 @@ use mathlib.Core.Path.{_≡_, refl}
 use native.Mathlib.Omega.{arith}
 use lib.Dec.{ltb, eqb}
 use Rattle.records.specs.declared.code.Code.{Code}
-use Rattle.records.specs.declared.order.Operation.{Operation}
-use Rattle.records.specs.declared.order.Operation.the-variants.{Add, Sub, Mul, Div, Rem}
+use Rattle.records.specs.declared.order.Calculation.{Calculation}
+use Rattle.records.specs.declared.order.Calculation.the-variants.{Add, Sub, Mul, Div, Rem}
 use Rattle.trees.specs.Tree.{Tree, straight, leaf, seq, labels, size}
 use Rattle.layout.specs.declared.config.Shape.{Shape}
 use Rattle.layout.specs.Config.{TEMP, RETURN1, RETURN2}
-use Rattle.code.specs.Code.{moveFrom, moveTo, toRegister, toSpill, intoRegister, throughTemp, commutative, subtraction, divideBy, divideKept, restored, quotient, remainder, arithmetic, compareWords, compareImmediate, loadImmediate, loadLabel, moved}
+use Rattle.code.specs.Code.{moveFrom, moveTo, toRegister, toSpill, intoRegister, throughTemp, commutative, subtraction, divideBy, divideKept, restored, divTree, remTree, arithmetic, compareWords, compareImmediate, loadImmediate, loadLabel, movTree}
 
 -- no labels, and at most n records
 pub record Plain (t : Tree) (n : ℕ) : Type 0 where
@@ -73,13 +73,13 @@ module _ (g : Shape) where
   pub plain-restored : (t : ℕ) → Plain (restored g t) 3
   plain-restored t = plain-move-to RETURN1 t then plain-move-from t RETURN2 then one
 
-  plain-quotient : (t x y : ℕ) → Plain (quotient g t x y) 9
+  plain-quotient : (t x y : ℕ) → Plain (divTree g t x y) 9
   plain-quotient t x y = plain-divide-kept t x y then one then plain-restored t
 
-  plain-remainder : (t x y : ℕ) → Plain (remainder g t x y) 8
+  plain-remainder : (t x y : ℕ) → Plain (remTree g t x y) 8
   plain-remainder t x y = plain-divide-kept t x y then plain-restored t
 
-  pub plain-arithmetic : (o : Operation) (t x y : ℕ) → Plain (arithmetic g o t x y) 9
+  pub plain-arithmetic : (o : Calculation) (t x y : ℕ) → Plain (arithmetic g o t x y) 9
   plain-arithmetic Add t x y = within (plain-commutative 0 t x y) (omega arith)
   plain-arithmetic Sub t x y = within (plain-subtraction t x y) (omega arith)
   plain-arithmetic Mul t x y = within (plain-commutative 2 t x y) (omega arith)
@@ -98,6 +98,6 @@ module _ (g : Shape) where
   pub plain-load-label : (w l : ℕ) → Plain (loadLabel g w l) 2
   plain-load-label w l = either (ltb w 16) one (one then one)
 
-  pub plain-mov : (w x : ℕ) → Plain (moved g w x) 2
+  pub plain-mov : (w x : ℕ) → Plain (movTree g w x) 2
   plain-mov w x =
       either (ltb x 16) (plain-move-from w x) (either (ltb w 16) (plain-move-to w x) (plain-move-to TEMP x then plain-move-from w TEMP))

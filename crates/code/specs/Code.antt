@@ -7,8 +7,8 @@ use mathlib.Core.List.{List, [], _∷_, _++_}
 use lib.Dec.{ltb, eqb}
 use Rattle.records.specs.declared.code.Code.{Code}
 use Rattle.records.specs.declared.code.Code.the-variants.{ADD, ADDRM, ADDMR, ADDI, SUB, SUBRM, SUBMR, IMUL, IMULRM, IMULMR, IDIV, IDIVM, CQO, JMP, LEAL, MOV, MOVS, MOVL, MOVI, MOVIM, CMP, CMPRM, CMPMR, CMPI, CMPIM, JEL, JNEL, JLL, JLEL, JGL, JGEL}
-use Rattle.records.specs.declared.order.Operation.{Operation}
-use Rattle.records.specs.declared.order.Operation.the-variants.{Add, Sub, Mul, Div, Rem}
+use Rattle.records.specs.declared.order.Calculation.{Calculation}
+use Rattle.records.specs.declared.order.Calculation.the-variants.{Add, Sub, Mul, Div, Rem}
 use Rattle.records.specs.Codes.{fieldsOf}
 use Rattle.trees.specs.Tree.{Tree, leaf, seq, flat}
 use Rattle.layout.specs.declared.config.Shape.{Shape}
@@ -102,18 +102,18 @@ module _ (g : Shape) where
   restored t = seq (moveTo RETURN1 t) (seq (moveFrom t RETURN2) (leaf (MOV RETURN2 TEMP) refl))
 
   -- Instructions::div and rem: the quotient is moved to RETURN2, the remainder is there
-  abbrev pub quotient : ℕ → ℕ → ℕ → Tree
-  quotient t x y = seq (divideKept t x y) (seq (leaf (MOV RETURN2 RETURN1) refl) (restored t))
+  abbrev pub divTree : ℕ → ℕ → ℕ → Tree
+  divTree t x y = seq (divideKept t x y) (seq (leaf (MOV RETURN2 RETURN1) refl) (restored t))
 
-  abbrev pub remainder : ℕ → ℕ → ℕ → Tree
-  remainder t x y = seq (divideKept t x y) (restored t)
+  abbrev pub remTree : ℕ → ℕ → ℕ → Tree
+  remTree t x y = seq (divideKept t x y) (restored t)
 
-  abbrev pub arithmetic : Operation → ℕ → ℕ → ℕ → Tree
+  abbrev pub arithmetic : Calculation → ℕ → ℕ → ℕ → Tree
   arithmetic Add t x y = commutative 0 t x y
   arithmetic Sub t x y = subtraction t x y
   arithmetic Mul t x y = commutative 2 t x y
-  arithmetic Div t x y = quotient t x y
-  arithmetic Rem t x y = remainder t x y
+  arithmetic Div t x y = divTree t x y
+  arithmetic Rem t x y = remTree t x y
 
   abbrev pub compareWords : ℕ → ℕ → Tree
   compareWords x y =
@@ -133,8 +133,8 @@ module _ (g : Shape) where
   loadLabel w l =
       cond (ltb w 16) (leaf (LEAL w l) refl) (seq (leaf (LEAL TEMP l) refl) (leaf (MOVS TEMP STACK (stackOffset g w)) refl))
 
-  abbrev pub moved : ℕ → ℕ → Tree
-  moved w x = cond (ltb x 16) (moveFrom w x) (cond (ltb w 16) (moveTo w x) (seq (moveTo TEMP x) (moveFrom w TEMP)))
+  abbrev pub movTree : ℕ → ℕ → Tree
+  movTree w x = cond (ltb x 16) (moveFrom w x) (cond (ltb w 16) (moveTo w x) (seq (moveTo TEMP x) (moveFrom w TEMP)))
 
   abbrev pub jumpTo : ℕ → List Code
   jumpTo w = cond (ltb w 16) (JMP w ∷ []) (MOVL TEMP STACK (stackOffset g w) ∷ JMP TEMP ∷ [])

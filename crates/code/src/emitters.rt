@@ -4,7 +4,7 @@ ghost use mathlib.Core.List.{[], _∷_};
 ghost use Prim.Native.Nat.{_+_, _<_, _^_};
 ghost use Rattle.emit.specs.Emitted.{fieldsList, Emitted, Emits};
 ghost use Rattle.layout.specs.Config.{Supported, operands};
-ghost use Rattle.code.specs.Code.{compareWords, compareImmediate, loadImmediate, loadLabel, moved, commutative, subtraction, quotient, remainder, arithmetic, jumpTo, addAndJump, conditionNumber, jumpIf, jumpIfWords, jumpIfZero};
+ghost use Rattle.code.specs.Code.{compareWords, compareImmediate, loadImmediate, loadLabel, movTree, commutative, subtraction, divTree, remTree, arithmetic, jumpTo, addAndJump, conditionNumber, jumpIf, jumpIfWords, jumpIfZero};
 use crate::parts;
 use emit::cursor::Cursor;
 use emit::cursor::Row;
@@ -32,7 +32,7 @@ use records::number::MOVI;
 use records::number::MOVIM;
 use records::number::MOVL;
 use records::number::MOVS;
-use records::order::Operation;
+use records::order::Calculation;
 
 pub fn emit_load_immediate(out: &mut [u8], p: Cursor, g: Shape, w: u64, value: u64) -> Cursor
     requires { ⌜ (p .at + 24 < 2 ^ 64) × (w < operands g) × Supported g ⌝ }
@@ -65,7 +65,7 @@ pub fn emit_load_label(out: &mut [u8], p: Cursor, g: Shape, w: u64, label: u32) 
 
 pub fn emit_mov(out: &mut [u8], p: Cursor, g: Shape, w: u64, x: u64) -> Cursor
     requires { ⌜ (p .at + 48 < 2 ^ 64) × (w < operands g) × (x < operands g) × Supported g ⌝ }
-    ensures { λ q. ⌜ Emits (now (out .entry)) p (now (out .exit)) q (moved g w x) ⌝ }
+    ensures { λ q. ⌜ Emits (now (out .entry)) p (now (out .exit)) q (movTree g w x) ⌝ }
 {
     if x < 16 {
         return parts::move_from_register(out, p, g, w, x as u8);
@@ -123,7 +123,7 @@ fn emit_subtraction(out: &mut [u8], p: Cursor, g: Shape, w: u64, x: u64, y: u64)
 
 fn emit_quotient(out: &mut [u8], p: Cursor, g: Shape, w: u64, x: u64, y: u64) -> Cursor
     requires { ⌜ (p .at + 216 < 2 ^ 64) × (w < operands g) × (x < operands g) × (y < operands g) × Supported g ⌝ }
-    ensures { λ q. ⌜ Emits (now (out .entry)) p (now (out .exit)) q (quotient g w x y) ⌝ }
+    ensures { λ q. ⌜ Emits (now (out .entry)) p (now (out .exit)) q (divTree g w x y) ⌝ }
 {
     let q1 = parts::divide_kept(out, p, g, w, x, y);
     let q2 = emit::cursor::emit(out, q1, Row(MOV, RETURN2, RETURN1, 0, 0, 0));
@@ -132,7 +132,7 @@ fn emit_quotient(out: &mut [u8], p: Cursor, g: Shape, w: u64, x: u64, y: u64) ->
 
 fn emit_remainder(out: &mut [u8], p: Cursor, g: Shape, w: u64, x: u64, y: u64) -> Cursor
     requires { ⌜ (p .at + 192 < 2 ^ 64) × (w < operands g) × (x < operands g) × (y < operands g) × Supported g ⌝ }
-    ensures { λ q. ⌜ Emits (now (out .entry)) p (now (out .exit)) q (remainder g w x y) ⌝ }
+    ensures { λ q. ⌜ Emits (now (out .entry)) p (now (out .exit)) q (remTree g w x y) ⌝ }
 {
     let q = parts::divide_kept(out, p, g, w, x, y);
     parts::restore(out, q, g, w)
@@ -143,7 +143,7 @@ pub fn emit_arithmetic(
     out: &mut [u8],
     p: Cursor,
     g: Shape,
-    operation: Operation,
+    operation: Calculation,
     w: u64,
     x: u64,
     y: u64,
@@ -152,11 +152,11 @@ pub fn emit_arithmetic(
     ensures { λ q. ⌜ Emits (now (out .entry)) p (now (out .exit)) q (arithmetic g operation w x y) ⌝ }
 {
     match operation {
-        Operation::Add => emit_commutative(out, p, g, 0, w, x, y),
-        Operation::Sub => emit_subtraction(out, p, g, w, x, y),
-        Operation::Mul => emit_commutative(out, p, g, 2, w, x, y),
-        Operation::Div => emit_quotient(out, p, g, w, x, y),
-        Operation::Rem => emit_remainder(out, p, g, w, x, y),
+        Calculation::Add => emit_commutative(out, p, g, 0, w, x, y),
+        Calculation::Sub => emit_subtraction(out, p, g, w, x, y),
+        Calculation::Mul => emit_commutative(out, p, g, 2, w, x, y),
+        Calculation::Div => emit_quotient(out, p, g, w, x, y),
+        Calculation::Rem => emit_remainder(out, p, g, w, x, y),
     }
 }
 

@@ -11,7 +11,7 @@ use Rattle.records.specs.declared.code.Code.the-variants.{MOVL}
 use Rattle.trees.specs.Tree.{Tree, leaf, seq}
 use Rattle.layout.specs.declared.config.Shape.{Shape}
 use Rattle.layout.specs.Config.{STACK, TEMP, operands, stackOffset}
-use Rattle.code.specs.Code.{spillRegister, moveFrom, moveTo, toRegister, toSpill, intoRegister, throughTemp, commutative, subtraction, moved}
+use Rattle.code.specs.Code.{spillRegister, moveFrom, moveTo, toRegister, toSpill, intoRegister, throughTemp, commutative, subtraction, movTree}
 use Rattle.word.specs.Words.{sum, product}
 use Rattle.machine_step.specs.Step.{Config}
 use Rattle.layout_proof.specs.Held.{held, Placed}
@@ -35,7 +35,7 @@ module _ (words : ℕ → ℕ) {G : Shape} {N : ℕ} (c : Config) (v : Placed G 
       then r (λ d p. so (from-does words d (placed-after p (omega arith) v) TEMP t (omega arith) h)
       (λ e q. let s = by-temp p q in (s .0 ∙ p .0, s .1)))
 
-  pub mov-does : (t x : ℕ) → t < operands G → x < operands G → Does words (moved G t x) c (Sets t (held c x) c)
+  pub mov-does : (t x : ℕ) → t < operands G → x < operands G → Does words (movTree G t x) c (Sets t (held c x) c)
   mov-does t x h k = by (ltb x 16) refl (ltb t 16) refl
     where
       by : (a : Bool) → ltb x 16 ≡ a → (b : Bool) → ltb t 16 ≡ b

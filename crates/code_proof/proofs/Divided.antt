@@ -7,14 +7,14 @@ use native.Mathlib.Omega.{arith}
 use lib.Dec.{ltb, eqb}
 use borrow.Author.Tests.{ltb-true, ltb-false, eq-eqb, eqb-true, eqb-false}
 use Rattle.records.specs.declared.code.Code.the-variants.{IDIV, IDIVM, CQO, MOV}
-use Rattle.records.specs.declared.order.Operation.the-variants.{Div, Rem}
+use Rattle.records.specs.declared.order.Calculation.the-variants.{Div, Rem}
 use Rattle.trees.specs.Tree.{Tree, leaf, seq}
 use Rattle.layout.specs.declared.config.Shape.{Shape}
 use Rattle.layout.specs.Config.{STACK, TEMP, RETURN1, RETURN2, stackOffset}
 use Rattle.code.specs.Code.{divideBy, divideKept, restored, arithmetic}
 use Rattle.word.specs.Words.{signs, quotient, remainder, divisible, divides}
 use Rattle.machine_step.specs.declared.instruction.Compared.the-variants.{Absent}
-use Rattle.machine_step.specs.declared.memory.Loaded.the-variants.{Word}
+use Rattle.machine_step.specs.declared.memory.Fetched.the-variants.{Word}
 use Rattle.machine_step.specs.View.{putReg}
 use Rattle.machine_step.specs.Memory.{Operand, register, memory, valueOf}
 use Rattle.machine_step.specs.Step.{Config, changed, next, fault, divide, step}

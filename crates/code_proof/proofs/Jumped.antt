@@ -21,7 +21,7 @@ use Rattle.code.specs.declared.emitters.Condition.the-variants.{Equal, NotEqual
 use Rattle.code.specs.Code.{jumpIf, compareWords, compareImmediate}
 use Rattle.code.proofs.Sizes.{plain-compare, plain-compare-immediate}
 use Rattle.operations.specs.declared.operation.Operation.the-variants.{Label}
-use Rattle.operations.specs.Operations.{recordsOf}
+use Rattle.operations.specs.Operations.{operationRecords}
 use Rattle.word.specs.Words.{choose}
 use Rattle.machine_step.specs.declared.instruction.Compared.the-variants.{Of}
 use Rattle.machine_step.specs.Memory.{register, memory, immediate}
@@ -29,7 +29,7 @@ use Rattle.machine_step.specs.Step.{Config, dropped, jump, next, step}
 use Rattle.machine.specs.declared.run.Found.the-variants.{At}
 use Rattle.machine.specs.Run.{theOne, find}
 use Rattle.trees_proof.specs.Evaluation.{evaluated, done}
-use Rattle.trees_proof.specs.Claims.{Reaches, RunsAs}
+use Rattle.trees_proof.specs.Claims.{RunsTo, RunsAs}
 use Rattle.trees_proof.proofs.Steps.{drop-part, after, stepped, jumped, mark-does}
 use Rattle.trees_proof.proofs.Trees.{does}
 use Rattle.layout_proof.specs.Held.{held, Placed}
@@ -106,7 +106,7 @@ module _ (words : ℕ → ℕ) (p : List Code) (label i j : ℕ) (c : Config) (f
   branch-goes u k x y z r rest e =
       let e₁ : drop i p ≡ flat u 0 ++ (jumpIf k label ∷ rest) = e ∙ append-assoc (flat u 0) (jumpIf k label ∷ []) rest in
       let e₂ : drop (i + size u) p ≡ jumpIf k label ∷ rest = drop-part p i (size u) (flat u 0) (jumpIf k label ∷ rest) e₁ (length-flat u 0 0) in
-      let g : Reaches words p (size u) i (i + size u) c (r .to) =
+      let g : RunsTo words p (size u) i (i + size u) c (r .to) =
       subst (RunsAs words p (size u) i (i + size u) c) (r .run) (does words p u 0 0 i (jumpIf k label ∷ rest) c e₁ (λ l a b. absurd (omega arith))) in
       let n : length (flat u 0 ++ (jumpIf k label ∷ [])) ≡ size u + 1 = omega (arith, length-append (flat u 0) (jumpIf k label ∷ []), length-flat u 0 0) in
       record {
@@ -115,9 +115,9 @@ module _ (words : ℕ → ℕ) (p : List Code) (label i j : ℕ) (c : Config) (f
         rest = unpaired (r .post .1);
       }
     where
-      by : drop (i + size u) p ≡ jumpIf k label ∷ rest → Reaches words p (size u) i (i + size u) c (r .to)
+      by : drop (i + size u) p ≡ jumpIf k label ∷ rest → RunsTo words p (size u) i (i + size u) c (r .to)
           → (b : Bool) → step words (jumpIf k label) (r .to) ≡ cond b (jump label (dropped (r .to))) (next (dropped (r .to)))
-          → Reaches words p (size u + 1) i (choose b j (i + (size u + 1))) c (dropped (r .to))
+          → RunsTo words p (size u + 1) i (choose b j (i + (size u + 1))) c (dropped (r .to))
       by e g true w = after words p (size u) 1 i (i + size u) j (done (dropped (r .to))) g (jumped words p (i + size u) e (r .to) w f) (omega arith) (size u + 1) (omega arith)
       by e g false w =
           let m : i + (size u + 1) ≡ suc (i + size u) = omega arith in
@@ -129,7 +129,7 @@ module _ (words : ℕ → ℕ) (p : List Code) (label i j : ℕ) (c : Config) (f
 
   module _ {G : Shape} {N : ℕ} (v : Placed G N c) where
     pub jumps : Jumps G words p label i j c
-    unfolding recordsOf step
+    unfolding operationRecords step
     jumps =
         record {
           jump-label = always-goes (JMPL label) refl;
@@ -153,8 +153,8 @@ unfolding JumpsWhereItNames
 jumps-where-it-names G words p label i j N c e v = jumps words p label i j c (ap theOne e) v
 
 pub label-does-nothing : LabelDoesNothing
-unfolding LabelDoesNothing recordsOf
+unfolding LabelDoesNothing operationRecords
 label-does-nothing G words p label i c rest e =
-    let records : List Code = recordsOf G (Label label) in
-    let r : Reaches words p (length records) i (i + length records) c (dropped c) = rw (add-one i) (mark-does words p i e c) in
+    let records : List Code = operationRecords G (Label label) in
+    let r : RunsTo words p (length records) i (i + length records) c (dropped c) = rw (add-one i) (mark-does words p i e c) in
     record { at = dropped c; run = r; rest = unpaired (same c) }

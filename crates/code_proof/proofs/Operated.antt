@@ -3,8 +3,8 @@ use Prim.Native.Nat.{ℕ}
 use mathlib.Core.Path.{_≡_}
 use mathlib.Core.Bool.{true, false}
 use native.Mathlib.Omega.{arith}
-use Rattle.records.specs.declared.order.Operation.{Operation}
-use Rattle.records.specs.declared.order.Operation.the-variants.{Add, Sub, Mul, Div, Rem}
+use Rattle.records.specs.declared.order.Calculation.{Calculation}
+use Rattle.records.specs.declared.order.Calculation.the-variants.{Add, Sub, Mul, Div, Rem}
 use Rattle.layout.specs.declared.config.Shape.{Shape}
 use Rattle.code.specs.Code.{arithmetic}
 use Rattle.word.specs.Results.{result, resultDefined}
@@ -18,7 +18,7 @@ use Rattle.code_proof.proofs.Computed.{sum-comm, product-comm, commutat
 use Rattle.code_proof.proofs.Divided.{Stops, quotient-whole, remainder-whole}
 
 module _ (words : ℕ → ℕ) {G : Shape} {N : ℕ} (c : Config) (v : Placed G N c) (t x y : ℕ) (f : Given G t) (g : Given G x) (k : Given G y) where
-  pub arithmetic-does : (o : Operation) → OperandsFor o t x y → resultDefined o (held c x) (held c y) ≡ true
+  pub arithmetic-does : (o : Calculation) → OperandsFor o t x y → resultDefined o (held c x) (held c y) ≡ true
       → Does words (arithmetic G o t x y) c (Sets t (result o (held c x) (held c y)) c)
   arithmetic-does Add n e = commutative-does words c v t x y f g k plus (sum-comm (held c x) (held c y))
   arithmetic-does Sub n e = subtraction-does words c v t x y f g k
@@ -26,7 +26,7 @@ module _ (words : ℕ → ℕ) {G : Shape} {N : ℕ} (c : Config) (v : Placed G 
   arithmetic-does Div n e = quotient-whole words c v t x y f g k n .0 e
   arithmetic-does Rem n e = remainder-whole words c v t x y f g k n .0 e
 
-  pub arithmetic-stops : (o : Operation) → OperandsFor o t x y → resultDefined o (held c x) (held c y) ≡ false → Stops words (arithmetic G o t x y) c t
+  pub arithmetic-stops : (o : Calculation) → OperandsFor o t x y → resultDefined o (held c x) (held c y) ≡ false → Stops words (arithmetic G o t x y) c t
   arithmetic-stops Add n e = let z : _≡_ {A = ℕ} 0 1 = cc in absurd (omega arith)
   arithmetic-stops Sub n e = let z : _≡_ {A = ℕ} 0 1 = cc in absurd (omega arith)
   arithmetic-stops Mul n e = let z : _≡_ {A = ℕ} 0 1 = cc in absurd (omega arith)

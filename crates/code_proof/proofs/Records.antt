@@ -12,9 +12,9 @@ use Rattle.layout.specs.declared.config.Shape.{Shape}
 use Rattle.layout.specs.Config.{STACK, operands, stackOffset}
 use Rattle.code.specs.Code.{registerRegister, registerSpill, spillRegister, moveFrom, moveTo, toRegister, loadImmediate}
 use Rattle.word.specs.Words.{sum, difference, product}
-use Rattle.machine_step.specs.declared.memory.Loaded.the-variants.{Word}
+use Rattle.machine_step.specs.declared.memory.Fetched.the-variants.{Word}
 use Rattle.machine_step.specs.Memory.{register, memory, immediate, valueOf, assigned}
-use Rattle.machine_step.specs.Step.{Config, move, arithmetic, step}
+use Rattle.machine_step.specs.Step.{Config, move, calculate, step}
 use Rattle.trees_proof.specs.Evaluation.{evaluate, evaluated}
 use Rattle.layout_proof.specs.Held.{held, Placed}
 use Rattle.layout_proof.proofs.Operands.{operandAt, withOperand}
@@ -70,12 +70,12 @@ module _ (G : Shape) (words : ℕ → ℕ) (c : Config) where
       by true = refl
       by false = refl
 
-  register-is : (o : Basic) (r w : ℕ) → evaluate words (toRegister G (number o) r w) c ≡ evaluated (arithmetic (result o) (register r) (operandAt G w) c)
+  register-is : (o : Basic) (r w : ℕ) → evaluate words (toRegister G (number o) r w) c ≡ evaluated (calculate (result o) (register r) (operandAt G w) c)
   unfolding step
   register-is o r w = by o (ltb w 16)
     where
       by : (o : Basic) (b : Bool) → evaluate words (cond b (registerRegister (number o) r w) (registerSpill (number o) r (stackOffset G w))) c
-          ≡ evaluated (arithmetic (result o) (register r) (cond b (register w) (memory STACK (stackOffset G w))) c)
+          ≡ evaluated (calculate (result o) (register r) (cond b (register w) (memory STACK (stackOffset G w))) c)
       by plus true = refl
       by plus false = refl
       by minus true = refl
@@ -83,7 +83,7 @@ module _ (G : Shape) (words : ℕ → ℕ) (c : Config) where
       by times true = refl
       by times false = refl
 
-  spill-is : (o : Basic) (offset r : ℕ) → evaluate words (spillRegister (number o) offset r) c ≡ evaluated (arithmetic (result o) (memory STACK offset) (register r) c)
+  spill-is : (o : Basic) (offset r : ℕ) → evaluate words (spillRegister (number o) offset r) c ≡ evaluated (calculate (result o) (memory STACK offset) (register r) c)
   unfolding step
   spill-is plus offset r = refl
   spill-is minus offset r = refl

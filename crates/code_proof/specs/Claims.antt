@@ -10,8 +10,8 @@ use mathlib.Core.List.{List, [], _∷_, _++_}
 use lib.Dec.{eqb}
 use lib.ListN.{length, drop}
 use Rattle.records.specs.declared.code.Code.{Code}
-use Rattle.records.specs.declared.order.Operation.{Operation}
-use Rattle.records.specs.declared.order.Operation.the-variants.{Add, Sub, Mul, Div, Rem}
+use Rattle.records.specs.declared.order.Calculation.{Calculation}
+use Rattle.records.specs.declared.order.Calculation.the-variants.{Add, Sub, Mul, Div, Rem}
 use Rattle.records.specs.ReadBack.{joined, codeBytes}
 use Rattle.layout.specs.declared.config.Shape.{Shape}
 use Rattle.layout.specs.Config.{Supported, blockWords, stackDepth, STACK, TEMP, RETURN1, RETURN2}
@@ -20,16 +20,16 @@ use Rattle.code.specs.declared.emitters.Condition.{Condition}
 use Rattle.code.specs.declared.emitters.Condition.the-variants.{Equal, NotEqual, Less, LessOrEqual, Greater, GreaterOrEqual}
 use Rattle.code.specs.Code.{jumpIf}
 use Rattle.operations.specs.declared.operation.Operation.the-variants.{Label, JumpLabel, JumpLabelFixed, JumpLabelIf, JumpLabelIfZero, LoadImmediate, Arithmetic, Mov, Compare, CompareImmediate}
-use Rattle.operations.specs.Operations.{recordsOf}
+use Rattle.operations.specs.Operations.{operationRecords}
 use Rattle.word.specs.Words.{choose, less}
 use Rattle.word.specs.Results.{result, resultDefined}
 use Rattle.machine_step.specs.View.{View, wordsOf}
 use Rattle.machine_step.specs.Memory.{heapOk}
 use Rattle.machine_step.specs.Step.{Config}
-use Rattle.machine.specs.declared.run.Answer.the-variants.{Ended, Fault}
+use Rattle.machine.specs.declared.run.RunAnswer.the-variants.{Ended, Fault}
 use Rattle.machine.specs.Run.{placesOf, done, ran, starting}
 use Rattle.machine.specs.State.{freshState}
-use Rattle.trees_proof.specs.Claims.{Reaches}
+use Rattle.trees_proof.specs.Claims.{RunsTo}
 use Rattle.layout_proof.specs.Held.{held, Keeps, Placed}
 
 -- from c to d nothing changed but operands outside P and the compare
@@ -51,7 +51,7 @@ pub record DivisionOperands (t x y : ℕ) : Type 0 where
   pub divisor : y ≢ RETURN1
 
 -- what an operation asks of its operands
-abbrev pub OperandsFor : Operation → ℕ → ℕ → ℕ → Type 0
+abbrev pub OperandsFor : Calculation → ℕ → ℕ → ℕ → Type 0
 OperandsFor Add t x y = Unit {0}
 OperandsFor Sub t x y = Unit {0}
 OperandsFor Mul t x y = Unit {0}
@@ -70,7 +70,7 @@ relation GreaterOrEqual x y = not (less x y)
 -- at most `most` steps of the list p lead from place `from` to place `to`, and nothing but TEMP changed
 pub record Goes (words : ℕ → ℕ) (p : List Code) (most from to : ℕ) (c : Config) : Type 0 where
   pub at : Config
-  pub run : Reaches words p most from to c at
+  pub run : RunsTo words p most from to c at
   pub rest : Unchanged (λ l. l ≢ TEMP) c at
 
 -- records that stand at place i of p go to place j if b, else to the place past them
@@ -80,19 +80,19 @@ GoesIf b words p i j records c =
 
 -- the jumps to a label at place j, from place i
 pub record Jumps (G : Shape) (words : ℕ → ℕ) (p : List Code) (label i j : ℕ) (c : Config) : Type 0 where
-  pub jump-label : GoesIf true words p i j (recordsOf G (JumpLabel label)) c
-  pub jump-label-fixed : GoesIf true words p i j (recordsOf G (JumpLabelFixed label)) c
+  pub jump-label : GoesIf true words p i j (operationRecords G (JumpLabel label)) c
+  pub jump-label-fixed : GoesIf true words p i j (operationRecords G (JumpLabelFixed label)) c
   -- jump_label_if_equal and the five others: two operands
   pub jump-label-if : (k : Condition) (x y : ℕ) → operandOk G x ≡ true → operandOk G y ≡ true
-      → GoesIf (relation k (held c x) (held c y)) words p i j (recordsOf G (JumpLabelIf k x y label)) c
+      → GoesIf (relation k (held c x) (held c y)) words p i j (operationRecords G (JumpLabelIf k x y label)) c
   -- jump_label_if_zero and the five others: an operand and zero
   pub jump-label-if-zero : (k : Condition) (x : ℕ) → operandOk G x ≡ true
-      → GoesIf (relation k (held c x) 0) words p i j (recordsOf G (JumpLabelIfZero k x label)) c
+      → GoesIf (relation k (held c x) 0) words p i j (operationRecords G (JumpLabelIfZero k x label)) c
   -- compare and compare_immediate, and a conditional jump after them
   pub compare : (k : Condition) (x y : ℕ) → operandOk G x ≡ true → operandOk G y ≡ true
-      → GoesIf (relation k (held c x) (held c y)) words p i j (recordsOf G (Compare x y) ++ (jumpIf k label ∷ [])) c
+      → GoesIf (relation k (held c x) (held c y)) words p i j (operationRecords G (Compare x y) ++ (jumpIf k label ∷ [])) c
   pub compare-immediate : (k : Condition) (x value : ℕ) → operandOk G x ≡ true
-      → GoesIf (relation k (held c x) value) words p i j (recordsOf G (CompareImmediate x value) ++ (jumpIf k label ∷ [])) c
+      → GoesIf (relation k (held c x) value) words p i j (operationRecords G (CompareImmediate x value) ++ (jumpIf k label ∷ [])) c
 
 -- in a list that holds the label once; its bytes run as its records do (`written_is_read`, lists)
 unfoldable pub JumpsWhereItNames : Type 0
@@ -101,7 +101,7 @@ JumpsWhereItNames =
 
 -- a label goes on to the next record, whatever list it stands in
 unfoldable pub LabelDoesNothing : Type 0
-LabelDoesNothing = (G : Shape) (words : ℕ → ℕ) (p : List Code) (label i : ℕ) (c : Config) → GoesIf false words p i i (recordsOf G (Label label)) c
+LabelDoesNothing = (G : Shape) (words : ℕ → ℕ) (p : List Code) (label i : ℕ) (c : Config) → GoesIf false words p i i (operationRecords G (Label label)) c
 
 -- a state that operations run in: a stack as deep as the frame asks, STACK where the routine's setup leaves it, and a heap that the machine takes
 pub record Ready (G : Shape) (v : View) : Type 0 where
@@ -130,12 +130,12 @@ pub record FaultsWith (G : Shape) (words : ℕ → ℕ) (records : List Code) (v
 
 -- what the records that the operations without jumps write do when they are run, by the words that the sources held before
 pub record Runs (G : Shape) (words : ℕ → ℕ) (v : View) (t x y : ℕ) : Type 0 where
-  pub load-immediate : (value : ℕ) → value < 2 ^ 64 → EndsWith G words (recordsOf G (LoadImmediate t value)) v (Sets t value (starting v))
-  pub mov : EndsWith G words (recordsOf G (Mov t x)) v (Sets t (held (starting v) x) (starting v))
-  pub arithmetic : (o : Operation) → OperandsFor o t x y → resultDefined o (held (starting v) x) (held (starting v) y) ≡ true
-      → EndsWith G words (recordsOf G (Arithmetic o t x y)) v (Sets t (result o (held (starting v) x) (held (starting v) y)) (starting v))
-  pub faults : (o : Operation) → OperandsFor o t x y → resultDefined o (held (starting v) x) (held (starting v) y) ≡ false
-      → FaultsWith G words (recordsOf G (Arithmetic o t x y)) v t
+  pub load-immediate : (value : ℕ) → value < 2 ^ 64 → EndsWith G words (operationRecords G (LoadImmediate t value)) v (Sets t value (starting v))
+  pub mov : EndsWith G words (operationRecords G (Mov t x)) v (Sets t (held (starting v) x) (starting v))
+  pub arithmetic : (o : Calculation) → OperandsFor o t x y → resultDefined o (held (starting v) x) (held (starting v) y) ≡ true
+      → EndsWith G words (operationRecords G (Arithmetic o t x y)) v (Sets t (result o (held (starting v) x) (held (starting v) y)) (starting v))
+  pub faults : (o : Calculation) → OperandsFor o t x y → resultDefined o (held (starting v) x) (held (starting v) y) ≡ false
+      → FaultsWith G words (operationRecords G (Arithmetic o t x y)) v t
 
 unfoldable pub RunsAsItNames : Type 0
 RunsAsItNames =

@@ -4,10 +4,10 @@ ghost use mathlib.Core.Bool.{false};
 ghost use Prim.Native.Nat.{_+_, _<_, _^_};
 ghost use Rattle.records.specs.Contexts.{checkedContext};
 ghost use Rattle.emit.specs.Answers.{unframed, granted, accepted};
-use records::name::LAST_LABEL;
 use crate::cursor::Cursor;
 use records::context::ContextRead;
 use records::context::Flaw;
+use records::name::LAST_LABEL;
 
 // Written, with the number of records and the counter after them; or refused, by the documents' causes.
 pub enum Answer {

@@ -13,11 +13,11 @@ use Rattle.emit.specs.Answers.{accepted}
 use Rattle.layout.specs.declared.config.Shape.{Shape}
 use Rattle.layout.specs.Config.{Supported}
 use Rattle.layout.specs.Positions.{operandOk}
-use Rattle.code.specs.Code.{jumpIf, compareWords, compareImmediate, arithmetic, loadImmediate, loadLabel, moved}
+use Rattle.code.specs.Code.{jumpIf, compareWords, compareImmediate, arithmetic, loadImmediate, loadLabel, movTree}
 use Rattle.code.proofs.Sizes.{plain-arithmetic, plain-compare, plain-compare-immediate, plain-load-immediate, plain-load-label, plain-mov}
 use Rattle.operations.specs.declared.operation.Operation.{Operation}
 use Rattle.operations.specs.declared.operation.Operation.the-variants.{Label, Jump, JumpLabel, JumpLabelFixed, JumpLabelIf, JumpLabelIfZero, LoadImmediate, LoadLabel, AddAndJump, Arithmetic, Mov, Compare, CompareImmediate}
-use Rattle.operations.specs.Operations.{recordsOf, operandsOk, answerOf}
+use Rattle.operations.specs.Operations.{operationRecords, operandsAllowed, operationAnswer}
 use Rattle.order_formed_proof.proofs.Codes.{Held, lab, jmp, jmpl, jmpln, jump-if, addi, movl}
 use Rattle.order_formed_proof.proofs.Choices.{offset-fits, zero-fits, stack, temp}
 use Rattle.order_formed_proof.proofs.Operations.{formed-arithmetic, formed-immediate, formed-moved, formed-compare, formed-compare-immediate, formed-load-label}
@@ -31,8 +31,8 @@ single : {c : Code} → WellFormedCode c → Short (c ∷ [])
 single w = record { each = (w, tt); most = omega arith }
 
 module _ (G : Shape) (sup : Supported G) where
-  operation-short : (o : Operation) → OperationFits o → operandsOk G o ≡ true → Short (recordsOf G o)
-  unfolding recordsOf operandsOk
+  operation-short : (o : Operation) → OperationFits o → operandsAllowed G o ≡ true → Short (operationRecords G o)
+  unfolding operationRecords operandsAllowed
   operation-short (Label l) f e = single (lab (held f e))
   operation-short (Jump w) f e =
       on-operand w (λ l. single (jmp l)) (λ l. record { each = (movl temp stack (offset-fits G sup w), (jmp temp, tt)); most = omega arith })
@@ -52,15 +52,15 @@ module _ (G : Shape) (sup : Supported G) where
       on-operand w (λ l. record { each = (addi l f, (jmp l, tt)); most = omega arith })
       (λ l. record { each = (movl temp stack (offset-fits G sup w), (addi temp f, (jmp temp, tt))); most = omega arith })
   operation-short (Arithmetic o w x y) f e = short-tree (arithmetic G o w x y) (formed-arithmetic G sup o w x y) (plain-arithmetic G o w x y) (omega arith)
-  operation-short (Mov w x) f e = short-tree (moved G w x) (formed-moved G sup w x) (plain-mov G w x) (omega arith)
+  operation-short (Mov w x) f e = short-tree (movTree G w x) (formed-moved G sup w x) (plain-mov G w x) (omega arith)
   operation-short (Compare x y) f e = short-tree (compareWords G x y) (formed-compare G sup x y) (plain-compare G x y) (omega arith)
   operation-short (CompareImmediate w value) f e =
       short-tree (compareImmediate G w value) (formed-compare-immediate G sup w f) (plain-compare-immediate G w value) (omega arith)
 
-  pub operation-readable : (o : Operation) → OperationFits o → operandsOk G o ≡ true → Readable (recordsOf G o)
+  pub operation-readable : (o : Operation) → OperationFits o → operandsAllowed G o ≡ true → Readable (operationRecords G o)
   operation-readable o f e =
       let s = operation-short o f e in
-      readable (recordsOf G o) (s .each) (omega (arith, s .most))
+      readable (operationRecords G o) (s .each) (omega (arith, s .most))
 
-  pub operation-reads : (o : Operation) (room : ℕ) → OperationFits o → accepted (answerOf G room o) ≡ true → Readable (recordsOf G o)
-  operation-reads o room f e = operation-readable o f (chosen accepted (operandsOk G o) _ Operand refl e .0)
+  pub operation-reads : (o : Operation) (room : ℕ) → OperationFits o → accepted (operationAnswer G room o) ≡ true → Readable (operationRecords G o)
+  operation-reads o room f e = operation-readable o f (chosen accepted (operandsAllowed G o) _ Operand refl e .0)

@@ -12,7 +12,7 @@ use Rattle.word.specs.Words.{sum, difference}
 use Rattle.machine_step.specs.View.{View, fromEnd, wordsOf, upd}
 use Rattle.machine_step.specs.Memory.{heapStart}
 use Rattle.machine_step.specs.Step.{step}
-use Rattle.machine.specs.declared.run.Answer.the-variants.{Ended}
+use Rattle.machine.specs.declared.run.RunAnswer.the-variants.{Ended}
 use Rattle.machine.specs.Run.{done, runs, started, starting}
 use Rattle.machine.specs.State.{see, entryState, firsts}
 use Rattle.machine.proofs.Places.{place-1, place-2, place-3, place-4, place-5, place-6}

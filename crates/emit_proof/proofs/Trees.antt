@@ -76,7 +76,7 @@ module _ (G : Shape) (sup : Supported G) where
   print-reads room newline w context (Good n) e = print-readable newline w context n
   print-reads room newline w context (Bad flaw) e = let z : _≡_ {A = ℕ} 0 1 = cc in absurd (omega arith)
 
-  pub order-reads : (context : List ℕ) (q : Asked) → Bytes (q .order) → order.accepted (answerTo G context q) ≡ true
+  pub order-reads : (context : List ℕ) (q : Asked) → Bytes (q .order) → order.orderAccepted (answerTo G context q) ≡ true
       → Readable (flat (orderTree G context q) (q .counter))
   order-reads context q b e =
       let c = good-context G context q e in

@@ -20,7 +20,7 @@ use Rattle.layout.specs.declared.config.Shape.{Shape}
 use Rattle.layout.specs.Config.{Supported, blockWords, stackDepth}
 use Rattle.operations.specs.declared.operation.Operation.{Operation}
 use Rattle.operations.specs.declared.operation.Operation.the-variants.{Label, Jump, JumpLabel, JumpLabelFixed, JumpLabelIf, JumpLabelIfZero, LoadImmediate, LoadLabel, AddAndJump, Arithmetic, Mov, Compare, CompareImmediate}
-use Rattle.operations.specs.Operations.{recordsOf, answerOf}
+use Rattle.operations.specs.Operations.{operationRecords, operationAnswer}
 use Rattle.memory.specs.Answered.{eraseAnswer, shareAnswer, storeTree, storeAnswer}
 use Rattle.memory.specs.Blocks.{eraseBlock, shareBlock}
 use Rattle.memory.specs.LoadAnswered.{loadTree, loadAnswer}
@@ -28,7 +28,7 @@ use Rattle.print_i64.specs.Print.{printAnswer, printRecords}
 use Rattle.routine.specs.Routine.{head, cleanup, routineBytes, routineAnswer}
 use Rattle.machine_step.specs.View.{View, wordsOf}
 use Rattle.machine_step.specs.Memory.{heapOk}
-use Rattle.machine.specs.declared.run.Answer.the-variants.{Ended}
+use Rattle.machine.specs.declared.run.RunAnswer.the-variants.{Ended}
 use Rattle.machine.specs.Run.{Done, ran, started}
 use Rattle.machine.specs.State.{see, entryState, freshState, firsts}
 use Rattle.order_spec.specs.Answered as order
@@ -73,7 +73,7 @@ pub record RoutineReads (G : Shape) (n : ℕ) (body : List ℕ) : Type 0 where
 pub record WrittenIsRead : Type 0 where
   -- what several operations write together, and any other list
   pub lists : (cs : List Code) → Each WellFormedCode cs → length cs ≤ 65536 → Readable cs
-  pub operations : (G : Shape) → Supported G → (o : Operation) (room : ℕ) → OperationFits o → accepted (answerOf G room o) ≡ true → Readable (recordsOf G o)
+  pub operations : (G : Shape) → Supported G → (o : Operation) (room : ℕ) → OperationFits o → accepted (operationAnswer G room o) ≡ true → Readable (operationRecords G o)
   pub stores : (G : Shape) → Supported G → (counter room : ℕ) (context : List ℕ) (n : ℕ) → accepted (storeAnswer G counter room context n) ≡ true
       → Readable (flat (storeTree G context n) counter)
   pub loads : (G : Shape) → Supported G → (counter room : ℕ) (loaded existing : List ℕ) → accepted (loadAnswer G counter room loaded existing) ≡ true
@@ -83,7 +83,7 @@ pub record WrittenIsRead : Type 0 where
   pub prints : (G : Shape) → Supported G → (room : ℕ) (newline : Bool) (w : ℕ) (context : List ℕ)
       → accepted (printAnswer G room newline w context (checkedContext context)) ≡ true
       → Readable (printRecords G newline w context (checkedContext context))
-  pub orders : (G : Shape) → Supported G → (context : List ℕ) (q : Asked) → Bytes (q .order) → order.accepted (answerTo G context q) ≡ true
+  pub orders : (G : Shape) → Supported G → (context : List ℕ) (q : Asked) → Bytes (q .order) → order.orderAccepted (answerTo G context q) ≡ true
       → Readable (flat (orderTree G context q) (q .counter))
   pub routines : (G : Shape) → Supported G → (room n : ℕ) (body : List ℕ) → Bytes body → accepted (routineAnswer G room n body) ≡ true → RoutineReads G n body
 

@@ -10,7 +10,7 @@ use Rattle.heap.specs.Counting.{occ}
 use Rattle.heap.specs.Blocks.{Layout, Cell, cell, pointers, Memory}
 use Rattle.heap.specs.Reachability.{Reachable, start, follow, ReachableFrom, ReachableCount}
 use Rattle.heap.specs.Values.{Values, countOf, concat, lengths}
-use Rattle.heap.specs.Orders.{Order, plain, Legal, Performs, puts, makes-copies, drops, stores-none, stores-some, loads-none, loads-last, loads-shared}
+use Rattle.heap.specs.Orders.{HeapOrder, plain, Legal, Performs, puts, makes-copies, drops, stores-none, stores-some, loads-none, loads-last, loads-shared}
 use Rattle.heap.proofs.Invariant.{Consistent, Represents}
 use Rattle.heap.proofs.CountingLemmas.{same-self, occ-pointers, length-le}
 use Rattle.heap.proofs.ValueLemmas.{hold-count}
@@ -57,11 +57,11 @@ pub record Bounded (sizes : ℕ → List ℕ) (L : Layout) (bound : ℕ) (M : Me
   pub represents : Represents sizes L M frontier variables values
 
 module _ {sizes : ℕ → List ℕ} {L : Layout} {M : Memory} {m : ℕ} {values : Values} (none : [] ≡ sizes 0) (bound : ℕ) (low : m < bound) where
-  same : {o : Order} {variables variables′ : List Cell} {M′ : Memory} → Performs sizes L M o variables M′ variables′ → Legal o values → storedBy o ≡ 0
+  same : {o : HeapOrder} {variables variables′ : List Cell} {M′ : Memory} → Performs sizes L M o variables M′ variables′ → Legal o values → storedBy o ≡ 0
       → Represents sizes L M m variables values → Bounded sizes L bound M′ variables′ (plain o values)
   same p l z s = record { frontier = m; below = low; represents = represents-same none p l z s }
 
-  pub represents-bounded : {o : Order} {variables variables′ : List Cell} {M′ : Memory} → Performs sizes L M o variables M′ variables′ → Legal o values
+  pub represents-bounded : {o : HeapOrder} {variables variables′ : List Cell} {M′ : Memory} → Performs sizes L M o variables M′ variables′ → Legal o values
       → Represents sizes L M m variables values → ((count : ℕ) → ReachableCount (M .fields) (pointers variables) count → suc (count + length (sizes (storedBy o))) < bound)
       → Bounded sizes L bound M′ variables′ (plain o values)
   unfolding plain
@@ -83,7 +83,7 @@ module _ {sizes : ℕ → List ℕ} {L : Layout} {M : Memory} {m : ℕ} {values 
   represents-bounded (loads-shared xs c n d chunks header′ e rd q) l s room = same (loads-shared xs c n d chunks header′ e rd q) l refl s
 
 -- a store leaves the variables with the blocks that they led to before it and those it acquires
-pub store-reaches : {sizes : ℕ → List ℕ} {L : Layout} {M M′ : Memory} {m k k′ : ℕ} {values : Values} {o : Order} {variables variables′ : List Cell} → Performs sizes L M o variables M′ variables′ → storedBy o ≢ 0
+pub store-reaches : {sizes : ℕ → List ℕ} {L : Layout} {M M′ : Memory} {m k k′ : ℕ} {values : Values} {o : HeapOrder} {variables variables′ : List Cell} → Performs sizes L M o variables M′ variables′ → storedBy o ≢ 0
     → Represents sizes L M m variables values → ReachableCount (M .fields) (pointers variables) k → ReachableCount (M′ .fields) (pointers variables′) k′ → k′ ≡ k + length (sizes (storedBy o))
 store-reaches (puts w xs) z s r r′ = absurd (z refl)
 store-reaches (makes-copies xs ys c n header′ e) z s r r′ = absurd (z refl)

@@ -8,11 +8,11 @@ use native.Mathlib.Omega.{arith}
 use lib.ListN.{length, replicate, length-append}
 use Rattle.heap.specs.Counting.{occ}
 use Rattle.heap.specs.Blocks.{Layout, Cell, cell, pointers, Memory}
-use Rattle.heap.specs.Values.{integer, object, Values, nil, cons, countOf, joined, firstOf, restOf, valueAt, copies, concat, lengths}
+use Rattle.heap.specs.Values.{integer, object, Values, nil, cons, countOf, appended, firstOf, restOf, valueAt, copies, concat, lengths}
 use Rattle.heap.specs.Apart.{ObjectApart, HoldsApart, HoldAllApart}
 use Rattle.heap.specs.Reachability.{ReachableCount}
 use Rattle.heap.specs.Operations.{Erase, StoreObject, ReadObject, ReleaseObject, Share, ShareLoad, withHeaders, withLazy}
-use Rattle.heap.specs.Orders.{Order, put, copy, drop, store, load, plain, Legal, Performs, puts, makes-copies, drops, stores-none, stores-some, loads-none, loads-last, loads-shared, Fresh}
+use Rattle.heap.specs.Orders.{HeapOrder, put, copy, drop, store, load, plain, Legal, Performs, puts, makes-copies, drops, stores-none, stores-some, loads-none, loads-last, loads-shared, Fresh}
 use Rattle.heap.proofs.Invariant.{Consistent, spare, Stored, Represents, Advanced}
 use Rattle.heap.proofs.CountingLemmas.{same-self, same-other, occ-append, occ-pointers}
 use Rattle.heap.proofs.OperationLemmas.{named-held}
@@ -51,7 +51,7 @@ occ-copies b zero c = refl
 occ-copies b (suc n) c = omega (arith, occ-copies b n c)
 
 module _ {sizes : ℕ → List ℕ} {L : Layout} {M : Memory} {m : ℕ} {values : Values} where
-  pub represents-put : (xs : List Cell) (w : ℕ) → Represents sizes L M m xs values → Represents sizes L M m (xs ++ (cell 0 w ∷ [])) (joined values (cons (integer w) nil))
+  pub represents-put : (xs : List Cell) (w : ℕ) → Represents sizes L M m xs values → Represents sizes L M m (xs ++ (cell 0 w ∷ [])) (appended values (cons (integer w) nil))
   represents-put xs w s = record {
     linked = s .linked;
     consistent = consistent-same-roots (pointers (xs ++ (cell 0 w ∷ []))) (λ b nz. omega (arith, occ-pointers b xs (cell 0 w ∷ []), same-other {a = b} {b = 0} nz)) (s .consistent);
@@ -59,7 +59,7 @@ module _ {sizes : ℕ → List ℕ} {L : Layout} {M : Memory} {m : ℕ} {values 
   }
 
   pub represents-copy : (xs ys : List Cell) (c : Cell) (n : ℕ) (header′ : ℕ → ℕ) → Share (replicate n (c .fst)) (M .header) header′ → Represents sizes L M m (xs ++ (c ∷ ys)) values
-      → Represents sizes L (withHeaders M header′) m ((xs ++ (c ∷ ys)) ++ replicate n c) (joined values (copies n (valueAt (length xs) values)))
+      → Represents sizes L (withHeaders M header′) m ((xs ++ (c ∷ ys)) ++ replicate n c) (appended values (copies n (valueAt (length xs) values)))
   represents-copy xs ys c n header′ e s =
       let variables = xs ++ (c ∷ ys) in
       let h = hold-at sizes (M .fields) (s .linked) xs c ys values (s .holds) in
@@ -83,7 +83,7 @@ module _ {sizes : ℕ → List ℕ} {L : Layout} {M : Memory} {m : ℕ} {values 
     holds = hold-first sizes (M .fields) (s .linked) xs (c ∷ []) values (s .holds);
   }
 
-  pub represents-store-none : (xs : List Cell) (tag : ℕ) → [] ≡ sizes 0 → Represents sizes L M m xs values → Represents sizes L M m (xs ++ (cell 0 tag ∷ [])) (joined values (cons (object tag nil) nil))
+  pub represents-store-none : (xs : List Cell) (tag : ℕ) → [] ≡ sizes 0 → Represents sizes L M m xs values → Represents sizes L M m (xs ++ (cell 0 tag ∷ [])) (appended values (cons (object tag nil) nil))
   represents-store-none xs tag none s = record {
     linked = s .linked;
     consistent = consistent-same-roots (pointers (xs ++ (cell 0 tag ∷ []))) (λ b nz. omega (arith, occ-pointers b xs (cell 0 tag ∷ []), same-other {a = b} {b = 0} nz)) (s .consistent);
@@ -91,7 +91,7 @@ module _ {sizes : ℕ → List ℕ} {L : Layout} {M : Memory} {m : ℕ} {values 
   }
 
   pub represents-shared-load : (xs : List Cell) (c : Cell) (ws : Values) (chunks : List (List Cell)) (header′ : ℕ → ℕ) (s : Represents sizes L M m (xs ++ (c ∷ [])) values) → ObjectApart (M .fields) (s .linked) (c .fst) chunks
-      → HoldAllApart sizes (M .fields) (s .linked) ws (concat chunks) → ShareLoad (c .fst) chunks (M .header) header′ → Represents sizes L (withHeaders M header′) m (xs ++ concat chunks) (joined (firstOf (length xs) values) ws)
+      → HoldAllApart sizes (M .fields) (s .linked) ws (concat chunks) → ShareLoad (c .fst) chunks (M .header) header′ → Represents sizes L (withHeaders M header′) m (xs ++ concat chunks) (appended (firstOf (length xs) values) ws)
   represents-shared-load xs c ws chunks header′ s o a q = record {
     linked = s .linked;
     consistent = consistent-same-roots (pointers (xs ++ concat chunks)) (λ b nb. omega (arith, occ-pointers b xs (concat chunks), occ-append b (pointers (concat chunks)) (pointers xs)))
@@ -109,7 +109,7 @@ what-is-stored xs c chunks p st s = store-object (pointers xs) 0 (omega arith) c
 
 module _ {sizes : ℕ → List ℕ} {L : Layout} {M M′ : Memory} {m : ℕ} {values : Values} where
   pub represents-store : (xs c : List Cell) (chunks : List (List Cell)) (p tag : ℕ) → lengths (c ∷ chunks) ≡ sizes (length (concat (c ∷ chunks))) → StoreObject L M c chunks M′ p
-      → Represents sizes L M m (xs ++ concat (c ∷ chunks)) values → Advanced sizes L m M′ (xs ++ (cell p tag ∷ [])) (joined (firstOf (length xs) values) (cons (object tag (restOf (length xs) values)) nil))
+      → Represents sizes L M m (xs ++ concat (c ∷ chunks)) values → Advanced sizes L m M′ (xs ++ (cell p tag ∷ [])) (appended (firstOf (length xs) values) (cons (object tag (restOf (length xs) values)) nil))
   unfolding consistent-same-roots
   represents-store xs c chunks p tag shape st s =
       let ys = concat (c ∷ chunks) in
@@ -145,7 +145,7 @@ module _ {sizes : ℕ → List ℕ} {L : Layout} {M M′ : Memory} {m : ℕ} {va
   -- a load through the object's only pointer
   pub represents-release : (xs : List Cell) (c : Cell) (ws : Values) (d : List Cell) (chunks : List (List Cell)) (s : Represents sizes L M m (xs ++ (c ∷ [])) values) → ObjectApart (M .fields) (s .linked) (c .fst) (d ∷ chunks)
       → HoldAllApart sizes (M .fields) (s .linked) ws (concat (d ∷ chunks)) → M .header (c .fst) ≡ 0 → ReleaseObject M (c .fst) (d ∷ chunks) M′
-      → Represents sizes L M′ m (xs ++ concat (d ∷ chunks)) (joined (firstOf (length xs) values) ws)
+      → Represents sizes L M′ m (xs ++ concat (d ∷ chunks)) (appended (firstOf (length xs) values) ws)
   represents-release xs c ws d chunks s o a z r =
       let ys = concat (d ∷ chunks) in
       let nz = object-nonzero (M .fields) (s .linked) (c .fst) d chunks o in
@@ -179,7 +179,7 @@ read-whole sizes fields linked p n d chunks [] o e e′ r = cc
 read-whole sizes fields linked p n d chunks (d′ ∷ held) o e e′ r = read-is-held fields linked p d′ d held chunks o r (cc)
 
 -- how many values an order stores
-abbrev pub storedBy : Order → ℕ
+abbrev pub storedBy : HeapOrder → ℕ
 storedBy (put w) = 0
 storedBy (copy a n) = 0
 storedBy drop = 0
@@ -201,7 +201,7 @@ module _ {sizes : ℕ → List ℕ} {L : Layout} {M : Memory} {m : ℕ} {values 
       rw q at h
 
   represents-load-none : (xs : List Cell) (c : Cell) (ws : Values) (chunks : List (List Cell)) (s : Represents sizes L M m (xs ++ (c ∷ [])) values) → [] ≡ sizes 0 → countOf ws ≡ 0
-      → ObjectApart (M .fields) (s .linked) (c .fst) chunks → lengths chunks ≡ sizes (countOf ws) → Represents sizes L M m xs (joined (firstOf (length xs) values) ws)
+      → ObjectApart (M .fields) (s .linked) (c .fst) chunks → lengths chunks ≡ sizes (countOf ws) → Represents sizes L M m xs (appended (firstOf (length xs) values) ws)
   represents-load-none xs c ws [] s none z o e =
       let q : ws ≡ nil = no-values ws z in
       rw (q, joined-nil) (record {
@@ -212,7 +212,7 @@ module _ {sizes : ℕ → List ℕ} {L : Layout} {M : Memory} {m : ℕ} {values 
   represents-load-none xs c ws (d ∷ chunks) s none z o e = let x : _≡_ {A = ℕ} 0 1 = cc (ap sizes z) in absurd (omega arith)
 
   -- an order that acquires no block leaves the frontier
-  pub represents-same : {o : Order} {variables variables′ : List Cell} {M′ : Memory} → [] ≡ sizes 0 → Performs sizes L M o variables M′ variables′ → Legal o values → storedBy o ≡ 0
+  pub represents-same : {o : HeapOrder} {variables variables′ : List Cell} {M′ : Memory} → [] ≡ sizes 0 → Performs sizes L M o variables M′ variables′ → Legal o values → storedBy o ≡ 0
       → Represents sizes L M m variables values → Represents sizes L M′ m variables′ (plain o values)
   unfolding plain Legal
   represents-same none (puts w xs) l k s = represents-put xs w s
@@ -232,7 +232,7 @@ module _ {sizes : ℕ → List ℕ} {L : Layout} {M : Memory} {m : ℕ} {values 
       let f : h .2 ≡ d ∷ chunks = read-whole sizes (M .fields) (s .linked) (c .fst) (countOf (l .1)) d chunks (h .2) (h .3) (h .5) (rw (l .3) e) rd in
       rw (l .2, all-but-last xs c s) (represents-shared-load xs c (l .1) (d ∷ chunks) header′ s (rw f at (h .3)) (rw f at (h .4)) q)
 
-  pub represents-order : {o : Order} {variables variables′ : List Cell} {M′ : Memory} → [] ≡ sizes 0 → Performs sizes L M o variables M′ variables′ → Legal o values
+  pub represents-order : {o : HeapOrder} {variables variables′ : List Cell} {M′ : Memory} → [] ≡ sizes 0 → Performs sizes L M o variables M′ variables′ → Legal o values
       → Represents sizes L M m variables values → Advanced sizes L m M′ variables′ (plain o values)
   unfolding plain Legal
   represents-order none (puts w xs) l s = still (represents-same none (puts w xs) l refl s)

@@ -9,7 +9,7 @@ use native.Mathlib.Omega.{arith}
 use lib.ListN.{length}
 use Rattle.heap.specs.Blocks.{Layout, pointers, children}
 use Rattle.heap.specs.Values.{nil}
-use Rattle.heap.specs.Orders.{State, Run, fresh, next, Every, Some}
+use Rattle.heap.specs.Orders.{HeapState, Run, fresh, next, Every, Some}
 use Rattle.heap.specs.Claims.{Used, Unused, FirstNeverUsed, AbstractHeapStaysSound, Reaches, ReachesAtMost, Peak, AbstractFrontierIsPeak}
 use Rattle.heap.proofs.Invariant.{Consistent, Represents, Advanced}
 use Rattle.heap.proofs.CountingLemmas.{occ-length, pointers-length}
@@ -22,7 +22,7 @@ use Rattle.heap.proofs.OrderLemmas.{represents-fresh, represents-order}
 use Rattle.heap.proofs.ValueLemmas.{held-plainly}
 
 -- what the induction carries
-record Progress (sizes : ℕ → List ℕ) (L : Layout) (past : List State) (now : State) : Type 0 where
+record Progress (sizes : ℕ → List ℕ) (L : Layout) (past : List HeapState) (now : HeapState) : Type 0 where
   frontier : ℕ
   represents : Represents sizes L (now .memory) frontier (now .variables) (now .values)
   first-never-used : FirstNeverUsed L (now ∷ past) frontier
@@ -31,17 +31,17 @@ record Progress (sizes : ℕ → List ℕ) (L : Layout) (past : List State) (now
   past-peak : frontier ≡ suc peak
 
 -- states that lead to at most so many blocks lead to at most more
-every-at-most : {few most : ℕ} (states : List State) → few ≤ most → Every (ReachesAtMost few) states → Every (ReachesAtMost most) states
+every-at-most : {few most : ℕ} (states : List HeapState) → few ≤ most → Every (ReachesAtMost few) states → Every (ReachesAtMost most) states
 every-at-most [] l e = tt
 every-at-most (s ∷ states) l e = (λ count r. omega (arith, e .0 count r), every-at-most states l (e .1))
 
 -- no state leads to more than a bound of all of them
-pub met-within : {peak most : ℕ} (states : List State) → Some (Reaches peak) states → Every (ReachesAtMost most) states → peak ≤ most
+pub met-within : {peak most : ℕ} (states : List HeapState) → Some (Reaches peak) states → Every (ReachesAtMost most) states → peak ≤ most
 met-within [] m e = absurd m
 met-within {peak} (s ∷ states) (inl r) e = e .0 peak r
 met-within (s ∷ states) (inr m) e = met-within states m (e .1)
 
-module _ {L : Layout} {linked : ℕ → ℕ} {n : ℕ} (s : State) (g : Consistent L (s .memory) linked n (pointers (s .variables))) where
+module _ {L : Layout} {linked : ℕ → ℕ} {n : ℕ} (s : HeapState) (g : Consistent L (s .memory) linked n (pointers (s .variables))) where
   -- with no block lazily freed, each block below the frontier is held or on HEAP's list
   all-used : length (g .lazy) ≡ 0 → (i : ℕ) → i < n → Used L (L .address i) s
   all-used z i l =
@@ -53,7 +53,7 @@ module _ {L : Layout} {linked : ℕ → ℕ} {n : ℕ} (s : State) (g : Consiste
   none-used i l m f = let e = frontier-unique f (sound g) in omega (arith, f .parts (L .address i), block-above L m i (omega arith))
 
 -- The frontier has moved: no block but HEAP's is free, so the variables lead to all others, and that is the peak. Or it has not: the peak is the old one.
-peak-next : {sizes : ℕ → List ℕ} {L : Layout} {past : List State} {now : State} (s : State) (q : Progress sizes L past now) (a : Advanced sizes L (q .frontier) (s .memory) (s .variables) (s .values))
+peak-next : {sizes : ℕ → List ℕ} {L : Layout} {past : List HeapState} {now : HeapState} (s : HeapState) (q : Progress sizes L past now) (a : Advanced sizes L (q .frontier) (s .memory) (s .variables) (s .values))
     → (peak : ℕ) × Peak peak (s ∷ now ∷ past) × (a .frontier ≡ suc peak)
 peak-next {past} {now} s q a = by (decLt (q .frontier) (a .frontier))
   where
@@ -70,7 +70,7 @@ peak-next {past} {now} s q a = by (decLt (q .frontier) (a .frontier))
       omega (arith, q .past-peak, a .not-back),
     )
 
-progress-next : {sizes : ℕ → List ℕ} {L : Layout} {past : List State} {now : State} (s : State) (q : Progress sizes L past now) → Advanced sizes L (q .frontier) (s .memory) (s .variables) (s .values) → Progress sizes L (now ∷ past) s
+progress-next : {sizes : ℕ → List ℕ} {L : Layout} {past : List HeapState} {now : HeapState} (s : HeapState) (q : Progress sizes L past now) → Advanced sizes L (q .frontier) (s .memory) (s .variables) (s .values) → Progress sizes L (now ∷ past) s
 progress-next {L} {past} {now} s q a =
     let p = peak-next s q a in
     record {
@@ -89,10 +89,10 @@ progress-next {L} {past} {now} s q a =
     below i l (yes h) = inr (q .first-never-used .below i h)
     below i l (no h) = inl (all-used s (a .represents .consistent) (omega (arith, a .only-when-full (omega arith))) i l)
 
-progress : {sizes : ℕ → List ℕ} {L : Layout} {past : List State} {now : State} → [] ≡ sizes 0 → Run sizes L past now → Progress sizes L past now
+progress : {sizes : ℕ → List ℕ} {L : Layout} {past : List HeapState} {now : HeapState} → [] ≡ sizes 0 → Run sizes L past now → Progress sizes L past now
 unfolding represents-fresh
 progress {sizes} {L} none (fresh {M} f) =
-    let s : State = record { memory = M; variables = []; values = nil } in
+    let s : HeapState = record { memory = M; variables = []; values = nil } in
     let r : Represents sizes L M 1 [] nil = represents-fresh f in
     let g = r .consistent in
     record {
@@ -116,7 +116,7 @@ abstract-heap-stays-sound sizes L past now none r =
       frontier = q .frontier;
       sound = f;
       first-never-used = q .first-never-used;
-      holds = held-plainly (q .represents .holds);
+      holds = held-plainly sizes (now .memory .fields) (q .represents .linked) (now .values) (now .variables) (q .represents .holds);
       beyond = record {
         links = record { linked = q .represents .linked; one-pointer = λ b nz m. omega (arith, g .one-pointer b nz m, sound-refs g b); holds = q .represents .holds };
         reachable = c .0;

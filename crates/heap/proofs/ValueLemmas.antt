@@ -10,7 +10,7 @@ use lib.ListN.{length, replicate, length-append}
 use lib.Seq.{drop-append-seam, take-append-seam}
 use Rattle.heap.specs.Counting.{occ}
 use Rattle.heap.specs.Blocks.{Cell, pointers, children}
-use Rattle.heap.specs.Values.{Value, integer, object, Values, nil, cons, countOf, joined, firstOf, restOf, valueAt, copies, concat, lengths, Object, Holds, HoldAll}
+use Rattle.heap.specs.Values.{Value, integer, object, Values, nil, cons, countOf, appended, firstOf, restOf, valueAt, copies, concat, lengths, Object, Holds, HoldAll}
 use Rattle.heap.specs.Apart.{ObjectApart, HoldsApart, HoldAllApart}
 use Rattle.heap.specs.Operations.{lastField, ReadObject}
 use Rattle.heap.proofs.CountingLemmas.{same-self, same-other, occ-pointers}
@@ -22,19 +22,20 @@ object-nonzero fields linked p c [] o = o .0
 object-nonzero fields linked p c (d ∷ chunks) o = o .0
 
 -- what is held with links told apart is held
-object-plainly : {fields : ℕ → List Cell} {linked : ℕ → ℕ} (chunks : List (List Cell)) (p : ℕ) → ObjectApart fields linked p chunks → Object fields p chunks
-object-plainly [] p o = o
-object-plainly (c ∷ []) p o = o
-object-plainly (c ∷ d ∷ chunks) p o = (o .0, o .1, o .2, o .3, o .4, object-plainly (d ∷ chunks) (o .3 .fst) (o .6))
+object-plainly : (fields : ℕ → List Cell) (linked : ℕ → ℕ) (chunks : List (List Cell)) (p : ℕ) → ObjectApart fields linked p chunks → Object fields p chunks
+object-plainly fields linked [] p o = o
+object-plainly fields linked (c ∷ []) p o = o
+object-plainly fields linked (c ∷ d ∷ chunks) p o = (o .0, o .1, o .2, o .3, o .4, object-plainly fields linked (d ∷ chunks) (o .3 .fst) (o .6))
 
-mutual
-  value-plainly : {sizes : ℕ → List ℕ} {fields : ℕ → List Cell} {linked : ℕ → ℕ} (v : Value) (c : Cell) → HoldsApart sizes fields linked v c → Holds sizes fields v c
-  value-plainly (integer w) c h = h
-  value-plainly (object tag vs) c h = (h .0, h .2, object-plainly (h .2) (c .fst) (h .3), held-plainly (h .4), h .5)
+module _ (sizes : ℕ → List ℕ) (fields : ℕ → List Cell) (linked : ℕ → ℕ) where
+  mutual
+    value-plainly : (v : Value) (c : Cell) → HoldsApart sizes fields linked v c → Holds sizes fields v c
+    value-plainly (integer w) c h = h
+    value-plainly (object tag vs) c h = (h .0, h .2, object-plainly fields linked (h .2) (c .fst) (h .3), held-plainly vs (concat (h .2)) (h .4), h .5)
 
-  pub held-plainly : {sizes : ℕ → List ℕ} {fields : ℕ → List Cell} {linked : ℕ → ℕ} {vs : Values} {cs : List Cell} → HoldAllApart sizes fields linked vs cs → HoldAll sizes fields vs cs
-  held-plainly {vs = nil} h = h
-  held-plainly {vs = cons v vs} h = (h .0, h .1, h .2, value-plainly v (h .0) (h .3), held-plainly {vs = vs} (h .4))
+    pub held-plainly : (vs : Values) (cs : List Cell) → HoldAllApart sizes fields linked vs cs → HoldAll sizes fields vs cs
+    held-plainly nil cs h = h
+    held-plainly (cons v vs) cs h = (h .0, h .1, h .2, value-plainly v (h .0) (h .3), held-plainly vs (h .1) (h .4))
 
 -- a block's fields name its link, and its chunk's pointers
 link-named : (body unused c : List Cell) (link : Cell) → body ≡ unused ++ (c ++ (link ∷ [])) → occ (link .fst) (pointers body) ≢ 0
@@ -113,7 +114,7 @@ read-is-held fields linked p c c′ (d ∷ chunks) (d′ ∷ chunks′) o r e =
 -- ---- lists of values held
 
 module _ (sizes : ℕ → List ℕ) (fields : ℕ → List Cell) (linked : ℕ → ℕ) where
-  pub hold-joined : (vs ws : Values) (cs ds : List Cell) → HoldAllApart sizes fields linked vs cs → HoldAllApart sizes fields linked ws ds → HoldAllApart sizes fields linked (joined vs ws) (cs ++ ds)
+  pub hold-joined : (vs ws : Values) (cs ds : List Cell) → HoldAllApart sizes fields linked vs cs → HoldAllApart sizes fields linked ws ds → HoldAllApart sizes fields linked (appended vs ws) (cs ++ ds)
   hold-joined nil ws cs ds a b = rw a b
   hold-joined (cons v vs) ws cs ds a b = (a .0, a .1 ++ ds, ap (λ (x : List Cell). x ++ ds) (a .2), a .3, hold-joined vs ws (a .1) ds (a .4) b)
 
@@ -169,7 +170,7 @@ pub rest-all : (vs : Values) → restOf (countOf vs) vs ≡ nil
 rest-all nil = refl
 rest-all (cons v vs) = rest-all vs
 
-pub joined-nil : (vs : Values) → joined vs nil ≡ vs
+pub joined-nil : (vs : Values) → appended vs nil ≡ vs
 joined-nil nil = refl
 joined-nil (cons v vs) = ap (λ (x : Values). cons v x) (joined-nil vs)
 

@@ -10,7 +10,7 @@ use native.Mathlib.Omega.{arith}
 use borrow.Author.Tests.{eq-eqb, ne-eqb}
 use lib.ListN.{length}
 use Rattle.heap.specs.Blocks.{Cell, cell}
-use Rattle.heap.specs.Words.{stride, wordAt, addressOf, numberOf, byAddress, headers, cellsFrom, blockFields}
+use Rattle.heap.specs.Words.{stride, wordAt, addressOf, blockNumber, byAddress, headers, cellsFrom, blockFields}
 
 -- words of two blocks are one only if the blocks and the places in them are
 pub places-distinct : (fieldCount j x r s : ℕ) → r < stride fieldCount → s < stride fieldCount → wordAt fieldCount j r ≡ wordAt fieldCount x s → (j ≡ x) × (r ≡ s)
@@ -40,8 +40,8 @@ word-past fieldCount N j w h = omega (arith, mul-le-mul-left (stride fieldCount)
 pub heap-below : (fieldCount N : ℕ) → fieldCount ≤ 7 → stride fieldCount * N ≤ 16 * N
 heap-below fieldCount N h = mul-le-mul-right N (omega arith)
 
-pub number-of-address : (fieldCount j : ℕ) → numberOf fieldCount (addressOf fieldCount j) ≡ j
-unfolding numberOf
+pub number-of-address : (fieldCount j : ℕ) → blockNumber fieldCount (addressOf fieldCount j) ≡ j
+unfolding blockNumber
 number-of-address fieldCount j =
     let e : (65536 + 8 * (stride fieldCount * j) - 65536) / 8 ≡ stride fieldCount * j = omega arith in
     rw e (mul-div-cancel-left j (omega arith))
@@ -53,11 +53,11 @@ module _ {A : Type 0} (fieldCount : ℕ) where
 
   by-address-off : (of of′ : ℕ → A) (other : A) (j : ℕ) → ((x : ℕ) → x ≢ j → of′ x ≡ of x) → (b : ℕ) → b ≢ addressOf fieldCount j → byAddress fieldCount of′ other b ≡ byAddress fieldCount of other b
   unfolding byAddress
-  by-address-off of of′ other j f b ne = by (ℕ-discrete (addressOf fieldCount (numberOf fieldCount b)) b)
+  by-address-off of of′ other j f b ne = by (ℕ-discrete (addressOf fieldCount (blockNumber fieldCount b)) b)
     where
-      by : Dec (addressOf fieldCount (numberOf fieldCount b) ≡ b) → byAddress fieldCount of′ other b ≡ byAddress fieldCount of other b
-      by (yes e) = rw (eq-eqb (addressOf fieldCount (numberOf fieldCount b)) b e) (f (numberOf fieldCount b) (λ q. ne (sym e ∙ ap (addressOf fieldCount) q)))
-      by (no n) = rw (ne-eqb (addressOf fieldCount (numberOf fieldCount b)) b n)
+      by : Dec (addressOf fieldCount (blockNumber fieldCount b) ≡ b) → byAddress fieldCount of′ other b ≡ byAddress fieldCount of other b
+      by (yes e) = rw (eq-eqb (addressOf fieldCount (blockNumber fieldCount b)) b e) (f (blockNumber fieldCount b) (λ q. ne (sym e ∙ ap (addressOf fieldCount) q)))
+      by (no n) = rw (ne-eqb (addressOf fieldCount (blockNumber fieldCount b)) b n)
 
 module _ (fieldCount : ℕ) (words : ℕ → ℕ) where
   pub header-at : (j : ℕ) → headers fieldCount words (addressOf fieldCount j) ≡ words (wordAt fieldCount j 0)

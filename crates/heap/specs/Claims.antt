@@ -11,7 +11,7 @@ use Rattle.heap.specs.Blocks.{Layout, blocks, pointers, children, Memory
 use Rattle.heap.specs.Reachability.{Reachable, ReachableCount}
 use Rattle.heap.specs.Values.{integer, nil, cons, HoldAll}
 use Rattle.heap.specs.Apart.{LinksApart}
-use Rattle.heap.specs.Orders.{State, Run, Every, Some}
+use Rattle.heap.specs.Orders.{HeapState, Run, Every, Some}
 
 -- a sound heap whose first block never used is number frontier; the roots are the variables' pointers
 pub record Sound (L : Layout) (M : Memory) (frontier : ℕ) (roots : List ℕ) : Type 0 where
@@ -30,24 +30,24 @@ pub record Sound (L : Layout) (M : Memory) (frontier : ℕ) (roots : List ℕ) :
   -- blocks from the frontier up start with 0
   pub untouched : (i : ℕ) → frontier ≤ i → M .header (L .address i) ≡ 0
 
-abbrev pub SoundState : Layout → ℕ → State → Type 0
+abbrev pub SoundState : Layout → ℕ → HeapState → Type 0
 SoundState L frontier s = Sound L (s .memory) frontier (pointers (s .variables))
 
 -- block b is held or on HEAP's list in a state; and: it is neither
-abbrev pub Used : Layout → ℕ → State → Type 0
+abbrev pub Used : Layout → ℕ → HeapState → Type 0
 Used L b s = (n : ℕ) × (sound : SoundState L n s) × (occ b (sound .linear) + occ b (sound .held) ≢ 0)
 
-abbrev pub Unused : Layout → ℕ → State → Type 0
+abbrev pub Unused : Layout → ℕ → HeapState → Type 0
 Unused L b s = (n : ℕ) (sound : SoundState L n s) → occ b (sound .linear) + occ b (sound .held) ≡ 0
 
 -- the frontier is the first block never held or on HEAP's list
-pub record FirstNeverUsed (L : Layout) (states : List State) (frontier : ℕ) : Type 0 where
+pub record FirstNeverUsed (L : Layout) (states : List HeapState) (frontier : ℕ) : Type 0 where
   pub below : (i : ℕ) → i < frontier → Some (Used L (L .address i)) states
   pub above : (i : ℕ) → frontier ≤ i → Every (Unused L (L .address i)) states
 
 -- Beyond what document 01 asks: extras, on which nothing else of a claim rests. The blocks that links name are told apart; the variables lead to one number of blocks; no count
 -- is larger than the variables and all fields could name.
-pub record HeapBeyond (sizes : ℕ → List ℕ) (L : Layout) (now : State) (frontier : ℕ) (sound : SoundState L frontier now) : Type 0 where
+pub record HeapBeyond (sizes : ℕ → List ℕ) (L : Layout) (now : HeapState) (frontier : ℕ) (sound : SoundState L frontier now) : Type 0 where
   pub links : LinksApart sizes (now .memory) (now .variables) (now .values) (sound .lazy) (sound .held)
   pub reachable : ℕ
   pub reachable-count : ReachableCount (now .memory .fields) (pointers (now .variables)) reachable
@@ -55,7 +55,7 @@ pub record HeapBeyond (sizes : ℕ → List ℕ) (L : Layout) (now : State) (fro
   pub count-bounded : (most b : ℕ) → ((x : ℕ) → length (now .memory .fields x) ≤ most) → occ b (sound .held) ≢ 0 → now .memory .header b < length (now .variables) + most * frontier
 
 -- what holds after a list of orders: what document 01 asks, and what is proved beyond it
-pub record HeapAfter (sizes : ℕ → List ℕ) (L : Layout) (past : List State) (now : State) : Type 0 where
+pub record HeapAfter (sizes : ℕ → List ℕ) (L : Layout) (past : List HeapState) (now : HeapState) : Type 0 where
   pub frontier : ℕ
   pub sound : SoundState L frontier now
   pub first-never-used : FirstNeverUsed L (now ∷ past) frontier
@@ -64,25 +64,25 @@ pub record HeapAfter (sizes : ℕ → List ℕ) (L : Layout) (past : List State)
   pub beyond : HeapBeyond sizes L now frontier sound
 
 unfoldable pub AbstractHeapStaysSound : Type 0
-AbstractHeapStaysSound = (sizes : ℕ → List ℕ) (L : Layout) (past : List State) (now : State) → [] ≡ sizes 0 → Run sizes L past now → HeapAfter sizes L past now
+AbstractHeapStaysSound = (sizes : ℕ → List ℕ) (L : Layout) (past : List HeapState) (now : HeapState) → [] ≡ sizes 0 → Run sizes L past now → HeapAfter sizes L past now
 
 -- the variables lead to that many blocks, and to at most that many
-abbrev pub Reaches : ℕ → State → Type 0
+abbrev pub Reaches : ℕ → HeapState → Type 0
 Reaches count s = ReachableCount (s .memory .fields) (pointers (s .variables)) count
 
-abbrev pub ReachesAtMost : ℕ → State → Type 0
+abbrev pub ReachesAtMost : ℕ → HeapState → Type 0
 ReachesAtMost most s = (count : ℕ) → Reaches count s → count ≤ most
 
 -- the most blocks that the variables lead to in any of the states
-pub record Peak (peak : ℕ) (states : List State) : Type 0 where
+pub record Peak (peak : ℕ) (states : List HeapState) : Type 0 where
   pub within : Every (ReachesAtMost peak) states
   pub met : Some (Reaches peak) states
 
 -- the frontier is one past that peak
 unfoldable pub AbstractFrontierIsPeak : Type 0
-AbstractFrontierIsPeak = (sizes : ℕ → List ℕ) (L : Layout) (past : List State) (now : State) (frontier : ℕ) → [] ≡ sizes 0 → Run sizes L past now
+AbstractFrontierIsPeak = (sizes : ℕ → List ℕ) (L : Layout) (past : List HeapState) (now : HeapState) (frontier : ℕ) → [] ≡ sizes 0 → Run sizes L past now
     → SoundState L frontier now → (peak : ℕ) × Peak peak (now ∷ past) × (frontier ≡ suc peak)
 
 -- Runs are there to speak of: in any layout, some run of three orders ends with an integer that was put, stored and loaded.
 unfoldable pub RunsExist : Type 0
-RunsExist = (L : Layout) → (sizes : ℕ → List ℕ) × ([] ≡ sizes 0) × (past : List State) × (length past ≡ 3) × (now : State) × (now .values ≡ cons (integer 7) nil) × Run sizes L past now
+RunsExist = (L : Layout) → (sizes : ℕ → List ℕ) × ([] ≡ sizes 0) × (past : List HeapState) × (length past ≡ 3) × (now : HeapState) × (now .values ≡ cons (integer 7) nil) × Run sizes L past now

@@ -6,30 +6,30 @@ use mathlib.Core.List.{List, [], _∷_, _++_}
 use Prim.Native.Nat.{ℕ, _-_}
 use lib.ListN.{length, replicate}
 use Rattle.heap.specs.Blocks.{Layout, Cell, cell, Memory}
-use Rattle.heap.specs.Values.{Value, integer, object, Values, nil, cons, countOf, joined, firstOf, restOf, valueAt, copies, concat, lengths}
+use Rattle.heap.specs.Values.{Value, integer, object, Values, nil, cons, countOf, appended, firstOf, restOf, valueAt, copies, concat, lengths}
 use Rattle.heap.specs.Operations.{Erase, StoreObject, ReadObject, ReleaseObject, Share, ShareLoad, withHeaders, withLazy}
 
-pub data Order : Type 0 where
-  put : ℕ → Order
-  copy : ℕ → ℕ → Order
-  drop : Order
-  store : ℕ → ℕ → Order
-  load : ℕ → Order
+pub data HeapOrder : Type 0 where
+  put : ℕ → HeapOrder
+  copy : ℕ → ℕ → HeapOrder
+  drop : HeapOrder
+  store : ℕ → ℕ → HeapOrder
+  load : ℕ → HeapOrder
 
 abbrev pub listOf : Value → Values
 listOf (integer w) = nil
 listOf (object tag vs) = vs
 
 -- the plain machine
-unfoldable pub plain : Order → Values → Values
-plain (put w) vs = joined vs (cons (integer w) nil)
-plain (copy a n) vs = joined vs (copies n (valueAt a vs))
+unfoldable pub plain : HeapOrder → Values → Values
+plain (put w) vs = appended vs (cons (integer w) nil)
+plain (copy a n) vs = appended vs (copies n (valueAt a vs))
 plain drop vs = firstOf (countOf vs - 1) vs
-plain (store n tag) vs = joined (firstOf (countOf vs - n) vs) (cons (object tag (restOf (countOf vs - n) vs)) nil)
-plain (load n) vs = joined (firstOf (countOf vs - 1) vs) (listOf (valueAt (countOf vs - 1) vs))
+plain (store n tag) vs = appended (firstOf (countOf vs - n) vs) (cons (object tag (restOf (countOf vs - n) vs)) nil)
+plain (load n) vs = appended (firstOf (countOf vs - 1) vs) (listOf (valueAt (countOf vs - 1) vs))
 
 -- a load names as many values as its object was stored with
-unfoldable pub Legal : Order → Values → Type 0
+unfoldable pub Legal : HeapOrder → Values → Type 0
 Legal (put w) vs = Unit {0}
 Legal (copy a n) vs = Unit {0}
 Legal drop vs = Unit {0}
@@ -37,7 +37,7 @@ Legal (store n tag) vs = Unit {0}
 Legal (load n) vs = (tag : ℕ) × (ws : Values) × (valueAt (countOf vs - 1) vs ≡ object tag ws) × (countOf ws ≡ n)
 
 -- what an order does to the heap and to the variables
-pub data Performs (sizes : ℕ → List ℕ) (L : Layout) (M : Memory) : Order → List Cell → Memory → List Cell → Type 0 where
+pub data Performs (sizes : ℕ → List ℕ) (L : Layout) (M : Memory) : HeapOrder → List Cell → Memory → List Cell → Type 0 where
   puts : (w : ℕ) (xs : List Cell) → Performs sizes L M (put w) xs M (xs ++ (cell 0 w ∷ []))
   makes-copies : (xs ys : List Cell) (c : Cell) (n : ℕ) (header′ : ℕ → ℕ) → Share (replicate n (c .fst)) (M .header) header′
       → Performs sizes L M (copy (length xs) n) (xs ++ (c ∷ ys)) (withHeaders M header′) ((xs ++ (c ∷ ys)) ++ replicate n c)
@@ -53,7 +53,7 @@ pub data Performs (sizes : ℕ → List ℕ) (L : Layout) (M : Memory) : Order �
       → ShareLoad (c .fst) (d ∷ chunks) (M .header) header′ → Performs sizes L M (load n) (xs ++ (c ∷ [])) (withHeaders M header′) (xs ++ concat (d ∷ chunks))
 
 -- the heap and the variables, and the plain machine's values
-pub record State : Type 0 where
+pub record HeapState : Type 0 where
   pub memory : Memory
   pub variables : List Cell
   pub values : Values
@@ -65,17 +65,17 @@ pub record Fresh (L : Layout) (M : Memory) : Type 0 where
   pub second : M .lazy-head ≡ L .address 1
 
 -- the states before, newest first, and the one that a list of orders has reached
-pub data Run (sizes : ℕ → List ℕ) (L : Layout) : List State → State → Type 0 where
+pub data Run (sizes : ℕ → List ℕ) (L : Layout) : List HeapState → HeapState → Type 0 where
   fresh : {M : Memory} → Fresh L M → Run sizes L [] (record { memory = M; variables = []; values = nil })
-  next : {past : List State} {now : State} {M′ : Memory} {variables′ : List Cell} (o : Order) → Run sizes L past now → Legal o (now .values)
+  next : {past : List HeapState} {now : HeapState} {M′ : Memory} {variables′ : List Cell} (o : HeapOrder) → Run sizes L past now → Legal o (now .values)
       → Performs sizes L (now .memory) o (now .variables) M′ variables′
       → Run sizes L (now ∷ past) (record { memory = M′; variables = variables′; values = plain o (now .values) })
 
 -- a claim of every state of a list, and of some
-abbrev pub Every : (State → Type 0) → List State → Type 0
+abbrev pub Every : (HeapState → Type 0) → List HeapState → Type 0
 Every P [] = Unit {0}
 Every P (s ∷ ss) = P s × Every P ss
 
-abbrev pub Some : (State → Type 0) → List State → Type 0
+abbrev pub Some : (HeapState → Type 0) → List HeapState → Type 0
 Some P [] = ⊥
 Some P (s ∷ ss) = P s ⊎ Some P ss

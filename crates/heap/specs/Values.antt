@@ -22,9 +22,9 @@ abbrev pub countOf : Values → ℕ
 countOf nil = 0
 countOf (cons v vs) = suc (countOf vs)
 
-abbrev pub joined : Values → Values → Values
-joined nil ws = ws
-joined (cons v vs) ws = cons v (joined vs ws)
+abbrev pub appended : Values → Values → Values
+appended nil ws = ws
+appended (cons v vs) ws = cons v (appended vs ws)
 
 abbrev pub firstOf : ℕ → Values → Values
 firstOf zero vs = nil

@@ -29,12 +29,12 @@ layout fieldCount = record {
   distinct = λ i j e. let same : stride fieldCount * i ≡ stride fieldCount * j = omega arith in sym (mul-div-cancel-left i (omega arith)) ∙ ap (λ (x : ℕ). x / stride fieldCount) same ∙ mul-div-cancel-left j (omega arith);
 }
 
-unfoldable pub numberOf : ℕ → ℕ → ℕ
-numberOf fieldCount b = ((b - 65536) / 8) / stride fieldCount
+unfoldable pub blockNumber : ℕ → ℕ → ℕ
+blockNumber fieldCount b = ((b - 65536) / 8) / stride fieldCount
 
 -- a function of block numbers as one of addresses, with another answer where no block begins
 unfoldable pub byAddress : {A : Type 0} → ℕ → (ℕ → A) → A → ℕ → A
-byAddress fieldCount of other b = cond (eqb (addressOf fieldCount (numberOf fieldCount b)) b) (of (numberOf fieldCount b)) other
+byAddress fieldCount of other b = cond (eqb (addressOf fieldCount (blockNumber fieldCount b)) b) (of (blockNumber fieldCount b)) other
 
 unfoldable pub headers : ℕ → (ℕ → ℕ) → ℕ → ℕ
 headers fieldCount words = byAddress fieldCount (λ (j : ℕ). words (wordAt fieldCount j 0)) 0

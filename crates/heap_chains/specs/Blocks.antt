@@ -6,7 +6,7 @@ use mathlib.Core.List.{List, [], _∷_}
 use lib.Dec.{eqb}
 use Rattle.records.specs.Causes.{ACCEPTED, EDITION}
 use Rattle.layout.specs.Config.{blockWords, inEdition}
-use Rattle.heap.specs.Words.{stride, numberOf, headers}
+use Rattle.heap.specs.Words.{stride, blockNumber, headers}
 use Rattle.heap_chains.specs.declared.Blocks.{Blocks}
 use Rattle.heap_chains.specs.declared.Fit.{Fit}
 use Rattle.heap_chains.specs.declared.Counted.{Counted}
@@ -34,11 +34,11 @@ divided linear lazy frontier all = record { linear = linear; lazy = lazy; held =
 
 -- the frontier's block, by the words of so many blocks and the word in FREE
 abbrev pub frontierIn : ℕ → ℕ → (ℕ → ℕ) → ℕ → ℕ
-frontierIn fieldCount blocks words lazy-head = numberOf fieldCount (chainEnd (headers fieldCount words) blocks lazy-head)
+frontierIn fieldCount blocks words lazy-head = blockNumber fieldCount (chainEnd (headers fieldCount words) blocks lazy-head)
 
 -- of so many blocks, from a heap's words and the words in HEAP and FREE
-unfoldable pub counted : ℕ → ℕ → (ℕ → ℕ) → ℕ → ℕ → Blocks
-counted fieldCount blocks words linear-head lazy-head =
+unfoldable pub blocksCounted : ℕ → ℕ → (ℕ → ℕ) → ℕ → ℕ → Blocks
+blocksCounted fieldCount blocks words linear-head lazy-head =
     divided
     (listLength (headers fieldCount words) blocks linear-head)
     (chainLength (headers fieldCount words) blocks lazy-head)
@@ -56,7 +56,7 @@ fitIn fieldCount blocks words lazy-head = fitFor fieldCount (frontierIn fieldCou
 -- in an edition, on a heap of so many words
 abbrev pub countedBy : ℕ → ℕ → (ℕ → ℕ) → ℕ → ℕ → Counted
 countedBy edition size words linear-head lazy-head =
-    inEdition edition (λ g. counts.Of (counted (g .fields) (size / blockWords g) words linear-head lazy-head)) counts.Edition
+    inEdition edition (λ g. counts.Of (blocksCounted (g .fields) (size / blockWords g) words linear-head lazy-head)) counts.Edition
 
 abbrev pub fittedBy : ℕ → ℕ → (ℕ → ℕ) → ℕ → Fitted
 fittedBy edition size words lazy-head = inEdition edition (λ g. fits.Of (fitIn (g .fields) (size / blockWords g) words lazy-head)) fits.Edition

@@ -5,8 +5,8 @@ ghost use lib.ListN.{length};
 ghost use Rattle.records.specs.Answers.{AnswersBy};
 ghost use Rattle.layout.specs.Config.{Supported, blockWords, HEAP, FREE};
 ghost use Rattle.machine_step.specs.View.{wordsOf};
-ghost use Rattle.heap.specs.Words.{numberOf, headers};
-ghost use Rattle.heap_chains.specs.Blocks.{listLength, chainLength, chainEnd, counted, fitIn, countedBy, countedCause, fittedBy, fittedCause};
+ghost use Rattle.heap.specs.Words.{blockNumber, headers};
+ghost use Rattle.heap_chains.specs.Blocks.{listLength, chainLength, chainEnd, blocksCounted, fitIn, countedBy, countedCause, fittedBy, fittedCause};
 use layout::config;
 use layout::config::Choice;
 use layout::config::Shape;
@@ -48,7 +48,7 @@ struct Walked {
 // The number of the block at an address.
 fn number_of(g: Shape, b: u64) -> u64
     requires { ⌜ Supported g ⌝ }
-    ensures { λ r. ⌜ r ≡ numberOf (g .fields) b ⌝ }
+    ensures { λ r. ⌜ r ≡ blockNumber (g .fields) b ⌝ }
 {
     let block = config::block_words(g);
     if b < 65536 {
@@ -132,7 +132,7 @@ pub fn count_blocks(edition: u64, registers: &[u64; 16], heap: &[u64]) -> Counte
 
 pub fn count_blocks_in(g: Shape, registers: &[u64; 16], heap: &[u64]) -> Blocks
     requires { ⌜ Supported g ⌝ }
-    ensures { λ r. ⌜ r ≡ counted (g .fields) (length (now (heap .entry)) / blockWords g) (wordsOf (now (heap .entry))) (wordsOf (now (registers .entry)) HEAP) (wordsOf (now (registers .entry)) FREE) ⌝ }
+    ensures { λ r. ⌜ r ≡ blocksCounted (g .fields) (length (now (heap .entry)) / blockWords g) (wordsOf (now (heap .entry))) (wordsOf (now (registers .entry)) HEAP) (wordsOf (now (registers .entry)) FREE) ⌝ }
 {
     let all = (heap.len() as u64) / config::block_words(g);
     let linear = walk_list(g, heap, all, registers[2]);

@@ -18,9 +18,9 @@ use Rattle.layout.specs.declared.utils.Temporary.the-variants as tempora
 use Rattle.layout.specs.Config.{operands, stackOffset, fstOffset, sndOffset}
 use Rattle.layout.specs.Positions.{positionAnswer}
 
-abbrev pub numberOf : TemporaryNumber → ℕ
-numberOf Fst = 0
-numberOf Snd = 1
+abbrev pub halfNumber : TemporaryNumber → ℕ
+halfNumber Fst = 0
+halfNumber Snd = 1
 
 -- the first of n bindings, from binding k on, that has the id; where they end if none has
 unfoldable pub idPlace : List ℕ → ℕ → ℕ → ℕ → ℕ
@@ -28,15 +28,15 @@ idPlace s id k zero = k
 idPlace s id k (suc n) = cond (eqb (bindingIn (drop (8 * k) s) .id) id) k (idPlace s id (suc k) n)
 
 unfoldable pub freshTemporary : Shape → TemporaryNumber → List ℕ → Temporary
-freshTemporary g number s = onContext (checkedContext s) (λ n. positionAnswer g (2 * n + numberOf number)) temporary.Context
+freshTemporary g number s = onContext (checkedContext s) (λ n. positionAnswer g (2 * n + halfNumber number)) temporary.Context
 
 unfoldable pub variableTemporary : Shape → TemporaryNumber → List ℕ → ℕ → Temporary
 variableTemporary g number s id =
-    onContext (checkedContext s) (λ n. cond (ltb (idPlace s id 0 n) n) (positionAnswer g (2 * idPlace s id 0 n + numberOf number)) Missing) temporary.Context
+    onContext (checkedContext s) (λ n. cond (ltb (idPlace s id 0 n) n) (positionAnswer g (2 * idPlace s id 0 n + halfNumber number)) Missing) temporary.Context
 
 -- 15 to 17 come before 3, which another number of spills than a frame has is
-abbrev pub unframed : List ℕ → Temporary
-unframed s = onContext (checkedContext s) (λ n. temporary.Frame) temporary.Context
+abbrev pub unframedTemporary : List ℕ → Temporary
+unframedTemporary s = onContext (checkedContext s) (λ n. temporary.Frame) temporary.Context
 
 -- where the spill that an operand names stands from STACK: spills from 1, as callers name them
 unfoldable pub spillOffset : Shape → ℕ → Offset

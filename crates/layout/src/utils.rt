@@ -9,7 +9,7 @@ ghost use Rattle.records.specs.Contexts.{bindingIn, extAt};
 ghost use Rattle.layout.specs.declared.utils.Temporary.the-variants.{Frame, Missing};
 ghost use Rattle.layout.specs.Config.{Supported, positions, inFrame, registerFor};
 ghost use Rattle.layout.specs.Positions.{location, entries, Table, operandOk, positionAnswer, temporaryCause};
-ghost use Rattle.layout.specs.Queries.{numberOf, idPlace, freshTemporary, variableTemporary, unframed};
+ghost use Rattle.layout.specs.Queries.{halfNumber, idPlace, freshTemporary, variableTemporary, unframedTemporary};
 use crate::config;
 use crate::config::Choice;
 use crate::config::Shape;
@@ -562,7 +562,7 @@ pub enum TemporaryNumber {
 }
 
 fn number_of(number: TemporaryNumber) -> u64
-    ensures { λ r. ⌜ (r ≡ numberOf number) × (r ≤ 1) ⌝ }
+    ensures { λ r. ⌜ (r ≡ halfNumber number) × (r ≤ 1) ⌝ }
 {
     match number {
         TemporaryNumber::Fst => 0,
@@ -676,7 +676,7 @@ fn id_place(context: &[u8], id: u32, n: usize) -> usize
 
 // What a frame of another number of spills is answered.
 fn unframed(context: &[u8]) -> Temporary
-    ensures { λ r. ⌜ AnswersBy temporaryCause r (unframed (now (context .entry))) ⌝ }
+    ensures { λ r. ⌜ AnswersBy temporaryCause r (unframedTemporary (now (context .entry))) ⌝ }
 {
     match records::context::check_context(context) {
         ContextRead::Good(_) => Temporary::Frame,
@@ -686,7 +686,7 @@ fn unframed(context: &[u8]) -> Temporary
 
 // The temporary past the context's last variable.
 pub fn fresh_temporary(frame: u64, number: TemporaryNumber, context: &[u8]) -> Temporary
-    ensures { λ r. ⌜ AnswersBy temporaryCause r (inFrame frame (λ g. freshTemporary g number (now (context .entry))) (unframed (now (context .entry)))) ⌝ }
+    ensures { λ r. ⌜ AnswersBy temporaryCause r (inFrame frame (λ g. freshTemporary g number (now (context .entry))) (unframedTemporary (now (context .entry)))) ⌝ }
 {
     match config::frame_of(frame) {
         Choice::Of(g) => fresh_temporary_in(g, number, context),
@@ -707,7 +707,7 @@ fn fresh_temporary_in(g: Shape, number: TemporaryNumber, context: &[u8]) -> Temp
 
 // The temporary of the first variable that has the id.
 pub fn variable_temporary(frame: u64, number: TemporaryNumber, context: &[u8], id: u32) -> Temporary
-    ensures { λ r. ⌜ AnswersBy temporaryCause r (inFrame frame (λ g. variableTemporary g number (now (context .entry)) id) (unframed (now (context .entry)))) ⌝ }
+    ensures { λ r. ⌜ AnswersBy temporaryCause r (inFrame frame (λ g. variableTemporary g number (now (context .entry)) id) (unframedTemporary (now (context .entry)))) ⌝ }
 {
     match config::frame_of(frame) {
         Choice::Of(g) => variable_temporary_in(g, number, context, id),

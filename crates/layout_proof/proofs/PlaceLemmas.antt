@@ -10,7 +10,7 @@ use Rattle.word.specs.Words.{sum}
 use Rattle.layout.specs.declared.config.Shape.{Shape}
 use Rattle.layout.specs.Config.{Supported, operands, blockWords, stackOffset}
 use Rattle.machine_step.specs.declared.memory.Place.the-variants.{Stack, Heap}
-use Rattle.machine_step.specs.declared.memory.Loaded.the-variants.{Word}
+use Rattle.machine_step.specs.declared.memory.Fetched.the-variants.{Word}
 use Rattle.machine_step.specs.View.{View, putReg, putStk, putMem}
 use Rattle.machine_step.specs.Memory.{register, memory, placeOf, valueOf, assigned}
 use Rattle.heap.proofs.WordLemmas.{word-inside, heap-below}

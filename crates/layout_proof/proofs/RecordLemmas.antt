@@ -7,10 +7,10 @@ use Rattle.word.specs.Words.{sum}
 use Rattle.trees.specs.Tree.{leaf}
 use Rattle.layout.specs.declared.config.Shape.{Shape}
 use Rattle.layout.specs.Config.{operands, blockWords, stackOffset}
-use Rattle.machine_step.specs.declared.memory.Loaded.the-variants.{Word}
+use Rattle.machine_step.specs.declared.memory.Fetched.the-variants.{Word}
 use Rattle.machine_step.specs.View.{View}
 use Rattle.machine_step.specs.Memory.{Operand, register, memory, valueOf, assigned}
-use Rattle.machine_step.specs.Step.{Config, moved, changed, dropped, next, move, arithmetic, compare, step}
+use Rattle.machine_step.specs.Step.{Config, moved, changed, dropped, next, move, calculate, compare, step}
 use Rattle.trees_proof.specs.Evaluation.{evaluate, evaluated, done}
 use Rattle.heap.specs.Words.{wordAt}
 use Rattle.layout_proof.specs.Held.{held, Placed}
@@ -22,7 +22,7 @@ module _ (c : Config) (dest src : Operand) {y : ℕ} where
   pub moves : {s : View} → valueOf (c .state) src ≡ Word y → assigned (c .state) dest y ≡ some s → move dest src c ≡ next (moved c s)
   moves e w = rw (e, w)
 
-  pub computes : (f : ℕ → ℕ → ℕ) {x : ℕ} {s : View} → valueOf (c .state) src ≡ Word y → valueOf (c .state) dest ≡ Word x → assigned (c .state) dest (f x y) ≡ some s → arithmetic f dest src c ≡ next (changed c s)
+  pub computes : (f : ℕ → ℕ → ℕ) {x : ℕ} {s : View} → valueOf (c .state) src ≡ Word y → valueOf (c .state) dest ≡ Word x → assigned (c .state) dest (f x y) ≡ some s → calculate f dest src c ≡ next (changed c s)
   computes f e d w = rw (e, d, w)
 
   pub compares : {x : ℕ} → valueOf (c .state) src ≡ Word y → valueOf (c .state) dest ≡ Word x → compare dest src c ≡ next (withPair c x y)

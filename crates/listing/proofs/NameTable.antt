@@ -8,7 +8,7 @@ use lib.Dec.{T, leb, leb→le, eqb, eqb→eq}
 use lib.ListN.{length, getD, take, drop, replicate, length-take}
 use Rattle.records.proofs.Table.{both-left, both-right, at}
 use Rattle.listing.specs.Names.{codeNames}
-use Rattle.listing.specs.Listing.{nameOf}
+use Rattle.listing.specs.Listing.{codeName}
 use Rattle.text.specs.Putting.{Puts}
 use Rattle.text.proofs.Putting.{at-most}
 
@@ -62,12 +62,12 @@ module _ (code : ℕ) (l : 1 ≤ code) (h : code ≤ 44) {w b : ℕ} (e : w ≡ 
   pub part-short : length part ≤ 11
   part-short = let s = name-short in simp length-take (omega arith)
 
-  part-name : part ≡ nameOf codeNames code
+  part-name : part ≡ codeName codeNames code
   unfolding right
   part-name =
       let n = getD lengths (code - 1) 0 in
       let d : 12 * (code - 1) + 1 + n - (12 * (code - 1) + 1) ≡ n = omega arith in
       rw (name-length .0, e, d) (same-list _ _ (both-right (eqb (getD table (12 * (code - 1)) 0) n) _ (both-right (leb n 11) _ tested)))
 
-  pub puts-name : {i j : ℕ} {o o′ : List ℕ} → Puts (length part) o i o′ j part → Puts 11 o i o′ j (nameOf codeNames code)
+  pub puts-name : {i j : ℕ} {o o′ : List ℕ} → Puts (length part) o i o′ j part → Puts 11 o i o′ j (codeName codeNames code)
   puts-name {i} {j} {o} {o′} p = subst (λ (bs : List ℕ). Puts 11 o i o′ j bs) part-name (at-most p part-short)

@@ -12,7 +12,7 @@ use Rattle.records.specs.Bytes.{stored}
 use Rattle.records.proofs.Answers.{answers-by}
 use Rattle.records.proofs.Storing.{stored-whole, stored-nothing}
 use Rattle.listing.specs.declared.Listed.the-variants.{Text, Malformed, Short}
-use Rattle.listing.specs.Listing.{listing, textOf, answerOf, causeOf, refusal, printedOf}
+use Rattle.listing.specs.Listing.{listing, textOf, listingAnswer, listingCause, listingRefusal, printedOf}
 use Rattle.text.specs.Putting.{Puts}
 
 pub size : {m j : ℕ} {o o′ bs : List ℕ} → Puts m o 0 o′ j bs → j ≡ length bs
@@ -28,20 +28,20 @@ module _ {bs : List ℕ} (o : List ℕ) {m j : ℕ} {q q′ : List ℕ} (measure
 
 module _ (names : List (List ℕ)) (s o : List ℕ) {checked : Checked} where
   pub refused : {place : ℕ} → checked ≡ Bad place
-      → AnswersBy causeOf (Malformed place) (answerOf names s (length o) checked) × (o ≡ stored o 0 (textOf names s checked))
-  unfolding answerOf textOf
+      → AnswersBy listingCause (Malformed place) (listingAnswer names s (length o) checked) × (o ≡ stored o 0 (textOf names s checked))
+  unfolding listingAnswer textOf
   refused e = rw e (answers-by refl, stored-whole o 0 [] (omega arith))
 
   module _ {n m j : ℕ} {q q′ : List ℕ} (e : checked ≡ Good n) (measured : Puts m q 0 q′ j (listing names s n)) where
-    pub too-short : length o < j → AnswersBy causeOf (Short j) (answerOf names s (length o) checked) × (o ≡ stored o 0 (textOf names s checked))
-    unfolding answerOf textOf
+    pub too-short : length o < j → AnswersBy listingCause (Short j) (listingAnswer names s (length o) checked) × (o ≡ stored o 0 (textOf names s checked))
+    unfolding listingAnswer textOf
     too-short h =
         let z = size measured in
         rw (e, lt-leb (length (listing names s n)) (length o) (omega arith), ← z) (answers-by refl, kept o measured h)
 
     pub listed : {m′ k : ℕ} {o′ : List ℕ} → j ≤ length o → Puts m′ o 0 o′ k (listing names s n)
-        → AnswersBy causeOf (Text j) (answerOf names s (length o) checked) × (o′ ≡ stored o 0 (textOf names s checked))
-    unfolding answerOf textOf
+        → AnswersBy listingCause (Text j) (listingAnswer names s (length o) checked) × (o′ ≡ stored o 0 (textOf names s checked))
+    unfolding listingAnswer textOf
     listed h p =
         let z = size measured in
         rw (e, le-leb (length (listing names s n)) (length o) (omega arith), ← z) (answers-by refl, whole o measured h p)
@@ -52,6 +52,6 @@ module _ (names : List (List ℕ)) (s : List ℕ) {checked : Checked} {m i j : �
   unfolding printedOf
   printed-listing e p = rw e p
 
-  pub printed-refusal : {place : ℕ} → checked ≡ Bad place → Puts m o i o′ j (refusal place) → Puts m o i o′ j (printedOf names s checked)
+  pub printed-refusal : {place : ℕ} → checked ≡ Bad place → Puts m o i o′ j (listingRefusal place) → Puts m o i o′ j (printedOf names s checked)
   unfolding printedOf
   printed-refusal e p = rw e p

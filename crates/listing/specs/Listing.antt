@@ -12,19 +12,19 @@ use Rattle.records.specs.declared.code.Fields.{Fields}
 use Rattle.records.specs.Instructions.{fieldsIn, checkedCodes}
 use Rattle.listing.specs.declared.Listed.{Listed}
 use Rattle.listing.specs.declared.Listed.the-variants.{Text, Malformed, Short}
-use Rattle.text.specs.Text.{ascii, spaced, decimal, signed}
+use Rattle.text.specs.Text.{ascii, spaced, decimal, signedDecimal}
 
 -- the name of a code, the first of which is 1
-abbrev pub nameOf : List (List ℕ) → ℕ → List ℕ
-nameOf names code = getD names (code - 1) []
+abbrev pub codeName : List (List ℕ) → ℕ → List ℕ
+codeName names code = getD names (code - 1) []
 
 -- a, b, label, offset, value
-unfoldable pub operands : Fields → List ℕ
-operands f = spaced (decimal (f .a)) ++ spaced (decimal (f .b)) ++ spaced (decimal (f .label)) ++ spaced (signed (f .offset)) ++ spaced (signed (f .value))
+unfoldable pub operandsText : Fields → List ℕ
+operandsText f = spaced (decimal (f .a)) ++ spaced (decimal (f .b)) ++ spaced (decimal (f .label)) ++ spaced (signedDecimal (f .offset)) ++ spaced (signedDecimal (f .value))
 
 -- the line of a record: its place, its code's name, its operands
 unfoldable pub line : List (List ℕ) → ℕ → Fields → List ℕ
-line names place f = decimal place ++ spaced (nameOf names (f .code)) ++ operands f ++ ascii "\n"
+line names place f = decimal place ++ spaced (codeName names (f .code)) ++ operandsText f ++ ascii "\n"
 
 -- the lines of the first k records of s
 unfoldable pub lines : List (List ℕ) → List ℕ → ℕ → List ℕ
@@ -45,22 +45,22 @@ textOf names s (Good n) = listing names s n
 textOf names s (Bad place) = []
 
 -- the answer where the output has room for so many bytes
-unfoldable pub answerOf : List (List ℕ) → List ℕ → ℕ → Checked → Listed
-answerOf names s room (Good n) = cond (leb (length (listing names s n)) room) (Text (length (listing names s n))) (Short (length (listing names s n)))
-answerOf names s room (Bad place) = Malformed place
+unfoldable pub listingAnswer : List (List ℕ) → List ℕ → ℕ → Checked → Listed
+listingAnswer names s room (Good n) = cond (leb (length (listing names s n)) room) (Text (length (listing names s n))) (Short (length (listing names s n)))
+listingAnswer names s room (Bad place) = Malformed place
 
 -- what is written for the bytes of a list of records, and what is answered
 abbrev pub listedText : List (List ℕ) → List ℕ → List ℕ
 listedText names s = textOf names s (checkedList s)
 
 abbrev pub listed : List (List ℕ) → List ℕ → ℕ → Listed
-listed names s room = answerOf names s room (checkedList s)
+listed names s room = listingAnswer names s room (checkedList s)
 
 -- document 01's number and values for each answer: 0, with the bytes of the listing, where it is written
-abbrev pub causeOf : Listed → List ℕ
-causeOf (Text size) = ACCEPTED ∷ size ∷ []
-causeOf (Malformed place) = MALFORMED ∷ place ∷ []
-causeOf (Short needed) = ROOM ∷ needed ∷ []
+abbrev pub listingCause : Listed → List ℕ
+listingCause (Text size) = ACCEPTED ∷ size ∷ []
+listingCause (Malformed place) = MALFORMED ∷ place ∷ []
+listingCause (Short needed) = ROOM ∷ needed ∷ []
 
 -- numbers on one line
 abbrev pub row : List ℕ → List ℕ
@@ -69,17 +69,17 @@ row (n ∷ []) = decimal n ++ ascii "\n"
 row (n ∷ m ∷ ns) = decimal n ++ spaced (row (m ∷ ns))
 
 -- the number and the place of a refusal
-unfoldable pub refusal : ℕ → List ℕ
-refusal place = row (causeOf (Malformed place))
+unfoldable pub listingRefusal : ℕ → List ℕ
+listingRefusal place = row (listingCause (Malformed place))
 
 unfoldable pub printedOf : List (List ℕ) → List ℕ → Checked → List ℕ
 printedOf names s (Good n) = listing names s n
-printedOf names s (Bad place) = refusal place
+printedOf names s (Bad place) = listingRefusal place
 
 -- what the lister prints for the bytes that it reads
-abbrev pub printed : List (List ℕ) → List ℕ → List ℕ
-printed names s = printedOf names s (checkedList s)
+abbrev pub printedListing : List (List ℕ) → List ℕ → List ℕ
+printedListing names s = printedOf names s (checkedList s)
 
 -- a bound on the bytes that it prints: 20 digits and 9 letters in the header, and 140 bytes in each of 2,730 lines
-abbrev pub longest : ℕ
-longest = 382229
+abbrev pub longestListing : ℕ
+longestListing = 382229

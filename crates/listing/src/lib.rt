@@ -10,7 +10,7 @@ ghost use lib.ListN.{length};
 ghost use Rattle.records.specs.Answers.{AnswersBy};
 ghost use Rattle.records.specs.Bytes.{stored};
 ghost use Rattle.listing.specs.Names.{codeNames};
-ghost use Rattle.listing.specs.Listing.{listed, listedText, causeOf, printed, longest};
+ghost use Rattle.listing.specs.Listing.{listed, listedText, listingCause, printedListing, longestListing};
 
 // No more bytes than this are printed.
 pub const LONGEST: usize = 382229;
@@ -23,7 +23,7 @@ pub enum Listed {
 
 // The listing of at most 2,730 records, at the start of `text`.
 pub fn list_records(records: &[u8], text: &mut [u8]) -> Listed
-    ensures answer { λ r. ⌜ AnswersBy causeOf r (listed codeNames (now (records .entry)) (length (now (text .entry)))) ⌝ }
+    ensures answer { λ r. ⌜ AnswersBy listingCause r (listed codeNames (now (records .entry)) (length (now (text .entry)))) ⌝ }
     ensures written { λ r. ⌜ now (text .exit) ≡ stored (now (text .entry)) 0 (listedText codeNames (now (records .entry))) ⌝ }
 {
     let checked = code::check_codes(records, 2730);
@@ -43,9 +43,9 @@ pub fn list_records(records: &[u8], text: &mut [u8]) -> Listed
 
 // What the lister prints, at the start of `text` where it fits whole. Answers how many bytes it is.
 pub fn print_records(records: &[u8], text: &mut [u8]) -> usize
-    ensures size { λ r. ⌜ r ≡ length (printed codeNames (now (records .entry))) ⌝ }
-    ensures bound { λ r. ⌜ r ≤ longest ⌝ }
-    ensures written { λ r. ⌜ now (text .exit) ≡ stored (now (text .entry)) 0 (printed codeNames (now (records .entry))) ⌝ }
+    ensures size { λ r. ⌜ r ≡ length (printedListing codeNames (now (records .entry))) ⌝ }
+    ensures bound { λ r. ⌜ r ≤ longestListing ⌝ }
+    ensures written { λ r. ⌜ now (text .exit) ≡ stored (now (text .entry)) 0 (printedListing codeNames (now (records .entry))) ⌝ }
 {
     let mut none = [0u8; 1];
     let size = lines::put_printed(&mut none, records);

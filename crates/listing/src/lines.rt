@@ -2,7 +2,7 @@
 ghost use mathlib.Core.Path.{_≡_};
 ghost use Prim.Native.Nat.{_+_, _*_, _≤_};
 ghost use Rattle.listing.specs.Names.{codeNames};
-ghost use Rattle.listing.specs.Listing.{operands, line, lines, listing, checkedList, refusal, printed, longest};
+ghost use Rattle.listing.specs.Listing.{operandsText, line, lines, listing, checkedList, listingRefusal, printedListing, longestListing};
 ghost use Rattle.text.specs.Putting.{farthest, Puts};
 use crate::names;
 use records::check::Checked;
@@ -12,7 +12,7 @@ use records::code::Fields;
 // The five fields after the name.
 fn put_operands(text: &mut [u8], at: usize, f: Fields) -> usize
     requires { ⌜ at + 107 ≤ farthest ⌝ }
-    ensures { λ r. ⌜ Puts 107 (now (text .entry)) at (now (text .exit)) r (operands f) ⌝ }
+    ensures { λ r. ⌜ Puts 107 (now (text .entry)) at (now (text .exit)) r (operandsText f) ⌝ }
 {
     let a = text::put_spaced(text, at, f.a as u64);
     let b = text::put_spaced(text, a, f.b as u64);
@@ -47,7 +47,7 @@ fn put_lines(text: &mut [u8], at: usize, records: &[u8], count: usize) -> usize
 // The listing of well-formed records, from the start of `text`.
 pub fn put_listing(text: &mut [u8], records: &[u8], count: usize) -> usize
     requires { ⌜ checkedList (now records) ≡ Checked.Good count ⌝ }
-    ensures { λ r. ⌜ Puts longest (now (text .entry)) 0 (now (text .exit)) r (listing codeNames (now (records .entry)) count) ⌝ }
+    ensures { λ r. ⌜ Puts longestListing (now (text .entry)) 0 (now (text .exit)) r (listing codeNames (now (records .entry)) count) ⌝ }
 {
     let word = text::put_decimal(text, 0, count as u64);
     let lines = text::put_bytes(text, word, b" records\n");
@@ -55,7 +55,7 @@ pub fn put_listing(text: &mut [u8], records: &[u8], count: usize) -> usize
 }
 
 fn put_refusal(text: &mut [u8], place: usize) -> usize
-    ensures { λ r. ⌜ Puts 23 (now (text .entry)) 0 (now (text .exit)) r (refusal place) ⌝ }
+    ensures { λ r. ⌜ Puts 23 (now (text .entry)) 0 (now (text .exit)) r (listingRefusal place) ⌝ }
 {
     let at = text::put_bytes(text, 0, b"2 ");
     let end = text::put_decimal(text, at, place as u64);
@@ -64,7 +64,7 @@ fn put_refusal(text: &mut [u8], place: usize) -> usize
 
 // The listing, or the refusal where the list is malformed.
 pub fn put_printed(text: &mut [u8], records: &[u8]) -> usize
-    ensures { λ r. ⌜ Puts longest (now (text .entry)) 0 (now (text .exit)) r (printed codeNames (now (records .entry))) ⌝ }
+    ensures { λ r. ⌜ Puts longestListing (now (text .entry)) 0 (now (text .exit)) r (printedListing codeNames (now (records .entry))) ⌝ }
 {
     let checked = code::check_codes(records, 2730);
     match checked {

@@ -3,7 +3,7 @@ ghost use mathlib.Core.Path.{_≡_};
 ghost use Prim.Native.Nat.{_+_, _≤_};
 ghost use Rattle.listing.specs.Names.{codeNames};
 ghost use Rattle.text.specs.Text.{spaced};
-ghost use Rattle.listing.specs.Listing.{nameOf};
+ghost use Rattle.listing.specs.Listing.{codeName};
 ghost use Rattle.text.specs.Putting.{farthest, Puts};
 
 // Twelve bytes for each code: the length of its name, then the name, filled up by spaces.
@@ -62,7 +62,7 @@ fn wide(b: u8) -> usize
 // A space, then the name of a code.
 pub fn put_spaced_name(text: &mut [u8], at: usize, code: u8) -> usize
     requires { ⌜ (1 ≤ code) × (code ≤ 44) × (at + 12 ≤ farthest) ⌝ }
-    ensures { λ r. ⌜ Puts 12 (now (text .entry)) at (now (text .exit)) r (spaced (nameOf codeNames code)) ⌝ }
+    ensures { λ r. ⌜ Puts 12 (now (text .entry)) at (now (text .exit)) r (spaced (codeName codeNames code)) ⌝ }
 {
     let next = text::put_byte(text, at, b' ');
     let start = 12 * (wide(code) - 1);

@@ -13,12 +13,12 @@ use Rattle.records.specs.Checked.{firstBad, places, checked}
 use Rattle.records.specs.Instructions.{codeStarts, checkedCodes}
 use Rattle.records.proofs.Conditions.{and-right}
 use Rattle.records.proofs.CodesRead.{starts-whole}
-use Rattle.machine.specs.declared.run.Answer.{Answer}
-use Rattle.machine.specs.declared.run.Answer.the-variants.{Malformed}
+use Rattle.machine.specs.declared.run.RunAnswer.{RunAnswer}
+use Rattle.machine.specs.declared.run.RunAnswer.the-variants.{Malformed}
 use Rattle.machine_step.specs.View.{View, view}
 use Rattle.machine_step.specs.Memory.{heapOk}
-use Rattle.machine.specs.Run.{Done, causeOf, Leaves, codesOf, started, ran}
-use Rattle.machine.specs.Loop.{Listed, EndsBy}
+use Rattle.machine.specs.Run.{Done, runCause, Leaves, codesOf, started, ran}
+use Rattle.machine.specs.Loop.{ListedCodes, EndsBy}
 use Rattle.machine.proofs.Running.{unlike}
 
 -- each record from place k on passes the test
@@ -50,12 +50,12 @@ module _ (most : ℕ) (s : List ℕ) where
   whole zero f = omega arith
   whole (suc n) f = let w = simp length-drop at (starts-whole (drop (24 * n) s) (f n (omega arith))) in omega arith
 
-  pub accepted : {n : ℕ} → checkedCodes most s ≡ checks.Good n → Listed s n
+  pub accepted : {n : ℕ} → checkedCodes most s ≡ checks.Good n → ListedCodes s n
   accepted {n} e = record { whole = whole n (starts e); starts = starts e }
 
 -- the whole run: refused for the heap, for a record, or as its records go
-leaves : {a : Answer} {v : View} {d : Done} → a ≡ d .answer → v ≡ d .last .state → Leaves a v d
-leaves e f = record { answer = e; cause = ap causeOf e; last = f }
+leaves : {a : RunAnswer} {v : View} {d : Done} → a ≡ d .answer → v ≡ d .last .state → Leaves a v d
+leaves e f = record { answer = e; cause = ap runCause e; last = f }
 
 module _ (block : ℕ) (words : ℕ → ℕ) (s : List ℕ) (limit : ℕ) (R S H : List ℕ) {b : Bool} (h : b ≡ heapOk block (length H)) where
   pub ran-heap : b ≡ false → Leaves (Malformed 0) (view R S H) (ran block words s limit (view R S H))
@@ -67,7 +67,7 @@ module _ (block : ℕ) (words : ℕ → ℕ) (s : List ℕ) (limit : ℕ) (R S H
     unfolding ran
     ran-malformed q = rw (← h, t, sym e ∙ q) (leaves refl refl)
 
-    pub ran-ends : {n : ℕ} {a : Answer} {v : View} → k ≡ checks.Good n → EndsBy v a (started words (codesOf n s) limit (view R S H))
+    pub ran-ends : {n : ℕ} {a : RunAnswer} {v : View} → k ≡ checks.Good n → EndsBy v a (started words (codesOf n s) limit (view R S H))
         → Leaves a v (ran block words s limit (view R S H))
     unfolding ran
     ran-ends q f = rw (← h, t, sym e ∙ q) (leaves (f .answer) (f .last))

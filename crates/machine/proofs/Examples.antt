@@ -8,8 +8,8 @@ use Rattle.records.specs.declared.code.Code.{Code}
 use Rattle.records.specs.declared.code.Code.the-variants.{ADDI, ADDIM, JMPL, JEL, JLL, MOVI, CMPI, PUSH, POP, CALL, RET, LAB}
 use Rattle.machine_step.specs.declared.memory.Place.the-variants.{Stack, Heap, Nowhere}
 use Rattle.machine.specs.declared.state.State.{State}
-use Rattle.machine.specs.declared.run.Answer.{Answer}
-use Rattle.machine.specs.declared.run.Answer.the-variants.{Ended, Malformed, Fault, Limit}
+use Rattle.machine.specs.declared.run.RunAnswer.{RunAnswer}
+use Rattle.machine.specs.declared.run.RunAnswer.the-variants.{Ended, Malformed, Fault, Limit}
 use Rattle.layout.specs.Config.{base}
 use Rattle.word.specs.Words.{sum, difference, signs, magnitude, negated, quotient, remainder, divides, less}
 use Rattle.machine_step.specs.Memory.{heapOk, placeOf}
@@ -24,7 +24,7 @@ heap = replicate 16 0
 abbrev words : ℕ → ℕ
 words i = 100 - i
 
-abbrev answers : State → List Code → ℕ → Answer
+abbrev answers : State → List Code → ℕ → RunAnswer
 answers s p limit = started words p limit (see s heap) .answer
 
 abbrev registers : List Code → List ℕ

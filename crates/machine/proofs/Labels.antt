@@ -17,7 +17,7 @@ use Rattle.records.specs.ReadBack.{codeIn}
 use Rattle.records.proofs.CodesRead.{ok-code, starts-ok}
 use Rattle.machine.specs.declared.run.Found.the-variants.{At, Absent}
 use Rattle.machine.specs.Run.{isLab, placesOf, theOne, find, codesOf}
-use Rattle.machine.specs.Loop.{Listed, placesFrom, First}
+use Rattle.machine.specs.Loop.{ListedCodes, placesFrom, First}
 use Rattle.machine.proofs.Tables.{Each, each}
 
 abbrev Told : ℕ → Type 0
@@ -41,7 +41,7 @@ module _ (label : ℕ) (s : List ℕ) (n : ℕ) where
   unfolding placesOf
   one-more m k t e = rw e
 
-  pub places-turn : (k : ℕ) {b : Bool} → Listed s n → k < n → b ≡ labWith label (fieldsIn (drop (24 * k) s))
+  pub places-turn : (k : ℕ) {b : Bool} → ListedCodes s n → k < n → b ≡ labWith label (fieldsIn (drop (24 * k) s))
       → placesFrom label s n k ≡ cond b (k ∷ placesFrom label s n (k + 1)) (placesFrom label s n (k + 1))
   places-turn k z h e =
       let m : n - k ≡ suc (n - suc k) = omega arith in
@@ -57,7 +57,7 @@ module _ (label : ℕ) (s : List ℕ) (n : ℕ) where
     pub first-none : n ≤ i → First label s n k i
     first-none h = record { within = inv .0; here = λ l. absurd (omega arith); none = λ l. sym (inv .1) ∙ places-end i h }
 
-    module _ {b : Bool} (z : Listed s n) (h : i < n) (e : b ≡ labWith label (fieldsIn (drop (24 * i) s))) where
+    module _ {b : Bool} (z : ListedCodes s n) (h : i < n) (e : b ≡ labWith label (fieldsIn (drop (24 * i) s))) where
       pub first-here : b ≡ true → First label s n k i
       first-here t = record { within = inv .0; here = λ l. sym (inv .1) ∙ places-turn i z h (sym t ∙ e); none = λ l. absurd (omega arith) }
 

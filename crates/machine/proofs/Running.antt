@@ -21,8 +21,8 @@ use Rattle.machine_step.specs.declared.instruction.Pair.{Pair}
 use Rattle.machine_step.specs.declared.instruction.Went.{Went}
 use Rattle.machine_step.specs.declared.instruction.Went.the-variants.{Next, Called, Jump, End, Fault}
 use Rattle.machine_step.specs.declared.instruction.Moved.{Moved}
-use Rattle.machine.specs.declared.run.Answer.{Answer}
-use Rattle.machine.specs.declared.run.Answer.the-variants as answer
+use Rattle.machine.specs.declared.run.RunAnswer.{RunAnswer}
+use Rattle.machine.specs.declared.run.RunAnswer.the-variants as answer
 use Rattle.machine.specs.declared.run.Found.{Found}
 use Rattle.machine.specs.declared.run.Found.the-variants as found
 use Rattle.machine.specs.declared.run.Turn.{Turn}
@@ -30,11 +30,11 @@ use Rattle.machine.specs.declared.run.Turn.the-variants as turn
 use Rattle.machine_step.specs.View.{View, view}
 use Rattle.machine_step.specs.Step.{Call, Config, config, outcomeOf, step}
 use Rattle.machine.specs.Run.{Done, done, onFound, find, follow, runs, codesOf, started}
-use Rattle.machine_step.specs.Forms.{comparedOf, Goes}
-use Rattle.machine.specs.Loop.{Listed, turnTo, turnOf, Turns, EndsBy}
+use Rattle.machine_step.specs.Forms.{comparedOf, Acts}
+use Rattle.machine.specs.Loop.{ListedCodes, turnTo, turnOf, Turns, EndsBy}
 use Rattle.machine_step.proofs.Flow.{jump-keeps}
 
-pub listed-ok : {s : List ℕ} {n k : ℕ} {f : Fields} → Listed s n → k < n → f ≡ fieldsIn (drop (24 * k) s) → fieldsOk f ≡ true
+pub listed-ok : {s : List ℕ} {n k : ℕ} {f : Fields} → ListedCodes s n → k < n → f ≡ fieldsIn (drop (24 * k) s) → fieldsOk f ≡ true
 listed-ok {k} z h e = rw e (starts-ok _ (z .starts k h))
 
 -- record k of n in the bytes s
@@ -95,13 +95,13 @@ pub record Going (words : ℕ → ℕ) (s : List ℕ) (n limit : ℕ) (d : Done)
   pub calls : List Call
   pub left : d ≡ runs words (codesOf n s) (limit - steps) steps place (config v q calls)
 
-ends : {v : View} {a : Answer} {d : Done} (c : Config) → d ≡ done a c → v ≡ c .state → EndsBy v a d
+ends : {v : View} {a : RunAnswer} {d : Done} (c : Config) → d ≡ done a c → v ≡ c .state → EndsBy v a d
 ends c e k = record { answer = sym (ap (λ x. x .answer) e); last = k ∙ sym (ap (λ x. x .last .state) e) }
 
 module _ (words : ℕ → ℕ) (s : List ℕ) (n : ℕ) where
   -- what a record does on lent arrays is one step
   pub turned : {place : ℕ} {f : Fields} {R S H R′ S′ H′ : List ℕ} {p : Pair} {m : Moved} {t : Turn} → f ≡ fieldsIn (drop (24 * place) s)
-      → Goes R S H R′ S′ H′ p m (step words (codeOf f)) → t ≡ turnOf (codesOf n s) place (m .went)
+      → Acts R S H R′ S′ H′ p m (step words (codeOf f)) → t ≡ turnOf (codesOf n s) place (m .went)
       → Turns words n s place (view R S H) (comparedOf p) (view R′ S′ H′) (comparedOf (m .pair)) t
   turned {R} {S} {H} {p} {m} e o u =
       record { went = m .went; goes = λ calls. o .goes calls ∙ ap (λ y. step words (codeOf y) (config (view R S H) (comparedOf p) calls)) e; turn = u }

@@ -15,8 +15,8 @@ use Rattle.records.specs.Instructions.{fieldsOk}
 use Rattle.records.proofs.CodesRead.{ok-code}
 use Rattle.machine_step.specs.declared.instruction.Moved.{Moved}
 use Rattle.machine_step.specs.declared.instruction.Pair.{Pair}
-use Rattle.machine_step.specs.Step.{Config, Outcome, fault, arithmetic, step}
-use Rattle.machine_step.specs.Forms.{operandOf, resultOf, holdsOf, Goes}
+use Rattle.machine_step.specs.Step.{Config, Outcome, fault, calculate, step}
+use Rattle.machine_step.specs.Forms.{operandOf, resultOf, holdsOf, Acts}
 use Rattle.machine_step.proofs.Forms.{NoneFrom, none-from}
 use Rattle.machine_step.proofs.Instructions.{goes-as}
 use Rattle.machine.specs.Tables.{tabled, performed}
@@ -55,8 +55,8 @@ table-is-step words f c l h = each Same 44 same-all (f .code - 1) (omega arith) 
 
 -- what a record does by the lent table is its step
 pub acts : (words : ℕ → ℕ) (K : List ℕ) (f : Fields) {R S H R′ S′ H′ : List ℕ} {p : Pair} {m : Moved} → K ≡ tabled → fieldsOk f ≡ true
-    → Goes R S H R′ S′ H′ p m (performed words (getD K (f .code - 1) 0 / 256 % 16) (getD K (f .code - 1) 0 / 16 % 16) (getD K (f .code - 1) 0 % 16) f)
-    → Goes R S H R′ S′ H′ p m (step words (codeOf f))
+    → Acts R S H R′ S′ H′ p m (performed words (getD K (f .code - 1) 0 / 256 % 16) (getD K (f .code - 1) 0 / 16 % 16) (getD K (f .code - 1) 0 % 16) f)
+    → Acts R S H R′ S′ H′ p m (step words (codeOf f))
 acts words K f e o g = let k = ok-code f o in goes-as (λ c. sym (rw e (table-is-step words f c (k .0) (k .1)))) g
 
 module _ (words : ℕ → ℕ) (n t u : ℕ) (f : Fields) where
@@ -64,6 +64,6 @@ module _ (words : ℕ → ℕ) (n t u : ℕ) (f : Fields) where
   unfolding performed
   fault-form h r c = let l = none-from 3 11 h r in rw (le-ltb n 3 h, ne-eqb n 3 (omega arith), ne-eqb n 4 (omega arith), ne-eqb n 5 (omega arith), ne-eqb n 6 (omega arith), ne-eqb n 7 (omega arith), ne-eqb n 8 (omega arith), ne-eqb n 9 (omega arith), ne-eqb n 10 (omega arith), ne-eqb n 11 (omega arith), ne-eqb n 12 (omega arith), ne-eqb n 13 (omega arith))
 
-  pub arithmetic-form : n < 3 → (c : Config) → performed words n t u f c ≡ arithmetic (resultOf n) (operandOf t f) (operandOf u f) c
+  pub arithmetic-form : n < 3 → (c : Config) → performed words n t u f c ≡ calculate (resultOf n) (operandOf t f) (operandOf u f) c
   unfolding performed
   arithmetic-form h c = rw (lt-ltb n 3 h)

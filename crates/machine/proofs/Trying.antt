@@ -26,13 +26,13 @@ use Rattle.machine_step.specs.declared.instruction.Went.{Went}
 use Rattle.machine_step.specs.View.{View, view}
 use Rattle.machine_step.specs.Memory.{heapOk}
 use Rattle.machine_step.specs.Step.{Call, config, Outcome, step}
-use Rattle.machine_step.specs.Forms.{comparedOf, Goes}
+use Rattle.machine_step.specs.Forms.{comparedOf, Acts}
 use Rattle.machine.specs.declared.step.Tried.the-variants.{Took, Malformed}
 use Rattle.machine.specs.declared.run.Turn.{Turn}
 use Rattle.machine.specs.declared.step.Tried.{Tried}
-use Rattle.machine.specs.Trial.{took, trial, trialOf, causeOf}
+use Rattle.machine.specs.Trial.{took, trial, trialOf, stepCause}
 use Rattle.machine.specs.Run.{codesOf}
-use Rattle.machine.specs.Loop.{Listed, turnOf, Turns}
+use Rattle.machine.specs.Loop.{ListedCodes, turnOf, Turns}
 use Rattle.machine.proofs.Running.{unlike}
 
 register-named : (uses : Bool) (r : ℕ) → registerOk uses r ≡ true → r < 16
@@ -62,7 +62,7 @@ module _ (block : ℕ) (words : ℕ → ℕ) (x : Code) (s : View) (q : Compared
 
 module _ (block : ℕ) (words : ℕ → ℕ) (x : Code) (R S H : List ℕ) {R′ S′ H′ : List ℕ} {q q′ : Compared} {p : Pair} {m : Moved} (calls : List Call) {b d : Bool} {f : Fields} where
   pub performs : b ≡ heapOk block (length H) → b ≡ true → f ≡ fieldsOf x → d ≡ fieldsOk f → d ≡ true → comparedOf p ≡ q → q′ ≡ comparedOf (m .pair)
-      → Goes R S H R′ S′ H′ p m (step words (codeOf f))
+      → Acts R S H R′ S′ H′ p m (step words (codeOf f))
       → trialOf (Took (m .went)) (view R′ S′ H′) q′ calls ≡ trial block words x (config (view R S H) q calls)
   unfolding trial
   performs h t e o r k k′ g =
@@ -72,7 +72,7 @@ took-same : {x y : Outcome} → took x ≡ took y → x ≡ y
 took-same e = cc
 
 -- record `place` of a checked list, beside a heap that may be lent: it is read, its step is not refused, and the state is that of the step
-module _ (block : ℕ) (words : ℕ → ℕ) (n : ℕ) (s : List ℕ) (place : ℕ) (v : View) (q : Compared) (z : Listed s n) (h : place < n) (k : heapOk block (v .size) ≡ true) {r : CodeRead} (e : r ≡ codeAt s place) where
+module _ (block : ℕ) (words : ℕ → ℕ) (n : ℕ) (s : List ℕ) (place : ℕ) (v : View) (q : Compared) (z : ListedCodes s n) (h : place < n) (k : heapOk block (v .size) ≡ true) {r : CodeRead} (e : r ≡ codeAt s place) where
   is-read : r ≡ read.Record (codeIn (drop (24 * place) s))
   unfolding codeAt
   is-read = e ∙ rw (z .starts place h)
@@ -91,7 +91,7 @@ module _ (block : ℕ) (words : ℕ → ℕ) (n : ℕ) (s : List ℕ) (place : �
         let o = starts-ok (drop (24 * place) s) (z .starts place h) in
         rw (k, same, fields-code f o, o)
 
-    module _ {t : Tried} (v′ : View) (q′ : Compared) (b : (calls : List Call) → AnswersBy causeOf (trialOf t v′ q′ calls) (trial block words x (config v q calls))) where
+    module _ {t : Tried} (v′ : View) (q′ : Compared) (b : (calls : List Call) → AnswersBy stepCause (trialOf t v′ q′ calls) (trial block words x (config v q calls))) where
       pub not-refused : {A : Type 0} {i : ℕ} → t ≡ Malformed i → A
       not-refused {i} m = unlike (let y : trialOf (Malformed i) v′ q′ [] ≡ took (step words (codeIn (drop (24 * place) s)) (config v q [])) = rw m at (b [] .answer ∙ tries []) in cc)
 

@@ -9,7 +9,7 @@ use Rattle.records.specs.declared.code.Code.{Code}
 use Rattle.records.specs.Instructions.{codeStarts}
 use Rattle.machine_step.specs.declared.instruction.Went.{Went}
 use Rattle.machine_step.specs.declared.instruction.Went.the-variants.{Next, Called, Jump, End, Fault}
-use Rattle.machine.specs.declared.run.Answer.{Answer}
+use Rattle.machine.specs.declared.run.RunAnswer.{RunAnswer}
 use Rattle.machine.specs.declared.run.Found.{Found}
 use Rattle.machine.specs.declared.run.Found.the-variants as found
 use Rattle.machine.specs.declared.run.Turn.{Turn}
@@ -21,7 +21,7 @@ use Rattle.records.specs.ReadBack.{codeIn}
 use Rattle.machine.specs.Run.{Done, placesOf, find, codesOf}
 
 -- n whole, well-formed records in the bytes s
-pub record Listed (s : List ℕ) (n : ℕ) : Type 0 where
+pub record ListedCodes (s : List ℕ) (n : ℕ) : Type 0 where
   pub whole : 24 * n ≤ length s
   pub starts : (k : ℕ) → k < n → codeStarts (drop (24 * k) s) ≡ true
 
@@ -54,6 +54,6 @@ pub record Turns (words : ℕ → ℕ) (n : ℕ) (s : List ℕ) (place : ℕ) (v
   pub turn : t ≡ turnOf (codesOf n s) place went
 
 -- registers, stack and heap seen as v are as a run leaves them, with its answer
-pub record EndsBy (v : View) (a : Answer) (d : Done) : Type 0 where
+pub record EndsBy (v : View) (a : RunAnswer) (d : Done) : Type 0 where
   pub answer : a ≡ d .answer
   pub last : v ≡ d .last .state

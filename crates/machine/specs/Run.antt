@@ -11,8 +11,8 @@ use Rattle.records.specs.Codes.{fieldsOf}
 use Rattle.records.specs.Instructions.{labWith, checkedCodes}
 use Rattle.records.specs.ReadBack.{items, codeIn}
 use Rattle.machine_step.specs.declared.instruction.Compared.the-variants.{Absent}
-use Rattle.machine.specs.declared.run.Answer.{Answer}
-use Rattle.machine.specs.declared.run.Answer.the-variants.{Ended, Malformed, Fault, Limit}
+use Rattle.machine.specs.declared.run.RunAnswer.{RunAnswer}
+use Rattle.machine.specs.declared.run.RunAnswer.the-variants.{Ended, Malformed, Fault, Limit}
 use Rattle.machine.specs.declared.run.Found.{Found}
 use Rattle.machine.specs.declared.run.Found.the-variants as found
 use Rattle.machine_step.specs.View.{View}
@@ -40,10 +40,10 @@ find label p = theOne (placesOf label p 0)
 
 -- what a run answers, and the configuration that it leaves
 pub record Done : Type 0 where
-  pub answer : Answer
+  pub answer : RunAnswer
   pub last : Config
 
-abbrev pub done : Answer → Config → Done
+abbrev pub done : RunAnswer → Config → Done
 done a c = record { answer = a; last = c }
 
 abbrev pub onRecord : Option Code → Done → (Code → Done) → Done
@@ -88,14 +88,14 @@ ran block words s limit v =
     (done (Malformed 0) (starting v))
 
 -- document 01's number and values for each answer: 0, with the steps, where the run ended
-abbrev pub causeOf : Answer → List ℕ
-causeOf (Ended steps) = ACCEPTED ∷ steps ∷ []
-causeOf (Malformed place) = MALFORMED ∷ place ∷ []
-causeOf (Fault steps place) = FAULT ∷ steps ∷ place ∷ []
-causeOf (Limit limit) = LIMIT ∷ limit ∷ []
+abbrev pub runCause : RunAnswer → List ℕ
+runCause (Ended steps) = ACCEPTED ∷ steps ∷ []
+runCause (Malformed place) = MALFORMED ∷ place ∷ []
+runCause (Fault steps place) = FAULT ∷ steps ∷ place ∷ []
+runCause (Limit limit) = LIMIT ∷ limit ∷ []
 
 -- an answer a beside a state and a heap seen as v, as a run leaves them
-pub record Leaves (a : Answer) (v : View) (d : Done) : Type 0 where
+pub record Leaves (a : RunAnswer) (v : View) (d : Done) : Type 0 where
   pub answer : a ≡ d .answer
-  pub cause : causeOf a ≡ causeOf (d .answer)
+  pub cause : runCause a ≡ runCause (d .answer)
   pub last : v ≡ d .last .state

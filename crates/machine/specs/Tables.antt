@@ -7,7 +7,7 @@ use lib.Dec.{ltb, eqb}
 use Rattle.records.specs.declared.code.Fields.{Fields}
 use Rattle.word.specs.Words.{signs}
 use Rattle.machine_step.specs.View.{putReg}
-use Rattle.machine_step.specs.Step.{Config, Outcome, next, jump, fault, changed, dropped, arithmetic, move, compare, divide, branch, push, pop, call, return}
+use Rattle.machine_step.specs.Step.{Config, Outcome, next, jump, fault, changed, dropped, calculate, move, compare, divide, branch, push, pop, call, return}
 use Rattle.machine_step.specs.Forms.{operandOf, resultOf, holdsOf}
 
 -- a conditional jump's condition stands as its target's form
@@ -18,7 +18,7 @@ tabled =
 -- the operation n, where t and u are the forms of its operands
 unfoldable pub performed : (ℕ → ℕ) → ℕ → ℕ → ℕ → Fields → Config → Outcome
 performed words n t u f c =
-    cond (ltb n 3) (arithmetic (resultOf n) (operandOf t f) (operandOf u f) c)
+    cond (ltb n 3) (calculate (resultOf n) (operandOf t f) (operandOf u f) c)
     (cond (eqb n 3) (move (operandOf t f) (operandOf u f) c)
     (cond (eqb n 4) (compare (operandOf t f) (operandOf u f) c)
     (cond (eqb n 5) (divide (operandOf u f) c)

@@ -26,9 +26,9 @@ trialOf (Took w) s q calls = took (outcomeOf w s q calls)
 trialOf (Malformed place) s q calls = refused place (config s q calls)
 
 -- document 01's number and values: 0 where the instruction is performed; a fault comes after no step, at place 1
-abbrev pub causeOf : Trial → List ℕ
-causeOf (took (next c)) = ACCEPTED ∷ []
-causeOf (took (jump label c)) = ACCEPTED ∷ []
-causeOf (took (end c)) = ACCEPTED ∷ []
-causeOf (took (fault c)) = FAULT ∷ 0 ∷ 1 ∷ []
-causeOf (refused place c) = MALFORMED ∷ place ∷ []
+abbrev pub stepCause : Trial → List ℕ
+stepCause (took (next c)) = ACCEPTED ∷ []
+stepCause (took (jump label c)) = ACCEPTED ∷ []
+stepCause (took (end c)) = ACCEPTED ∷ []
+stepCause (took (fault c)) = FAULT ∷ 0 ∷ 1 ∷ []
+stepCause (refused place c) = MALFORMED ∷ place ∷ []

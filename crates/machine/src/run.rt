@@ -7,7 +7,7 @@ ghost use Rattle.machine_step.specs.View.{view, wordsOf};
 ghost use Rattle.machine.specs.Run as is;
 ghost use Rattle.machine.specs.State.{see};
 ghost use Rattle.machine_step.specs.Memory.{heapOk};
-ghost use Rattle.machine.specs.Loop.{Listed, First, turnOf, Turns, EndsBy};
+ghost use Rattle.machine.specs.Loop.{ListedCodes, First, turnOf, Turns, EndsBy};
 use crate::state::State;
 use crate::step;
 use crate::step::Tried;
@@ -20,7 +20,7 @@ use records::code;
 use records::code::CodeRead;
 
 // The steps of a run that ended; document 01's 2 with the place; 11 with the steps before the fault and the record's place; 12 with the limit.
-pub enum Answer {
+pub enum RunAnswer {
     Ended(u64),
     Malformed(usize),
     Fault(u64, usize),
@@ -29,7 +29,7 @@ pub enum Answer {
 
 pub struct Ran {
     pub state: State,
-    pub answer: Answer,
+    pub answer: RunAnswer,
 }
 
 // Where a jump goes.
@@ -47,7 +47,7 @@ pub enum Turn {
 
 // The first LAB with the label from record k on, or n.
 fn first(s: &[u8], n: usize, k: usize, label: u32) -> usize
-    requires { ⌜ Listed (now s) n × (k ≤ n) ⌝ }
+    requires { ⌜ ListedCodes (now s) n × (k ≤ n) ⌝ }
     ensures { λ r. ⌜ First label (now (s .entry)) n k r ⌝ }
 {
     let mut i = k;
@@ -65,7 +65,7 @@ fn first(s: &[u8], n: usize, k: usize, label: u32) -> usize
 
 // The one LAB with the label.
 fn find(s: &[u8], n: usize, label: u32) -> Found
-    requires { ⌜ Listed (now s) n ⌝ }
+    requires { ⌜ ListedCodes (now s) n ⌝ }
     ensures { λ r. ⌜ r ≡ is.find label (is.codesOf n (now (s .entry))) ⌝ }
 {
     let k = first(s, n, 0, label);
@@ -79,7 +79,7 @@ fn find(s: &[u8], n: usize, label: u32) -> Found
 }
 
 fn follow(s: &[u8], n: usize, place: usize, went: Went) -> Turn
-    requires { ⌜ Listed (now s) n × (place < n) ⌝ }
+    requires { ⌜ ListedCodes (now s) n × (place < n) ⌝ }
     ensures { λ r. ⌜ r ≡ turnOf (is.codesOf n (now (s .entry))) place went ⌝ }
 {
     match went {
@@ -112,7 +112,7 @@ fn take_step(
     compared: Compared,
     words: [u64; 9],
 ) -> Turned
-    requires { ⌜ Listed (now s) n × (place < n) × (heapOk block (length (now heap)) ≡ true) ⌝ }
+    requires { ⌜ ListedCodes (now s) n × (place < n) × (heapOk block (length (now heap)) ≡ true) ⌝ }
     ensures { λ r. ⌜ Turns (wordsOf words) n (now (s .entry)) place (see state (now (heap .entry))) compared (see (r .state) (now (heap .exit))) (r .compared) (r .turn) ⌝ }
 {
     match code::read_code(s, place) {
@@ -152,7 +152,7 @@ fn turns(
     words: [u64; 9],
     limit: u64,
 ) -> Ran
-    requires { ⌜ Listed (now s) n × (heapOk block (length (now heap)) ≡ true) ⌝ }
+    requires { ⌜ ListedCodes (now s) n × (heapOk block (length (now heap)) ≡ true) ⌝ }
     ensures { λ r. ⌜ EndsBy (see (r .state) (now (heap .exit))) (r .answer) (is.started (wordsOf words) (is.codesOf n (now (s .entry))) limit (see state (now (heap .entry)))) ⌝ }
 {
     let mut at = state;
@@ -163,7 +163,7 @@ fn turns(
         if limit <= done {
             return Ran {
                 state: at,
-                answer: Answer::Limit(done),
+                answer: RunAnswer::Limit(done),
             };
         }
         let t = take_step(block, s, n, place, at, heap, compared, words);
@@ -179,17 +179,17 @@ fn turns(
             }
             Turn::End => return Ran {
                 state: left,
-                answer: Answer::Ended(done + 1),
+                answer: RunAnswer::Ended(done + 1),
             },
             Turn::Fault => return Ran {
                 state: left,
-                answer: Answer::Fault(done, place + 1),
+                answer: RunAnswer::Fault(done, place + 1),
             },
         }
     }
     Ran {
         state: at,
-        answer: Answer::Ended(done),
+        answer: RunAnswer::Ended(done),
     }
 }
 
@@ -202,8 +202,8 @@ fn steps(
     heap: &mut [u64],
     words: &[u64; 9],
     limit: u64,
-) -> Answer
-    requires { ⌜ Listed (now s) n × (length (now registers) ≡ 16) ⌝ }
+) -> RunAnswer
+    requires { ⌜ ListedCodes (now s) n × (length (now registers) ≡ 16) ⌝ }
     ensures { λ r. ⌜ EndsBy (view (now (registers .exit)) (now (stack .exit)) (now (heap .exit))) r (is.started (wordsOf (now (words .entry))) (is.codesOf n (now (s .entry))) limit (view (now (registers .entry)) (now (stack .entry)) (now (heap .entry)))) ⌝ }
 {
     let kinds = step::KINDS;
@@ -212,7 +212,7 @@ fn steps(
     let mut done = 0;
     while place < n {
         if limit <= done {
-            return Answer::Limit(done);
+            return RunAnswer::Limit(done);
         }
         let f = code::fields_at(s, 24 * place);
         let m = step::act(&kinds, f, registers, stack, heap, words, pair);
@@ -223,11 +223,11 @@ fn steps(
                 pair = m.pair;
                 done += 1;
             }
-            Turn::End => return Answer::Ended(done + 1),
-            Turn::Fault => return Answer::Fault(done, place + 1),
+            Turn::End => return RunAnswer::Ended(done + 1),
+            Turn::Fault => return RunAnswer::Fault(done, place + 1),
         }
     }
-    Answer::Ended(done)
+    RunAnswer::Ended(done)
 }
 
 // Document 01's run, where a block has so many words. Each step takes the state and returns it, `words` are what print calls leave, and the answer stands
@@ -245,13 +245,13 @@ pub fn run(
     if memory::heap_ok(block, heap.len()) {} else {
         return Ran {
             state,
-            answer: Answer::Malformed(0),
+            answer: RunAnswer::Malformed(0),
         };
     }
     match code::check_codes(records, 65536) {
         Checked::Malformed(place) => Ran {
             state,
-            answer: Answer::Malformed(place),
+            answer: RunAnswer::Malformed(place),
         },
         Checked::Good(n) => turns(block, records, n, state, heap, words, limit),
     }
@@ -273,14 +273,14 @@ pub fn run_lent(
     heap: &mut [u64],
     words: &[u64; 9],
     limit: u64,
-) -> Answer
+) -> RunAnswer
     ensures { λ r. ⌜ is.Leaves r (view (now (registers .exit)) (now (stack .exit)) (now (heap .exit))) (is.ran block (wordsOf (now (words .entry))) (now (records .entry)) limit (view (now (registers .entry)) (now (stack .entry)) (now (heap .entry)))) ⌝ }
 {
     if memory::heap_ok(block, heap.len()) {} else {
-        return Answer::Malformed(0);
+        return RunAnswer::Malformed(0);
     }
     match code::check_codes(records, 65536) {
-        Checked::Malformed(place) => Answer::Malformed(place),
+        Checked::Malformed(place) => RunAnswer::Malformed(place),
         Checked::Good(n) => {
             whole(registers);
             steps(records, n, registers, stack, heap, words, limit)

@@ -10,10 +10,10 @@ ghost use Rattle.records.specs.Instructions.{fieldsOk};
 ghost use Rattle.machine_step.specs.View.{wordsOf};
 ghost use Rattle.machine_step.specs.Step as is;
 ghost use Rattle.machine_step.specs.Step.{Call, config};
-ghost use Rattle.machine_step.specs.Forms.{comparedOf, Goes};
+ghost use Rattle.machine_step.specs.Forms.{comparedOf, Acts};
 ghost use Rattle.machine.specs.State.{see};
 ghost use Rattle.machine.specs.Tables.{tabled, performed};
-ghost use Rattle.machine.specs.Trial.{trial, trialOf, causeOf};
+ghost use Rattle.machine.specs.Trial.{trial, trialOf, stepCause};
 use crate::state::State;
 use machine_step::instruction;
 use machine_step::instruction::Compared;
@@ -101,7 +101,7 @@ fn perform(
     pair: Pair,
 ) -> Moved
     requires { ⌜ (f .a < 16) × (f .b < 16) × (length (now registers) ≡ 16) ⌝ }
-    ensures { λ r. ⌜ Goes (now (registers .entry)) (now (stack .entry)) (now (heap .entry)) (now (registers .exit)) (now (stack .exit)) (now (heap .exit)) pair r (performed (wordsOf (now (words .entry))) n t u f) ⌝ }
+    ensures { λ r. ⌜ Acts (now (registers .entry)) (now (stack .entry)) (now (heap .entry)) (now (registers .exit)) (now (stack .exit)) (now (heap .exit)) pair r (performed (wordsOf (now (words .entry))) n t u f) ⌝ }
 {
     match n {
         0..=2 => instruction::calculate(n, t, u, f, registers, stack, heap, pair),
@@ -140,7 +140,7 @@ pub fn act(
     pair: Pair,
 ) -> Moved
     requires { ⌜ (now kinds ≡ tabled) × (fieldsOk f ≡ true) × (length (now registers) ≡ 16) ⌝ }
-    ensures { λ r. ⌜ Goes (now (registers .entry)) (now (stack .entry)) (now (heap .entry)) (now (registers .exit)) (now (stack .exit)) (now (heap .exit)) pair r (is.step (wordsOf (now (words .entry))) (codeOf f)) ⌝ }
+    ensures { λ r. ⌜ Acts (now (registers .entry)) (now (stack .entry)) (now (heap .entry)) (now (registers .exit)) (now (stack .exit)) (now (heap .exit)) pair r (is.step (wordsOf (now (words .entry))) (codeOf f)) ⌝ }
 {
     let kind = kinds[(f.code as usize) - 1];
     let n = (kind / 256 % 16) as u8;
@@ -178,7 +178,7 @@ pub fn step(
     compared: Compared,
     words: [u64; 9],
 ) -> Stepped
-    ensures { λ r. ⌜ ((calls : List Call) → AnswersBy causeOf (trialOf (r .tried) (see (r .state) (now (heap .exit))) (r .compared) calls) (trial block (wordsOf words) code (config (see state (now (heap .entry))) compared calls))) ⌝ }
+    ensures { λ r. ⌜ ((calls : List Call) → AnswersBy stepCause (trialOf (r .tried) (see (r .state) (now (heap .exit))) (r .compared) calls) (trial block (wordsOf words) code (config (see state (now (heap .entry))) compared calls))) ⌝ }
 {
     if memory::heap_ok(block, heap.len()) {} else {
         return Stepped {

@@ -6,14 +6,14 @@ use mathlib.Core.Option.{Option, none, some}
 use lib.Dec.{eqb}
 use Rattle.records.specs.declared.code.Code.{Code}
 use Rattle.records.specs.declared.code.Code.the-variants.{ADD, ADDRM, ADDMR, ADDI, ADDIM, SUB, SUBRM, SUBMR, SUBI, IMUL, IMULRM, IMULMR, IDIV, IDIVM, CQO, JMP, JMPL, JMPLN, LEAL, MOV, MOVS, MOVL, MOVI, MOVIM, CMP, CMPRM, CMPMR, CMPI, CMPIM, JEL, JNEL, JLL, JLEL, JGL, JGEL, PUSH, POP, CALL, RET, LAB, NOEXECSTACK, TEXT, GLOBAL, EXTERN}
-use Rattle.machine_step.specs.declared.memory.Loaded.{Loaded}
-use Rattle.machine_step.specs.declared.memory.Loaded.the-variants.{Word, Nothing}
+use Rattle.machine_step.specs.declared.memory.Fetched.{Fetched}
+use Rattle.machine_step.specs.declared.memory.Fetched.the-variants.{Word, Nothing}
 use Rattle.machine_step.specs.declared.instruction.Compared.{Compared}
 use Rattle.machine_step.specs.declared.instruction.Compared.the-variants.{Absent, Of}
 use Rattle.machine_step.specs.View.{View, putReg}
 use Rattle.word.specs.Words.{sum, difference, product, divides, less}
 use Rattle.machine_step.specs.Memory.{Operand, register, memory, immediate, load, store, valueOf, assigned}
-use Rattle.machine_step.specs.Step.{Config, Outcome, next, jump, end, fault, dropped, onWord, onState, onPair, arithmetic, move, compare, divide, branch, push, pop, printName, call, return, step}
+use Rattle.machine_step.specs.Step.{Config, Outcome, next, jump, end, fault, dropped, onWord, onState, onPair, calculate, move, compare, divide, branch, push, pop, isPrintName, call, return, step}
 
 pub data Flow : Type 0 where
   plain : Flow
@@ -91,7 +91,7 @@ module _ (c : Config) where
   abbrev Plain : Outcome → Type 0
   Plain o = o ≡ plainly c o
 
-  word-plain : (l : Loaded) (k : ℕ → Outcome) → ((w : ℕ) → Plain (k w)) → Plain (onWord c l k)
+  word-plain : (l : Fetched) (k : ℕ → Outcome) → ((w : ℕ) → Plain (k w)) → Plain (onWord c l k)
   word-plain (Word w) k h = h w
   word-plain Nothing k h = refl
 
@@ -103,7 +103,7 @@ module _ (c : Config) where
   test-plain true d = refl
   test-plain false d = refl
 
-  arithmetic-plain : (f : ℕ → ℕ → ℕ) (dest src : Operand) → Plain (arithmetic f dest src c)
+  arithmetic-plain : (f : ℕ → ℕ → ℕ) (dest src : Operand) → Plain (calculate f dest src c)
   arithmetic-plain f dest src = word-plain (valueOf (c .state) src) _ (λ y. word-plain (valueOf (c .state) dest) _ (λ x. state-plain (assigned (c .state) dest (f x y)) _))
 
   move-plain : (dest src : Operand) → Plain (move dest src c)
@@ -203,7 +203,7 @@ module _ (c : Config) where
   flow-still words (jumps label) o = refl
   flow-still words (branches holds label) o = pair-still (c .pair) holds label
   flow-still words (mark label) o = tt
-  flow-still words (calling label) o = next-still (printName label && eqb (c .state .reg 0 % 16) 0) _
+  flow-still words (calling label) o = next-still (isPrintName label && eqb (c .state .reg 0 % 16) 0) _
   flow-still words returning o = end-still (eqb (c .state .reg 0) 1099511627768) _
   flow-still words stops o = tt
 

@@ -11,9 +11,9 @@ use lib.Seq.{getD-set-same, getD-set-other}
 use borrow.Author.Tests.{eqb-true, eqb-false, ltb-true, ltb-false, lt-ltb}
 use Rattle.machine_step.specs.declared.memory.Place.{Place}
 use Rattle.machine_step.specs.declared.memory.Place.the-variants.{Stack, Heap, Nowhere}
-use Rattle.machine_step.specs.declared.memory.Loaded.the-variants.{Word}
+use Rattle.machine_step.specs.declared.memory.Fetched.the-variants.{Word}
 use Rattle.machine_step.specs.View.{View, view, wordsOf, fromEnd, upd, putReg, putStk, putMem}
-use Rattle.machine_step.specs.Memory.{placeOf, wordAt, store}
+use Rattle.machine_step.specs.Memory.{placeOf, wordIn, store}
 use Rattle.machine_step.specs.Forms.{Inside, Wrote, Sized}
 
 pub words-set : (l : List ℕ) (i v : ℕ) → i < length l → wordsOf (set l i v) ≡ upd (wordsOf l) i v
@@ -49,10 +49,10 @@ in-stack size e h = rw e at h
 pub in-heap : (depth : ℕ) {size i : ℕ} {p : Place} → p ≡ Heap i → Inside depth size p → i < size
 in-heap depth e h = rw e at h
 
-pub loads : (stk mem : ℕ → ℕ) {p q r : Place} → p ≡ r → p ≡ q → wordAt stk mem q ≡ wordAt stk mem r
-loads stk mem e f = ap (wordAt stk mem) (sym f ∙ e)
+pub loads : (stk mem : ℕ → ℕ) {p q r : Place} → p ≡ r → p ≡ q → wordIn stk mem q ≡ wordIn stk mem r
+loads stk mem e f = ap (wordIn stk mem) (sym f ∙ e)
 
-pub loads-stack : (S : List ℕ) (mem : ℕ → ℕ) {p r : Place} {i j : ℕ} → p ≡ r → p ≡ Stack i → i < length S → j ≡ length S - suc i → Word (getD S j 0) ≡ wordAt (fromEnd S) mem r
+pub loads-stack : (S : List ℕ) (mem : ℕ → ℕ) {p r : Place} {i j : ℕ} → p ≡ r → p ≡ Stack i → i < length S → j ≡ length S - suc i → Word (getD S j 0) ≡ wordIn (fromEnd S) mem r
 loads-stack S mem {i = i} e f h q = rw (← e, f, lt-ltb i (length S) h, q)
 
 pub wrote : {s t : View} {o : Option View} → o ≡ some t → Wrote s o t true

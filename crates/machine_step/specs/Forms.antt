@@ -62,6 +62,6 @@ pub record Sized (depth : ℕ) (R S : List ℕ) : Type 0 where
   pub stack : length S ≡ depth
 
 -- registers R, stack S and heap H went to R′, S′, H′ with an answer, by the outcome o
-pub record Goes (R S H R′ S′ H′ : List ℕ) (p : Pair) (m : Moved) (o : Config → Outcome) : Type 0 where
+pub record Acts (R S H R′ S′ H′ : List ℕ) (p : Pair) (m : Moved) (o : Config → Outcome) : Type 0 where
   pub sized : Sized (length S) R′ S′
   pub goes : (calls : List Call) → outcomeOf (m .went) (view R′ S′ H′) (comparedOf (m .pair)) calls ≡ o (config (view R S H) (comparedOf p) calls)

@@ -6,8 +6,8 @@ use mathlib.Core.Option.{Option, none, some}
 use lib.Dec.{leb, ltb, eqb}
 use Rattle.machine_step.specs.declared.memory.Place.{Place}
 use Rattle.machine_step.specs.declared.memory.Place.the-variants.{Stack, Heap, Nowhere}
-use Rattle.machine_step.specs.declared.memory.Loaded.{Loaded}
-use Rattle.machine_step.specs.declared.memory.Loaded.the-variants.{Word, Nothing}
+use Rattle.machine_step.specs.declared.memory.Fetched.{Fetched}
+use Rattle.machine_step.specs.declared.memory.Fetched.the-variants.{Word, Nothing}
 use Rattle.machine_step.specs.View.{View, putReg, putStk, putMem}
 use Rattle.word.specs.Words.{sum}
 
@@ -35,18 +35,18 @@ placeOf depth size address =
     Nowhere
 
 -- among the stack's and the heap's words
-abbrev pub wordAt : (ℕ → ℕ) → (ℕ → ℕ) → Place → Loaded
-wordAt stk mem (Stack i) = Word (stk i)
-wordAt stk mem (Heap i) = Word (mem i)
-wordAt stk mem Nowhere = Nothing
+abbrev pub wordIn : (ℕ → ℕ) → (ℕ → ℕ) → Place → Fetched
+wordIn stk mem (Stack i) = Word (stk i)
+wordIn stk mem (Heap i) = Word (mem i)
+wordIn stk mem Nowhere = Nothing
 
 abbrev pub putAt : View → Place → ℕ → Option View
 putAt s (Stack i) v = some (putStk s i v)
 putAt s (Heap i) v = some (putMem s i v)
 putAt s Nowhere v = none
 
-abbrev pub load : View → ℕ → Loaded
-load s address = wordAt (s .stk) (s .mem) (placeOf (s .depth) (s .size) address)
+abbrev pub load : View → ℕ → Fetched
+load s address = wordIn (s .stk) (s .mem) (placeOf (s .depth) (s .size) address)
 
 abbrev pub store : View → ℕ → ℕ → Option View
 store s address v = putAt s (placeOf (s .depth) (s .size) address) v
@@ -57,7 +57,7 @@ pub data Operand : Type 0 where
   memory : ℕ → ℕ → Operand
   immediate : ℕ → Operand
 
-abbrev pub valueOf : View → Operand → Loaded
+abbrev pub valueOf : View → Operand → Fetched
 valueOf s (register a) = Word (s .reg a)
 valueOf s (memory a offset) = load s (sum (s .reg a) offset)
 valueOf s (immediate v) = Word v

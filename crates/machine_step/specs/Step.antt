@@ -7,8 +7,8 @@ use mathlib.Core.Option.{Option, none, some}
 use lib.Dec.{eqb}
 use Rattle.records.specs.declared.code.Code.{Code}
 use Rattle.records.specs.declared.code.Code.the-variants.{ADD, ADDRM, ADDMR, ADDI, ADDIM, SUB, SUBRM, SUBMR, SUBI, IMUL, IMULRM, IMULMR, IDIV, IDIVM, CQO, JMP, JMPL, JMPLN, LEAL, MOV, MOVS, MOVL, MOVI, MOVIM, CMP, CMPRM, CMPMR, CMPI, CMPIM, JEL, JNEL, JLL, JLEL, JGL, JGEL, PUSH, POP, CALL, RET, LAB, NOEXECSTACK, TEXT, GLOBAL, EXTERN}
-use Rattle.machine_step.specs.declared.memory.Loaded.{Loaded}
-use Rattle.machine_step.specs.declared.memory.Loaded.the-variants.{Word, Nothing}
+use Rattle.machine_step.specs.declared.memory.Fetched.{Fetched}
+use Rattle.machine_step.specs.declared.memory.Fetched.the-variants.{Word, Nothing}
 use Rattle.machine_step.specs.declared.instruction.Compared.{Compared}
 use Rattle.machine_step.specs.declared.instruction.Compared.the-variants.{Absent, Of}
 use Rattle.machine_step.specs.declared.instruction.Went.{Went}
@@ -50,7 +50,7 @@ moved c s = config s (c .pair) (c .calls)
 abbrev pub dropped : Config → Config
 dropped c = changed c (c .state)
 
-abbrev pub onWord : Config → Loaded → (ℕ → Outcome) → Outcome
+abbrev pub onWord : Config → Fetched → (ℕ → Outcome) → Outcome
 onWord c (Word w) k = k w
 onWord c Nothing k = fault c
 
@@ -63,8 +63,8 @@ onPair c (Of x y) k = k x y
 onPair c Absent k = fault c
 
 -- DEST ← f DEST SRC
-abbrev pub arithmetic : (ℕ → ℕ → ℕ) → Operand → Operand → Config → Outcome
-arithmetic f dest src c =
+abbrev pub calculate : (ℕ → ℕ → ℕ) → Operand → Operand → Config → Outcome
+calculate f dest src c =
     onWord c (valueOf (c .state) src)
     (λ y. onWord c (valueOf (c .state) dest) (λ x. onState c (assigned (c .state) dest (f x y)) (λ s. next (changed c s))))
 
@@ -101,18 +101,18 @@ abbrev pub pop : ℕ → Config → Outcome
 pop a c = onWord c (load (c .state) (c .state .reg 0)) (λ w. next (changed c (putReg (putReg (c .state) 0 (sum (c .state .reg 0) 8)) a w)))
 
 -- PRINT_I64 and PRINTLN_I64
-abbrev pub printName : ℕ → Bool
-printName label = eqb label PRINTI64 || eqb label PRINTLNI64
+abbrev pub isPrintName : ℕ → Bool
+isPrintName label = eqb label PRINTI64 || eqb label PRINTLNI64
 
 -- what a print leaves: the nine lent words in registers 1 and 4..11
-abbrev pub printed : (ℕ → ℕ) → View → View
-printed words s =
+abbrev pub afterPrint : (ℕ → ℕ) → View → View
+afterPrint words s =
     record { reg = upd (upd (upd (upd (upd (upd (upd (upd (upd (s .reg) 1 (words 0)) 4 (words 1)) 5 (words 2)) 6 (words 3)) 7 (words 4)) 8 (words 5)) 9 (words 6)) 10 (words 7)) 11 (words 8); stk = s .stk; mem = s .mem; depth = s .depth; size = s .size }
 
 abbrev pub call : (ℕ → ℕ) → ℕ → Config → Outcome
 call words label c =
-    cond (printName label && eqb (c .state .reg 0 % 16) 0)
-    (next (config (printed words (c .state)) Absent (c .calls ++ (record { name = label; number = c .state .reg 7 } ∷ []))))
+    cond (isPrintName label && eqb (c .state .reg 0 % 16) 0)
+    (next (config (afterPrint words (c .state)) Absent (c .calls ++ (record { name = label; number = c .state .reg 7 } ∷ []))))
     (fault c)
 
 -- only at 2^40 − 8
@@ -121,18 +121,18 @@ return c = cond (eqb (c .state .reg 0) stackEntry) (end (changed c (putReg (c .s
 
 -- the instruction, where print calls leave the nine words
 unfoldable pub step : (ℕ → ℕ) → Code → Config → Outcome
-step words (ADD a b) c = arithmetic sum (register a) (register b) c
-step words (ADDRM a b offset) c = arithmetic sum (register a) (memory b offset) c
-step words (ADDMR a offset b) c = arithmetic sum (memory a offset) (register b) c
-step words (ADDI a value) c = arithmetic sum (register a) (immediate value) c
-step words (ADDIM a offset value) c = arithmetic sum (memory a offset) (immediate value) c
-step words (SUB a b) c = arithmetic difference (register a) (register b) c
-step words (SUBRM a b offset) c = arithmetic difference (register a) (memory b offset) c
-step words (SUBMR a offset b) c = arithmetic difference (memory a offset) (register b) c
-step words (SUBI a value) c = arithmetic difference (register a) (immediate value) c
-step words (IMUL a b) c = arithmetic product (register a) (register b) c
-step words (IMULRM a b offset) c = arithmetic product (register a) (memory b offset) c
-step words (IMULMR a offset b) c = arithmetic product (memory a offset) (register b) c
+step words (ADD a b) c = calculate sum (register a) (register b) c
+step words (ADDRM a b offset) c = calculate sum (register a) (memory b offset) c
+step words (ADDMR a offset b) c = calculate sum (memory a offset) (register b) c
+step words (ADDI a value) c = calculate sum (register a) (immediate value) c
+step words (ADDIM a offset value) c = calculate sum (memory a offset) (immediate value) c
+step words (SUB a b) c = calculate difference (register a) (register b) c
+step words (SUBRM a b offset) c = calculate difference (register a) (memory b offset) c
+step words (SUBMR a offset b) c = calculate difference (memory a offset) (register b) c
+step words (SUBI a value) c = calculate difference (register a) (immediate value) c
+step words (IMUL a b) c = calculate product (register a) (register b) c
+step words (IMULRM a b offset) c = calculate product (register a) (memory b offset) c
+step words (IMULMR a offset b) c = calculate product (memory a offset) (register b) c
 step words (IDIV a) c = divide (register a) c
 step words (IDIVM a offset) c = divide (memory a offset) c
 step words CQO c = next (changed c (putReg (c .state) 5 (signs (c .state .reg 4))))

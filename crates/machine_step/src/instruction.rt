@@ -6,14 +6,14 @@ ghost use lib.ListN.{length};
 ghost use Rattle.word.specs.Words.{signs};
 ghost use Rattle.machine_step.specs.View.{view, wordsOf, putReg};
 ghost use Rattle.machine_step.specs.Step as is;
-ghost use Rattle.machine_step.specs.Forms.{operandOf, resultOf, holdsOf, Goes};
+ghost use Rattle.machine_step.specs.Forms.{operandOf, resultOf, holdsOf, Acts};
 use crate::memory;
-use crate::memory::Loaded;
+use crate::memory::Fetched;
 use crate::operand::assign;
 use crate::operand::operand;
-use records::name::PRINTLN_I64;
-use records::name::PRINT_I64;
 use records::code::Fields;
+use records::name::PRINT_I64;
+use records::name::PRINTLN_I64;
 
 // The last compare's two words, where only moves came since.
 pub enum Compared {
@@ -85,19 +85,19 @@ pub fn calculate(
     pair: Pair,
 ) -> Moved
     requires { ⌜ (f .a < 16) × (f .b < 16) × (length (now registers) ≡ 16) ⌝ }
-    ensures { λ r. ⌜ Goes (now (registers .entry)) (now (stack .entry)) (now (heap .entry)) (now (registers .exit)) (now (stack .exit)) (now (heap .exit)) pair r (is.arithmetic (resultOf n) (operandOf t f) (operandOf u f)) ⌝ }
+    ensures { λ r. ⌜ Acts (now (registers .entry)) (now (stack .entry)) (now (heap .entry)) (now (registers .exit)) (now (stack .exit)) (now (heap .exit)) pair r (is.calculate (resultOf n) (operandOf t f) (operandOf u f)) ⌝ }
 {
     match operand(u, f, registers, stack, heap) {
-        Loaded::Nothing => Moved {
+        Fetched::Nothing => Moved {
             went: Went::Fault,
             pair,
         },
-        Loaded::Word(y) => match operand(t, f, registers, stack, heap) {
-            Loaded::Nothing => Moved {
+        Fetched::Word(y) => match operand(t, f, registers, stack, heap) {
+            Fetched::Nothing => Moved {
                 went: Went::Fault,
                 pair,
             },
-            Loaded::Word(x) => {
+            Fetched::Word(x) => {
                 if assign(t, f, registers, stack, heap, result(n, x, y)) {
                     Moved {
                         went: Went::Next,
@@ -124,14 +124,14 @@ pub fn transfer(
     pair: Pair,
 ) -> Moved
     requires { ⌜ (f .a < 16) × (f .b < 16) × (length (now registers) ≡ 16) ⌝ }
-    ensures { λ r. ⌜ Goes (now (registers .entry)) (now (stack .entry)) (now (heap .entry)) (now (registers .exit)) (now (stack .exit)) (now (heap .exit)) pair r (is.move (operandOf t f) (operandOf u f)) ⌝ }
+    ensures { λ r. ⌜ Acts (now (registers .entry)) (now (stack .entry)) (now (heap .entry)) (now (registers .exit)) (now (stack .exit)) (now (heap .exit)) pair r (is.move (operandOf t f) (operandOf u f)) ⌝ }
 {
     match operand(u, f, registers, stack, heap) {
-        Loaded::Nothing => Moved {
+        Fetched::Nothing => Moved {
             went: Went::Fault,
             pair,
         },
-        Loaded::Word(y) => {
+        Fetched::Word(y) => {
             if assign(t, f, registers, stack, heap, y) {
                 Moved {
                     went: Went::Next,
@@ -157,19 +157,19 @@ pub fn compare(
     pair: Pair,
 ) -> Moved
     requires { ⌜ (f .a < 16) × (f .b < 16) × (length (now registers) ≡ 16) ⌝ }
-    ensures { λ r. ⌜ Goes (now (registers .entry)) (now (stack .entry)) (now (heap .entry)) (now (registers .entry)) (now (stack .entry)) (now (heap .entry)) pair r (is.compare (operandOf t f) (operandOf u f)) ⌝ }
+    ensures { λ r. ⌜ Acts (now (registers .entry)) (now (stack .entry)) (now (heap .entry)) (now (registers .entry)) (now (stack .entry)) (now (heap .entry)) pair r (is.compare (operandOf t f) (operandOf u f)) ⌝ }
 {
     match operand(u, f, registers, stack, heap) {
-        Loaded::Nothing => Moved {
+        Fetched::Nothing => Moved {
             went: Went::Fault,
             pair,
         },
-        Loaded::Word(y) => match operand(t, f, registers, stack, heap) {
-            Loaded::Nothing => Moved {
+        Fetched::Word(y) => match operand(t, f, registers, stack, heap) {
+            Fetched::Nothing => Moved {
                 went: Went::Fault,
                 pair,
             },
-            Loaded::Word(x) => Moved {
+            Fetched::Word(x) => Moved {
                 went: Went::Next,
                 pair: Pair { made: 1, x, y },
             },
@@ -186,14 +186,14 @@ pub fn divide(
     pair: Pair,
 ) -> Moved
     requires { ⌜ (f .a < 16) × (f .b < 16) × (length (now registers) ≡ 16) ⌝ }
-    ensures { λ r. ⌜ Goes (now (registers .entry)) (now (stack .entry)) (now (heap .entry)) (now (registers .exit)) (now (stack .entry)) (now (heap .entry)) pair r (is.divide (operandOf u f)) ⌝ }
+    ensures { λ r. ⌜ Acts (now (registers .entry)) (now (stack .entry)) (now (heap .entry)) (now (registers .exit)) (now (stack .entry)) (now (heap .entry)) pair r (is.divide (operandOf u f)) ⌝ }
 {
     match operand(u, f, registers, stack, heap) {
-        Loaded::Nothing => Moved {
+        Fetched::Nothing => Moved {
             went: Went::Fault,
             pair,
         },
-        Loaded::Word(d) => {
+        Fetched::Word(d) => {
             let low = registers[4];
             if word::divides(registers[5], low, d) {
                 registers[4] = word::quotient(low, d);
@@ -215,7 +215,7 @@ pub fn divide(
 // CQO.
 pub fn extend(registers: &mut [u64; 16], pair: Pair) -> Moved
     requires { ⌜ length (now registers) ≡ 16 ⌝ }
-    ensures { λ r. ⌜ ((S H : List ℕ) → Goes (now (registers .entry)) S H (now (registers .exit)) S H pair r (λ c. is.next (is.changed c (putReg (c .state) 5 (signs (c .state .reg 4)))))) ⌝ }
+    ensures { λ r. ⌜ ((S H : List ℕ) → Acts (now (registers .entry)) S H (now (registers .exit)) S H pair r (λ c. is.next (is.changed c (putReg (c .state) 5 (signs (c .state .reg 4)))))) ⌝ }
 {
     registers[5] = word::signs(registers[4]);
     Moved {
@@ -225,7 +225,7 @@ pub fn extend(registers: &mut [u64; 16], pair: Pair) -> Moved
 }
 
 pub fn branch(n: u8, label: u32, pair: Pair) -> Moved
-    ensures { λ r. ⌜ ((R S H : List ℕ) → length R ≡ 16 → Goes R S H R S H pair r (is.branch (holdsOf n) label)) ⌝ }
+    ensures { λ r. ⌜ ((R S H : List ℕ) → length R ≡ 16 → Acts R S H R S H pair r (is.branch (holdsOf n) label)) ⌝ }
 {
     let made = pair.made;
     if made == 0 {
@@ -255,7 +255,7 @@ pub fn push(
     pair: Pair,
 ) -> Moved
     requires { ⌜ (a < 16) × (length (now registers) ≡ 16) ⌝ }
-    ensures { λ r. ⌜ Goes (now (registers .entry)) (now (stack .entry)) (now (heap .entry)) (now (registers .exit)) (now (stack .exit)) (now (heap .exit)) pair r (is.push a) ⌝ }
+    ensures { λ r. ⌜ Acts (now (registers .entry)) (now (stack .entry)) (now (heap .entry)) (now (registers .exit)) (now (stack .exit)) (now (heap .exit)) pair r (is.push a) ⌝ }
 {
     let i = a as usize;
     let address = word::difference(registers[0], 8);
@@ -275,15 +275,15 @@ pub fn push(
 
 pub fn pop(a: u8, registers: &mut [u64; 16], stack: &[u64], heap: &[u64], pair: Pair) -> Moved
     requires { ⌜ (a < 16) × (length (now registers) ≡ 16) ⌝ }
-    ensures { λ r. ⌜ Goes (now (registers .entry)) (now (stack .entry)) (now (heap .entry)) (now (registers .exit)) (now (stack .entry)) (now (heap .entry)) pair r (is.pop a) ⌝ }
+    ensures { λ r. ⌜ Acts (now (registers .entry)) (now (stack .entry)) (now (heap .entry)) (now (registers .exit)) (now (stack .entry)) (now (heap .entry)) pair r (is.pop a) ⌝ }
 {
     let i = a as usize;
     match memory::load(stack, heap, registers[0]) {
-        Loaded::Nothing => Moved {
+        Fetched::Nothing => Moved {
             went: Went::Fault,
             pair,
         },
-        Loaded::Word(w) => {
+        Fetched::Word(w) => {
             registers[0] = word::sum(registers[0], 8);
             registers[i] = w;
             Moved {
@@ -296,7 +296,7 @@ pub fn pop(a: u8, registers: &mut [u64; 16], stack: &[u64], heap: &[u64], pair: 
 
 // PRINT_I64 and PRINTLN_I64.
 fn print_name(label: u32) -> bool
-    ensures { λ r. ⌜ r ≡ is.printName label ⌝ }
+    ensures { λ r. ⌜ r ≡ is.isPrintName label ⌝ }
 {
     if label == PRINT_I64 {
         return true;
@@ -307,7 +307,7 @@ fn print_name(label: u32) -> bool
 // The words that a print leaves.
 fn lend(registers: &mut [u64; 16], words: &[u64; 9])
     requires { ⌜ length (now registers) ≡ 16 ⌝ }
-    ensures { λ r. ⌜ (length (now (registers .exit)) ≡ 16) × ((S H : List ℕ) → view (now (registers .exit)) S H ≡ is.printed (wordsOf (now (words .entry))) (view (now (registers .entry)) S H)) ⌝ }
+    ensures { λ r. ⌜ (length (now (registers .exit)) ≡ 16) × ((S H : List ℕ) → view (now (registers .exit)) S H ≡ is.afterPrint (wordsOf (now (words .entry))) (view (now (registers .entry)) S H)) ⌝ }
 {
     registers[1] = words[0];
     registers[4] = words[1];
@@ -322,7 +322,7 @@ fn lend(registers: &mut [u64; 16], words: &[u64; 9])
 
 pub fn call(label: u32, registers: &mut [u64; 16], words: &[u64; 9], pair: Pair) -> Moved
     requires { ⌜ length (now registers) ≡ 16 ⌝ }
-    ensures { λ r. ⌜ ((S H : List ℕ) → Goes (now (registers .entry)) S H (now (registers .exit)) S H pair r (is.call (wordsOf (now (words .entry))) label)) ⌝ }
+    ensures { λ r. ⌜ ((S H : List ℕ) → Acts (now (registers .entry)) S H (now (registers .exit)) S H pair r (is.call (wordsOf (now (words .entry))) label)) ⌝ }
 {
     if print_name(label) {} else {
         return Moved {
@@ -346,7 +346,7 @@ pub fn call(label: u32, registers: &mut [u64; 16], words: &[u64; 9], pair: Pair)
 
 pub fn finish(registers: &mut [u64; 16], pair: Pair) -> Moved
     requires { ⌜ length (now registers) ≡ 16 ⌝ }
-    ensures { λ r. ⌜ ((S H : List ℕ) → Goes (now (registers .entry)) S H (now (registers .exit)) S H pair r is.return) ⌝ }
+    ensures { λ r. ⌜ ((S H : List ℕ) → Acts (now (registers .entry)) S H (now (registers .exit)) S H pair r is.return) ⌝ }
 {
     if registers[0] == 1099511627768 {
         registers[0] = word::sum(registers[0], 8);

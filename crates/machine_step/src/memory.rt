@@ -5,7 +5,7 @@ ghost use Prim.Native.Nat.{ℕ};
 ghost use lib.ListN.{length};
 ghost use Rattle.machine_step.specs.View.{view, wordsOf, fromEnd};
 ghost use Rattle.machine_step.specs.Memory as is;
-ghost use Rattle.machine_step.specs.Memory.{heapOk, placeOf, wordAt};
+ghost use Rattle.machine_step.specs.Memory.{heapOk, placeOf, wordIn};
 ghost use Rattle.machine_step.specs.Forms.{Inside, Wrote};
 
 pub enum Place {
@@ -14,7 +14,7 @@ pub enum Place {
     Nowhere,
 }
 
-pub enum Loaded {
+pub enum Fetched {
     Word(u64),
     Nothing,
 }
@@ -59,13 +59,13 @@ fn place_of(depth: usize, size: usize, address: u64) -> Place
     Place::Nowhere
 }
 
-pub fn load(stack: &[u64], heap: &[u64], address: u64) -> Loaded
-    ensures { λ r. ⌜ r ≡ wordAt (fromEnd (now (stack .entry))) (wordsOf (now (heap .entry))) (placeOf (length (now (stack .entry))) (length (now (heap .entry))) address) ⌝ }
+pub fn load(stack: &[u64], heap: &[u64], address: u64) -> Fetched
+    ensures { λ r. ⌜ r ≡ wordIn (fromEnd (now (stack .entry))) (wordsOf (now (heap .entry))) (placeOf (length (now (stack .entry))) (length (now (heap .entry))) address) ⌝ }
 {
     match place_of(stack.len(), heap.len(), address) {
-        Place::Stack(k) => Loaded::Word(stack[stack.len() - 1 - k]),
-        Place::Heap(k) => Loaded::Word(heap[k]),
-        Place::Nowhere => Loaded::Nothing,
+        Place::Stack(k) => Fetched::Word(stack[stack.len() - 1 - k]),
+        Place::Heap(k) => Fetched::Word(heap[k]),
+        Place::Nowhere => Fetched::Nothing,
     }
 }
 

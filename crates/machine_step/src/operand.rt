@@ -6,7 +6,7 @@ ghost use Rattle.machine_step.specs.View.{view};
 ghost use Rattle.machine_step.specs.Memory.{valueOf, assigned};
 ghost use Rattle.machine_step.specs.Forms.{operandOf, named, Sized, Wrote};
 use crate::memory;
-use crate::memory::Loaded;
+use crate::memory::Fetched;
 use records::code::Fields;
 
 // The register that a form names, or whose word it adds the offset to: a for the even forms, b for the odd ones. Two comparisons and this choice
@@ -22,18 +22,18 @@ fn register_of(form: u8, f: Fields) -> usize
     }
 }
 
-pub fn operand(form: u8, f: Fields, registers: &[u64; 16], stack: &[u64], heap: &[u64]) -> Loaded
+pub fn operand(form: u8, f: Fields, registers: &[u64; 16], stack: &[u64], heap: &[u64]) -> Fetched
     requires { ⌜ (f .a < 16) × (f .b < 16) ⌝ }
     ensures { λ r. ⌜ r ≡ valueOf (view (now (registers .entry)) (now (stack .entry)) (now (heap .entry))) (operandOf form f) ⌝ }
 {
     let i = register_of(form, f);
     if form < 2 {
-        return Loaded::Word(registers[i]);
+        return Fetched::Word(registers[i]);
     }
     if form < 4 {
         return memory::load(stack, heap, word::sum(registers[i], f.offset));
     }
-    Loaded::Word(f.value)
+    Fetched::Word(f.value)
 }
 
 // Whether v was written.

@@ -24,6 +24,7 @@ use layout::config::Shape;
 use layout::config::Shaped;
 use layout::config::TEMP;
 use layout::utils::ENTRIES;
+use memory_store::store;
 use records::context;
 use records::context::ContextRead;
 use records::number::ADDIM;
@@ -32,7 +33,6 @@ use records::number::JEL;
 use records::number::JMPL;
 use records::number::LAB;
 use records::number::MOVL;
-use memory_store::store;
 
 fn one_if_linked(ext: bool) -> u64
     ensures { λ r. ⌜ (r ≡ oneIfLinked ext) × (r ≤ 1) ⌝ }
@@ -139,7 +139,16 @@ pub fn load_object(
     }
     let w = layout::utils::location_at(table, 2 * v);
     let q = into_register(out, p, g, w);
-    load_counted(out, q, g, table, kinds, v, n, layout::utils::register_for(w))
+    load_counted(
+        out,
+        q,
+        g,
+        table,
+        kinds,
+        v,
+        n,
+        layout::utils::register_for(w),
+    )
 }
 
 // Whether n variables after v have positions.

@@ -1,6 +1,6 @@
 // The operations of code.rs by name, each an answer and its records in a lent output. An immediate is 64-bit two's complement. Those with an operand go by the
 // frame's number of spills.
-ghost use Rattle.records.specs.declared.order.Operation.the-variants.{Add, Sub, Mul, Div, Rem};
+ghost use Rattle.records.specs.declared.order.Calculation.the-variants.{Add, Sub, Mul, Div, Rem};
 ghost use Rattle.code.specs.declared.emitters.Condition.the-variants.{Equal, NotEqual, Less, LessOrEqual, Greater, GreaterOrEqual};
 ghost use Rattle.layout.specs.Config.{base};
 ghost use Rattle.operations.specs.declared.operation.Operation.the-variants.{Label, Jump, JumpLabel, JumpLabelFixed, JumpLabelIf, JumpLabelIfZero, LoadImmediate, LoadLabel, AddAndJump, Arithmetic, Mov, Compare, CompareImmediate};
@@ -204,7 +204,7 @@ pub fn add(out: &mut [u8], frame: u64, target: u64, source_1: u64, source_2: u64
     operation::operate(
         out,
         frame,
-        Operation::Arithmetic(order::Operation::Add, target, source_1, source_2),
+        Operation::Arithmetic(order::Calculation::Add, target, source_1, source_2),
     )
 }
 
@@ -214,7 +214,7 @@ pub fn sub(out: &mut [u8], frame: u64, target: u64, source_1: u64, source_2: u64
     operation::operate(
         out,
         frame,
-        Operation::Arithmetic(order::Operation::Sub, target, source_1, source_2),
+        Operation::Arithmetic(order::Calculation::Sub, target, source_1, source_2),
     )
 }
 
@@ -224,7 +224,7 @@ pub fn mul(out: &mut [u8], frame: u64, target: u64, source_1: u64, source_2: u64
     operation::operate(
         out,
         frame,
-        Operation::Arithmetic(order::Operation::Mul, target, source_1, source_2),
+        Operation::Arithmetic(order::Calculation::Mul, target, source_1, source_2),
     )
 }
 
@@ -234,7 +234,7 @@ pub fn div(out: &mut [u8], frame: u64, target: u64, source_1: u64, source_2: u64
     operation::operate(
         out,
         frame,
-        Operation::Arithmetic(order::Operation::Div, target, source_1, source_2),
+        Operation::Arithmetic(order::Calculation::Div, target, source_1, source_2),
     )
 }
 
@@ -244,7 +244,7 @@ pub fn rem(out: &mut [u8], frame: u64, target: u64, source_1: u64, source_2: u64
     operation::operate(
         out,
         frame,
-        Operation::Arithmetic(order::Operation::Rem, target, source_1, source_2),
+        Operation::Arithmetic(order::Calculation::Rem, target, source_1, source_2),
     )
 }
 

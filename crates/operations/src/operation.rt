@@ -7,7 +7,7 @@ ghost use Rattle.emit.specs.Answers.{Answers};
 ghost use Rattle.emit.specs.Emitted.{fieldsList, Emitted};
 ghost use Rattle.layout.specs.Config.{Supported};
 ghost use Rattle.layout.specs.Positions.{operandOk};
-ghost use Rattle.operations.specs.Operations.{recordsOf, operandsOk, answerOf, Operates};
+ghost use Rattle.operations.specs.Operations.{operationRecords, operandsAllowed, operationAnswer, Operates};
 use code::emitters;
 use code::emitters::Condition;
 use emit::answer::Answer;
@@ -33,7 +33,7 @@ pub enum Operation {
     LoadLabel(u64, u32),
     AddAndJump(u64, u64),
     // target, first source, second source
-    Arithmetic(records::order::Operation, u64, u64, u64),
+    Arithmetic(records::order::Calculation, u64, u64, u64),
     // target, source
     Mov(u64, u64),
     Compare(u64, u64),
@@ -58,7 +58,7 @@ fn two_ok(g: Shape, x: u64, y: u64) -> bool
 
 // Whether its operands are those that a caller may give, and its label one that a record may hold.
 fn operands_ok(g: Shape, operation: Operation) -> bool
-    ensures { λ r. ⌜ r ≡ operandsOk g operation ⌝ }
+    ensures { λ r. ⌜ r ≡ operandsAllowed g operation ⌝ }
 {
     match operation {
         Operation::Label(l) => records::code::label_held(l),
@@ -84,8 +84,8 @@ fn operands_ok(g: Shape, operation: Operation) -> bool
 }
 
 fn emit_operation(out: &mut [u8], p: Cursor, g: Shape, operation: Operation) -> Cursor
-    requires { ⌜ (p .at + 216 < 2 ^ 64) × (operandsOk g operation ≡ true) × Supported g ⌝ }
-    ensures { λ q. ⌜ Emitted (now (out .entry)) p (now (out .exit)) q (fieldsList (recordsOf g operation)) 0 ⌝ }
+    requires { ⌜ (p .at + 216 < 2 ^ 64) × (operandsAllowed g operation ≡ true) × Supported g ⌝ }
+    ensures { λ q. ⌜ Emitted (now (out .entry)) p (now (out .exit)) q (fieldsList (operationRecords g operation)) 0 ⌝ }
 {
     match operation {
         Operation::Label(l) => emit::cursor::emit(out, p, Row(LAB, 0, 0, l, 0, 0)),
@@ -129,7 +129,7 @@ pub fn operate(out: &mut [u8], frame: u64, operation: Operation) -> Answer
 
 fn operate_in(out: &mut [u8], g: Shape, operation: Operation) -> Answer
     requires { ⌜ Supported g ⌝ }
-    ensures { λ r. ⌜ Answers (now (out .entry)) (now (out .exit)) r (answerOf g (length (now (out .entry))) operation) (recordsOf g operation) ⌝ }
+    ensures { λ r. ⌜ Answers (now (out .entry)) (now (out .exit)) r (operationAnswer g (length (now (out .entry))) operation) (operationRecords g operation) ⌝ }
 {
     if operands_ok(g, operation) {} else {
         return Answer::Operand;

@@ -19,15 +19,15 @@ use Rattle.trees.specs.Tree.{size}
 use Rattle.layout.specs.declared.config.Shape.{Shape}
 use Rattle.layout.specs.declared.config.Shaped.{Shaped}
 use Rattle.layout.specs.declared.config.Shaped.the-variants.{In, NoFrame, NoEdition}
-use Rattle.order_spec.specs.declared.answer.Answer.{Answer}
-use Rattle.order_spec.specs.declared.answer.Answer.the-variants.{Context, Malformed, Frame}
+use Rattle.order_spec.specs.declared.answer.OrderAnswer.{OrderAnswer}
+use Rattle.order_spec.specs.declared.answer.OrderAnswer.the-variants.{Context, Malformed, Frame}
 use Rattle.order_spec.specs.Writes.{treeOf, contextAfter}
-use Rattle.order_spec.specs.Answered.{Asked, causeOf, accepted, orderIs, decided, answerTo, unframed, recordsOf, orderContext, answerIn}
+use Rattle.order_spec.specs.Answered.{Asked, orderAnswerCause, orderAccepted, orderIs, decided, answerTo, unframedOrder, orderRecords, orderContext, answerIn}
 use Rattle.order.specs.Answers.{asking, AnswersOrder}
 use Rattle.order.specs.declared.order.Begun.{Begun}
 use Rattle.order.specs.declared.order.Begun.the-variants.{With, Refused}
 use Rattle.order.specs.Begun.{Read, Unread, Begins}
-use Rattle.order.specs.Decided.{fitting, written, judged, Leaves}
+use Rattle.order.specs.Decided.{fitting, orderWritten, judged, LeavesOrder}
 
 -- a well-formed order is whole
 pub order-whole : (s : List ℕ) → orderStarts s ≡ true → 24 ≤ length s
@@ -76,34 +76,34 @@ module _ {context order bindings : List ℕ} {r : Begun} (b : Begins context ord
   pub begun-with : {k : ℕ} {o : Order} → r ≡ With k o → Read context order bindings k o
   begun-with e = rw e at b
 
-  pub begun-refused : {a : Answer} → r ≡ Refused a → Unread context order bindings a
+  pub begun-refused : {a : OrderAnswer} → r ≡ Refused a → Unread context order bindings a
   begun-refused e = rw e at b
 
 -- an order that is refused with 15 to 17 or 2, and one that is read, where there is no such frame
 module _ {context order bindings : List ℕ} where
-  pub unread-unframed : {a : Answer} → Unread context order bindings a → (a ≡ unframed context (asking order bindings 0 [] [])) × (accepted a ≡ false)
-  unfolding unframed
+  pub unread-unframed : {a : OrderAnswer} → Unread context order bindings a → (a ≡ unframedOrder context (asking order bindings 0 [] [])) × (orderAccepted a ≡ false)
+  unfolding unframedOrder
   unread-unframed u = (sym (u .comes (λ k. Frame)), u .refused)
 
-  pub read-unframed : {k : ℕ} {o : Order} → Read context order bindings k o → (Frame ≡ unframed context (asking order bindings 0 [] [])) × (accepted Frame ≡ false)
-  unfolding unframed
+  pub read-unframed : {k : ℕ} {o : Order} → Read context order bindings k o → (Frame ≡ unframedOrder context (asking order bindings 0 [] [])) × (orderAccepted Frame ≡ false)
+  unfolding unframedOrder
   read-unframed u = (sym (u .comes (λ k. Frame)), refl)
 
 -- a refusal leaves both outputs
-pub unanswered : {context : List ℕ} {q : Asked} {o a : List ℕ} {r : Answer} (f : Shaped) → r ≡ answerIn f context q → accepted r ≡ false → AnswersOrder f context q r o o a a
-unanswered (In g) e h = record { answer = e; cause = ap causeOf e; records = rw (← e, h); after = rw (← e, h) }
-unanswered NoFrame e h = record { answer = e; cause = ap causeOf e; records = refl; after = refl }
-unanswered NoEdition e h = record { answer = e; cause = ap causeOf e; records = refl; after = refl }
+pub unanswered : {context : List ℕ} {q : Asked} {o a : List ℕ} {r : OrderAnswer} (f : Shaped) → r ≡ answerIn f context q → orderAccepted r ≡ false → AnswersOrder f context q r o o a a
+unanswered (In g) e h = record { answer = e; cause = ap orderAnswerCause e; records = rw (← e, h); after = rw (← e, h) }
+unanswered NoFrame e h = record { answer = e; cause = ap orderAnswerCause e; records = refl; after = refl }
+unanswered NoEdition e h = record { answer = e; cause = ap orderAnswerCause e; records = refl; after = refl }
 
 -- where there is no such frame, the counter and the outputs do not matter
-pub unframed-answered : {context : List ℕ} (q : Asked) {o a : List ℕ} {r : Answer} → r ≡ unframed context (asking (q .order) (q .bindings) 0 [] []) → accepted r ≡ false
+pub unframed-answered : {context : List ℕ} (q : Asked) {o a : List ℕ} {r : OrderAnswer} → r ≡ unframedOrder context (asking (q .order) (q .bindings) 0 [] []) → orderAccepted r ≡ false
     → AnswersOrder NoFrame context q r o o a a
-unfolding unframed
+unfolding unframedOrder
 unframed-answered q e h = unanswered NoFrame e h
 
 -- in a shape
 module _ (G : Shape) (c : List ℕ) (q : Asked) where
-  pub unread-answered : {o₁ c₁ : List ℕ} {a : Answer} → Unread c (q .order) (q .bindings) a → AnswersOrder (In G) c q a o₁ o₁ c₁ c₁
+  pub unread-answered : {o₁ c₁ : List ℕ} {a : OrderAnswer} → Unread c (q .order) (q .bindings) a → AnswersOrder (In G) c q a o₁ o₁ c₁ c₁
   unfolding answerTo
   unread-answered u = unanswered (In G) (sym (u .comes (λ k. decided G c k q))) (u .refused)
 
@@ -119,27 +119,27 @@ module _ (G : Shape) (c : List ℕ) (q : Asked) where
     as-judged =
         ap (λ (x : Order). judged G c k (q .bindings) x (q .counter) (q .recordsRoom) (q .contextRoom)) (u .order-is) ∙ same-judged ∙ sym (u .comes (λ k. decided G c k q))
 
-    same-records : written G c k (q .bindings) o (q .counter) ≡ recordsOf G c q
+    same-records : orderWritten G c k (q .bindings) o (q .counter) ≡ orderRecords G c q
     same-records =
-        ap (λ (x : Order). written G c k (q .bindings) x (q .counter)) (u .order-is)
-        ∙ ap (λ (z : ContextRead). written G c (bindingsIn z) (q .bindings) (orderIs q) (q .counter)) (sym (u .context-good))
+        ap (λ (x : Order). orderWritten G c k (q .bindings) x (q .counter)) (u .order-is)
+        ∙ ap (λ (z : ContextRead). orderWritten G c (bindingsIn z) (q .bindings) (orderIs q) (q .counter)) (sym (u .context-good))
 
     same-context : contextAfter c k (q .bindings) o ≡ orderContext c q
     same-context =
         ap (λ (x : Order). contextAfter c k (q .bindings) x) (u .order-is)
         ∙ ap (λ (z : ContextRead). contextAfter c (bindingsIn z) (q .bindings) (orderIs q)) (sym (u .context-good))
 
-    output : Answer → List ℕ → List ℕ → List ℕ
-    output x o w = cond (accepted x) (sets o 0 w) o
+    output : OrderAnswer → List ℕ → List ℕ → List ℕ
+    output x o w = cond (orderAccepted x) (sets o 0 w) o
 
-    pub answered : {r : Answer} {o₁ o₂ c₁ c₂ : List ℕ}
-        → Leaves r (judged G c k (q .bindings) o (q .counter) (q .recordsRoom) (q .contextRoom)) o₁ o₂ (written G c k (q .bindings) o (q .counter)) c₁ c₂ (contextAfter c k (q .bindings) o)
+    pub answered : {r : OrderAnswer} {o₁ o₂ c₁ c₂ : List ℕ}
+        → LeavesOrder r (judged G c k (q .bindings) o (q .counter) (q .recordsRoom) (q .contextRoom)) o₁ o₂ (orderWritten G c k (q .bindings) o (q .counter)) c₁ c₂ (contextAfter c k (q .bindings) o)
         → AnswersOrder (In G) c q r o₁ o₂ c₁ c₂
     unfolding output
     answered {o₁ = o₁} {c₁ = c₁} d =
         record {
           answer = d .answer ∙ as-judged;
-          cause = ap causeOf (d .answer ∙ as-judged);
-          records = d .records ∙ ap (λ (x : Answer). output x o₁ (written G c k (q .bindings) o (q .counter))) as-judged ∙ ap (output (answerTo G c q) o₁) same-records;
-          after = d .context ∙ ap (λ (x : Answer). output x c₁ (contextAfter c k (q .bindings) o)) as-judged ∙ ap (output (answerTo G c q) c₁) same-context;
+          cause = ap orderAnswerCause (d .answer ∙ as-judged);
+          records = d .records ∙ ap (λ (x : OrderAnswer). output x o₁ (orderWritten G c k (q .bindings) o (q .counter))) as-judged ∙ ap (output (answerTo G c q) o₁) same-records;
+          after = d .context ∙ ap (λ (x : OrderAnswer). output x c₁ (contextAfter c k (q .bindings) o)) as-judged ∙ ap (output (answerTo G c q) c₁) same-context;
         }

@@ -17,11 +17,11 @@ use Rattle.emit.specs.Emitted.{Emits}
 use Rattle.emit.proofs.Wrote.{written-whole}
 use Rattle.layout.specs.declared.config.Shape.{Shape}
 use Rattle.layout.specs.Config.{positions}
-use Rattle.order_spec.specs.declared.answer.Answer.{Answer}
-use Rattle.order_spec.specs.declared.answer.Answer.the-variants.{Accepted, Missing, Kind, Count, Position, Labels, Room}
+use Rattle.order_spec.specs.declared.answer.OrderAnswer.{OrderAnswer}
+use Rattle.order_spec.specs.declared.answer.OrderAnswer.the-variants.{Accepted, Missing, Kind, Count, Position, Labels, Room}
 use Rattle.order_spec.specs.Writes.{countOk, present, kindsOk, asked}
-use Rattle.order_spec.specs.Answered.{accepted}
-use Rattle.order.specs.Decided.{fitting, fits, judged, Leaves}
+use Rattle.order_spec.specs.Answered.{orderAccepted}
+use Rattle.order.specs.Decided.{fitting, fits, judged, LeavesOrder}
 use Rattle.records.specs.Names.{lastLabel}
 
 module _ (counter room contextRoom bytes drawn after : ℕ) where
@@ -43,12 +43,12 @@ module _ (counter room contextRoom bytes drawn after : ℕ) where
     all-fits r c = rw (le-ltb lastLabel (counter + drawn) h, le-ltb room bytes r, le-ltb contextRoom after c)
 
   -- what an accepted answer says
-  pub fitting-if : accepted (fitting counter room contextRoom bytes drawn after) ≡ true → (counter + drawn ≤ lastLabel) × (bytes ≤ room) × (after ≤ contextRoom)
+  pub fitting-if : orderAccepted (fitting counter room contextRoom bytes drawn after) ≡ true → (counter + drawn ≤ lastLabel) × (bytes ≤ room) × (after ≤ contextRoom)
   unfolding fitting
   fitting-if e = by (ltb lastLabel (counter + drawn)) (ltb room bytes) (ltb contextRoom after) refl refl refl e
     where
       by : (a b d : Bool) → ltb lastLabel (counter + drawn) ≡ a → ltb room bytes ≡ b → ltb contextRoom after ≡ d
-          → accepted (cond a Labels (cond b (Room bytes) (cond d (Room after) (Accepted (bytes / 24) (counter + drawn) (after / 8))))) ≡ true
+          → orderAccepted (cond a Labels (cond b (Room bytes) (cond d (Room after) (Accepted (bytes / 24) (counter + drawn) (after / 8))))) ≡ true
           → (counter + drawn ≤ lastLabel) × (bytes ≤ room) × (after ≤ contextRoom)
       by true b d p q s r = let z : _≡_ {A = ℕ} 0 1 = cc in absurd (omega arith)
       by false true d p q s r = let z : _≡_ {A = ℕ} 0 1 = cc in absurd (omega arith)
@@ -64,11 +64,11 @@ all-granted counter room contextRoom bytes drawn count h r c =
     rw m at (all-fits counter room contextRoom bytes drawn (8 * count) h r c)
 
 -- a refusal leaves both outputs
-pub left-alone : {o c w a : List ℕ} {r expected : Answer} → r ≡ expected → accepted r ≡ false → Leaves r expected o o w c c a
+pub left-alone : {o c w a : List ℕ} {r expected : OrderAnswer} → r ≡ expected → orderAccepted r ≡ false → LeavesOrder r expected o o w c c a
 left-alone e f = record { answer = e; records = rw (← e, f); context = rw (← e, f) }
 
-pub leaves-as : {o o′ w c c′ a : List ℕ} {r e e′ : Answer} → e ≡ e′ → Leaves r e o o′ w c c′ a → Leaves r e′ o o′ w c c′ a
-leaves-as {o} {o′} {w} {c} {c′} {a} {r} p d = subst (λ (x : Answer). Leaves r x o o′ w c c′ a) p d
+pub leaves-as : {o o′ w c c′ a : List ℕ} {r e e′ : OrderAnswer} → e ≡ e′ → LeavesOrder r e o o′ w c c′ a → LeavesOrder r e′ o o′ w c c′ a
+leaves-as {o} {o′} {w} {c} {c′} {a} {r} p d = subst (λ (x : OrderAnswer). LeavesOrder r x o o′ w c c′ a) p d
 
 -- a first pass on another output tells the size, and the count of bindings their bytes; then both are written
 module _ {o₀ o₁ : List ℕ} {p need : Cursor} (t : Tree) (after : List ℕ) (counter count : ℕ) (d : Emits o₀ p o₁ need t) (a : p .at ≡ 0) (z : p .counter ≡ 0) (m : length after ≡ 8 * count) where
@@ -78,19 +78,19 @@ module _ {o₀ o₁ : List ℕ} {p need : Cursor} (t : Tree) (after : List ℕ) 
       let k : need .counter ≡ labels t = omega (arith, d .drawn) in
       rw (h, k, m)
 
-  module _ {r : Answer} {b : Bool} (room contextRoom : ℕ) (e : r ≡ fitting counter room contextRoom (need .at) (need .counter) (8 * count)) (f : b ≡ accepted r) where
+  module _ {r : OrderAnswer} {b : Bool} (room contextRoom : ℕ) (e : r ≡ fitting counter room contextRoom (need .at) (need .counter) (8 * count)) (f : b ≡ orderAccepted r) where
     pub bounds : b ≡ true → (counter + labels t ≤ lastLabel) × (24 * size t ≤ room) × (8 * count ≤ contextRoom)
     bounds g =
-        let w = fitting-if counter room contextRoom (need .at) (need .counter) (8 * count) (ap accepted (sym e) ∙ sym f ∙ g) in
+        let w = fitting-if counter room contextRoom (need .at) (need .counter) (8 * count) (ap orderAccepted (sym e) ∙ sym f ∙ g) in
         (omega (arith, w .0, d .drawn), omega (arith, w .1, d .place), w .2)
 
-    pub not-written : (o c w : List ℕ) → b ≡ false → Leaves r (fitting counter room contextRoom (24 * size t) (labels t) (length after)) o o w c c after
+    pub not-written : (o c w : List ℕ) → b ≡ false → LeavesOrder r (fitting counter room contextRoom (24 * size t) (labels t) (length after)) o o w c c after
     not-written o c w g = left-alone (e ∙ same room contextRoom) (sym f ∙ g)
 
-  pub all-written : {r : Answer} {b : Bool} {o o′ c c′ : List ℕ} {q s : Cursor}
-      → r ≡ fitting counter (length o) (length c) (need .at) (need .counter) (8 * count) → b ≡ accepted r → b ≡ true
+  pub all-written : {r : OrderAnswer} {b : Bool} {o o′ c c′ : List ℕ} {q s : Cursor}
+      → r ≡ fitting counter (length o) (length c) (need .at) (need .counter) (8 * count) → b ≡ orderAccepted r → b ≡ true
       → Emits o q o′ s t → q .at ≡ 0 → q .counter ≡ counter → c′ ≡ sets c 0 after
-      → Leaves r (fitting counter (length o) (length c) (24 * size t) (labels t) (length after)) o o′ (joined codeBytes (flat t counter)) c c′ after
+      → LeavesOrder r (fitting counter (length o) (length c) (24 * size t) (labels t) (length after)) o o′ (joined codeBytes (flat t counter)) c c′ after
   all-written {o = o} {c = c} e f g w i j v =
       let h = bounds (length o) (length c) e f g in
       let l = length-flat t counter 0 in

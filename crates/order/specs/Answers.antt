@@ -4,8 +4,8 @@ use mathlib.Core.Path.{_≡_}
 use mathlib.Core.List.{List}
 use lib.ListN.{length}
 use Rattle.layout.specs.declared.config.Shaped.{Shaped}
-use Rattle.order_spec.specs.declared.answer.Answer.{Answer}
-use Rattle.order_spec.specs.Answered.{Asked, causeOf, answerIn, recordsIn, contextIn}
+use Rattle.order_spec.specs.declared.answer.OrderAnswer.{OrderAnswer}
+use Rattle.order_spec.specs.Answered.{Asked, orderAnswerCause, answerIn, orderRecordsIn, contextIn}
 
 -- what goes in: the order's bytes, the bindings that follow it, the counter, and the two outputs
 abbrev pub asking : List ℕ → List ℕ → ℕ → List ℕ → List ℕ → Asked
@@ -13,8 +13,8 @@ asking order bindings counter records after =
     record { order = order; bindings = bindings; counter = counter; recordsRoom = length records; contextRoom = length after }
 
 -- the answer r and what the outputs o and a become are what the documents say of the edition and the frame, the context and what goes in
-pub record AnswersOrder (f : Shaped) (context : List ℕ) (q : Asked) (r : Answer) (o o′ a a′ : List ℕ) : Type 0 where
+pub record AnswersOrder (f : Shaped) (context : List ℕ) (q : Asked) (r : OrderAnswer) (o o′ a a′ : List ℕ) : Type 0 where
   pub answer : r ≡ answerIn f context q
-  pub cause : causeOf r ≡ causeOf (answerIn f context q)
-  pub records : o′ ≡ recordsIn f context q o
+  pub cause : orderAnswerCause r ≡ orderAnswerCause (answerIn f context q)
+  pub records : o′ ≡ orderRecordsIn f context q o
   pub after : a′ ≡ contextIn f context q a

@@ -8,61 +8,61 @@ ghost use Rattle.records.specs.declared.context.ContextRead.the-variants.{Good}
 ghost use Rattle.records.specs.Contexts.{checkedContext};
 ghost use Rattle.layout.specs.declared.config.Shaped.the-variants.{In};
 ghost use Rattle.layout.specs.Config.{Supported, positions, shapeOf};
-ghost use Rattle.order_spec.specs.Answered.{accepted, unframed};
+ghost use Rattle.order_spec.specs.Answered.{orderAccepted, unframedOrder};
 ghost use Rattle.order_spec.specs.Writes.{contextAfter, present, asked};
 ghost use Rattle.records.specs.Orders.{wanted};
 ghost use Rattle.order.specs.Answers.{asking, AnswersOrder};
 ghost use Rattle.order.specs.Begun.{Begins};
-ghost use Rattle.order.specs.Decided.{fitting, written, fits, judged, Leaves};
-use records::name::LAST_LABEL;
+ghost use Rattle.order.specs.Decided.{fitting, orderWritten, fits, judged, LeavesOrder};
 use emit::cursor::Cursor;
-use order_check::after;
-use order_check::checks;
 use layout::config::Shape;
 use layout::config::Shaped;
+use order_check::after;
+use order_check::checks;
 use order_emit::emitters;
-use order_spec::answer::Answer;
+use order_spec::answer::OrderAnswer;
 use records::context;
 use records::context::ContextRead;
+use records::name::LAST_LABEL;
 use records::order::Order;
 
 // 9 and 10: need is the cursor past the records, from a cursor at 0 and counter 0; `count` bindings come after them.
-fn grant(counter: u64, room: usize, context_room: usize, need: Cursor, count: u64) -> Answer
+fn grant(counter: u64, room: usize, context_room: usize, need: Cursor, count: u64) -> OrderAnswer
     requires { ⌜ (need .counter < 2 ^ 32) × (count < 2 ^ 32) ⌝ }
     ensures { λ r. ⌜ r ≡ fitting counter room «context_room» (need .at) (need .counter) (8 * count) ⌝ }
 {
     if LAST_LABEL < counter {
-        return Answer::Labels;
+        return OrderAnswer::Labels;
     }
     let drawn = counter + need.counter;
     if LAST_LABEL < drawn {
-        return Answer::Labels;
+        return OrderAnswer::Labels;
     }
     if room < need.at {
-        return Answer::Room(need.at);
+        return OrderAnswer::Room(need.at);
     }
     let bytes = (8 * count) as usize;
     if context_room < bytes {
-        return Answer::Room(bytes);
+        return OrderAnswer::Room(bytes);
     }
-    Answer::Accepted(need.at / 24, drawn, count as usize)
+    OrderAnswer::Accepted(need.at / 24, drawn, count as usize)
 }
 
-pub fn is_accepted(answer: Answer) -> bool
-    ensures { λ r. ⌜ r ≡ accepted answer ⌝ }
+pub fn is_accepted(answer: OrderAnswer) -> bool
+    ensures { λ r. ⌜ r ≡ orderAccepted answer ⌝ }
 {
     match answer {
-        Answer::Accepted(_, _, _) => true,
-        Answer::Context(_) => false,
-        Answer::Malformed(_) => false,
-        Answer::Frame => false,
-        Answer::Missing => false,
-        Answer::Kind => false,
-        Answer::Count => false,
-        Answer::Position => false,
-        Answer::Labels => false,
-        Answer::Room(_) => false,
-        Answer::Edition => false,
+        OrderAnswer::Accepted(_, _, _) => true,
+        OrderAnswer::Context(_) => false,
+        OrderAnswer::Malformed(_) => false,
+        OrderAnswer::Frame => false,
+        OrderAnswer::Missing => false,
+        OrderAnswer::Kind => false,
+        OrderAnswer::Count => false,
+        OrderAnswer::Position => false,
+        OrderAnswer::Labels => false,
+        OrderAnswer::Room(_) => false,
+        OrderAnswer::Edition => false,
     }
 }
 
@@ -76,9 +76,9 @@ fn write_order(
     counter: u64,
     bindings: &[u8],
     order: Order,
-) -> Answer
+) -> OrderAnswer
     requires { ⌜ (checkedContext (now context) ≡ Good k) × (checkedContext (now bindings) ≡ Good (wanted order)) × (present (now context) k (now bindings) order ≡ true) × (asked (now context) k (now bindings) order ≤ positions g) × Supported g ⌝ }
-    ensures { λ r. ⌜ Leaves r (fits g (now (context .entry)) k (now (bindings .entry)) order counter (length (now («records_out» .entry))) (length (now («context_out» .entry)))) (now («records_out» .entry)) (now («records_out» .exit)) (written g (now (context .entry)) k (now (bindings .entry)) order counter) (now («context_out» .entry)) (now («context_out» .exit)) (contextAfter (now (context .entry)) k (now (bindings .entry)) order) ⌝ }
+    ensures { λ r. ⌜ LeavesOrder r (fits g (now (context .entry)) k (now (bindings .entry)) order counter (length (now («records_out» .entry))) (length (now («context_out» .entry)))) (now («records_out» .entry)) (now («records_out» .exit)) (orderWritten g (now (context .entry)) k (now (bindings .entry)) order counter) (now («context_out» .entry)) (now («context_out» .exit)) (contextAfter (now (context .entry)) k (now (bindings .entry)) order) ⌝ }
 {
     let table = layout::utils::positions();
     let mut none = [0u8; 1];
@@ -121,22 +121,22 @@ fn judge(
     counter: u64,
     bindings: &[u8],
     order: Order,
-) -> Answer
+) -> OrderAnswer
     requires { ⌜ (checkedContext (now context) ≡ Good k) × (checkedContext (now bindings) ≡ Good (wanted order)) × Supported g ⌝ }
-    ensures { λ r. ⌜ Leaves r (judged g (now (context .entry)) k (now (bindings .entry)) order counter (length (now («records_out» .entry))) (length (now («context_out» .entry)))) (now («records_out» .entry)) (now («records_out» .exit)) (written g (now (context .entry)) k (now (bindings .entry)) order counter) (now («context_out» .entry)) (now («context_out» .exit)) (contextAfter (now (context .entry)) k (now (bindings .entry)) order) ⌝ }
+    ensures { λ r. ⌜ LeavesOrder r (judged g (now (context .entry)) k (now (bindings .entry)) order counter (length (now («records_out» .entry))) (length (now («context_out» .entry)))) (now («records_out» .entry)) (now («records_out» .exit)) (orderWritten g (now (context .entry)) k (now (bindings .entry)) order counter) (now («context_out» .entry)) (now («context_out» .exit)) (contextAfter (now (context .entry)) k (now (bindings .entry)) order) ⌝ }
 {
     let positions = g.spills + 11;
     if checks::present(k, order) {} else {
-        return Answer::Missing;
+        return OrderAnswer::Missing;
     }
     if checks::kinds_ok(context, k, order) {} else {
-        return Answer::Kind;
+        return OrderAnswer::Kind;
     }
     if checks::count_ok(order) {} else {
-        return Answer::Count;
+        return OrderAnswer::Count;
     }
     if checks::asked(context, k, order) <= positions {} else {
-        return Answer::Position;
+        return OrderAnswer::Position;
     }
     write_order(
         records_out,
@@ -153,7 +153,7 @@ fn judge(
 // An order whose context, bindings and bytes pass 15 to 17 and 2, with the number of the context's variables; or the refusal.
 pub enum Begun {
     With(u64, Order),
-    Refused(Answer),
+    Refused(OrderAnswer),
 }
 
 fn begin(context: &[u8], order: &[u8], bindings: &[u8]) -> Begun
@@ -161,21 +161,21 @@ fn begin(context: &[u8], order: &[u8], bindings: &[u8]) -> Begun
 {
     let k = match context::check_context(context) {
         ContextRead::Good(k) => k,
-        ContextRead::Bad(flaw) => return Begun::Refused(Answer::Context(flaw)),
+        ContextRead::Bad(flaw) => return Begun::Refused(OrderAnswer::Context(flaw)),
     };
     let m = match context::check_after(k, bindings) {
         ContextRead::Good(m) => m,
-        ContextRead::Bad(flaw) => return Begun::Refused(Answer::Context(flaw)),
+        ContextRead::Bad(flaw) => return Begun::Refused(OrderAnswer::Context(flaw)),
     };
     if records::order::order_starts(order) {} else {
-        return Begun::Refused(Answer::Malformed(1));
+        return Begun::Refused(OrderAnswer::Malformed(1));
     }
     let read = records::order::order_of(records::order::order_in(order));
     if m == (records::order::wanted(read) as usize) {} else {
-        return Begun::Refused(Answer::Malformed(1));
+        return Begun::Refused(OrderAnswer::Malformed(1));
     }
     if order.len() == 24 {} else {
-        return Begun::Refused(Answer::Malformed(2));
+        return Begun::Refused(OrderAnswer::Malformed(2));
     }
     Begun::With(k as u64, read)
 }
@@ -188,7 +188,7 @@ fn order_in(
     counter: u64,
     order: &[u8],
     bindings: &[u8],
-) -> Answer
+) -> OrderAnswer
     requires { ⌜ Supported g ⌝ }
     ensures { λ r. ⌜ AnswersOrder (In g) (now (context .entry)) (asking (now (order .entry)) (now (bindings .entry)) counter (now («records_out» .entry)) (now («context_out» .entry))) r (now («records_out» .entry)) (now («records_out» .exit)) (now («context_out» .entry)) (now («context_out» .exit)) ⌝ }
 {
@@ -208,11 +208,11 @@ fn order_in(
 }
 
 // What a frame of another number of spills is answered.
-fn unframed(context: &[u8], order: &[u8], bindings: &[u8]) -> Answer
-    ensures { λ r. ⌜ (r ≡ unframed (now (context .entry)) (asking (now (order .entry)) (now (bindings .entry)) 0 [] [])) × (accepted r ≡ false) ⌝ }
+fn unframed(context: &[u8], order: &[u8], bindings: &[u8]) -> OrderAnswer
+    ensures { λ r. ⌜ (r ≡ unframedOrder (now (context .entry)) (asking (now (order .entry)) (now (bindings .entry)) 0 [] [])) × (orderAccepted r ≡ false) ⌝ }
 {
     match begin(context, order, bindings) {
-        Begun::With(_, _) => Answer::Frame,
+        Begun::With(_, _) => OrderAnswer::Frame,
         Begun::Refused(answer) => answer,
     }
 }
@@ -227,7 +227,7 @@ pub fn order(
     counter: u64,
     order: &[u8],
     bindings: &[u8],
-) -> Answer
+) -> OrderAnswer
     ensures { λ r. ⌜ AnswersOrder (shapeOf edition frame) (now (context .entry)) (asking (now (order .entry)) (now (bindings .entry)) counter (now («records_out» .entry)) (now («context_out» .entry))) r (now («records_out» .entry)) (now («records_out» .exit)) (now («context_out» .entry)) (now («context_out» .exit)) ⌝ }
 {
     match layout::config::shape_of(edition, frame) {
@@ -241,6 +241,6 @@ pub fn order(
             bindings,
         ),
         Shaped::NoFrame => unframed(context, order, bindings),
-        Shaped::NoEdition => Answer::Edition,
+        Shaped::NoEdition => OrderAnswer::Edition,
     }
 }

@@ -8,7 +8,7 @@ use native.Mathlib.Decide.{ℕ-discrete}
 use lib.Dec.{ltb, eqb}
 use borrow.Author.Tests.{eq-eqb, ne-eqb, lt-ltb, ltb-true, leb-true}
 use Rattle.records.proofs.Conditions.{and-left, and-right}
-use Rattle.records.specs.declared.order.Operation.{Operation}
+use Rattle.records.specs.declared.order.Calculation.{Calculation}
 use Rattle.records.specs.declared.order.Order.{Order}
 use Rattle.records.specs.declared.order.Order.the-variants.{Put, Compute, Copy, Drop, Store, Load, Print}
 use Rattle.records.specs.Contexts.{extAt}
@@ -24,7 +24,7 @@ module _ (c : List ℕ) (k : ℕ) (b : List ℕ) {o : Order} where
     unfolding asked
     put-fits {G} s h = let w : 2 * k + 2 ≤ positions G = rw e at h in omega (arith, s .even)
 
-  module _ (operation : Operation) (x y : ℕ) (e : o ≡ Compute operation x y) where
+  module _ (operation : Calculation) (x y : ℕ) (e : o ≡ Compute operation x y) where
     pub compute-fits : {G : Shape} → Supported G → asked c k b o ≤ positions G → 2 * k + 2 < positions G
     unfolding asked
     compute-fits {G} s h = let w : 2 * k + 2 ≤ positions G = rw e at h in omega (arith, s .even)

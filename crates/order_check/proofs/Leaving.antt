@@ -8,7 +8,7 @@ use lib.ListN.{length, take, length-append}
 use lib.Seq.{sets, take-all, take-length, length-take-le}
 use Rattle.records.specs.declared.binding.Kind.{Kind}
 use Rattle.records.specs.declared.binding.Kind.the-variants.{Linked, Ext}
-use Rattle.records.specs.declared.order.Operation.{Operation}
+use Rattle.records.specs.declared.order.Calculation.{Calculation}
 use Rattle.records.specs.declared.order.Order.{Order}
 use Rattle.records.specs.declared.order.Order.the-variants.{Put, Compute, Copy, Drop, Store, Load, Print}
 use Rattle.records.proofs.Storing.{sets-then}
@@ -46,7 +46,7 @@ module _ (c : List ℕ) (k : ℕ) (b : List ℕ) {o : Order} where
     unfolding contextAfter
     put-left value e = rw (e, take-all (8 * k) c (omega arith), append-nil (made Ext k))
 
-    pub compute-left : (operation : Operation) (x y : ℕ) → o ≡ Compute operation x y → take (8 * k) c ++ madeAll Ext k 1 ≡ contextAfter c k b o
+    pub compute-left : (operation : Calculation) (x y : ℕ) → o ≡ Compute operation x y → take (8 * k) c ++ madeAll Ext k 1 ≡ contextAfter c k b o
     unfolding contextAfter
     compute-left operation x y e = rw (e, take-all (8 * k) c (omega arith), append-nil (made Ext k))
 

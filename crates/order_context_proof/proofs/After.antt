@@ -13,7 +13,7 @@ use Rattle.records.specs.declared.binding.Kind.the-variants.{Linked, Ext}
 use Rattle.records.specs.declared.order.Order.{Order}
 use Rattle.records.specs.declared.order.Order.the-variants.{Put, Compute, Copy, Drop, Store, Load, Print}
 use Rattle.records.specs.Contexts.{checkedContext, extAt}
-use Rattle.heap.specs.Values.{Value, integer, object, Values, nil, cons, countOf, joined, firstOf, restOf, valueAt, copies, KindsFrom}
+use Rattle.heap.specs.Values.{Value, integer, object, Values, nil, cons, countOf, appended, firstOf, restOf, valueAt, copies, KindsFrom}
 use Rattle.heap.specs.Orders.{listOf}
 use Rattle.order_spec.specs.Writes.{made, madeAll, kindAt, contextAfter, present, asked}
 use Rattle.records.specs.Orders.{wanted}
@@ -29,7 +29,7 @@ ContextOf s vs = (checkedContext s ≡ Good (countOf vs)) × KindsFrom (extAt s)
 
 -- ---- the parts of which contexts are made
 
-pub context-joined : (s t : List ℕ) (vs ws : Values) → ContextOf s vs → ContextOf t ws → countOf vs + countOf ws ≤ 4096 → ContextOf (s ++ t) (joined vs ws)
+pub context-joined : (s t : List ℕ) (vs ws : Values) → ContextOf s vs → ContextOf t ws → countOf vs + countOf ws ≤ 4096 → ContextOf (s ++ t) (appended vs ws)
 context-joined s t vs ws a b h =
     let long = good-length s (a .0) .0 in
     let e : 0 + countOf vs ≡ countOf vs = omega arith in
@@ -95,7 +95,7 @@ module _ (context bindings : List ℕ) (k : ℕ) (vs : Values) (count : countOf 
     before = (rw count good, kinds)
 
     -- the first n variables kept, and those of ws after them
-    kept-then : (n : ℕ) (t : List ℕ) (ws : Values) → n ≤ k → ContextOf t ws → n + countOf ws ≤ 4096 → ContextOf (take (8 * n) context ++ t) (joined (firstOf n vs) ws)
+    kept-then : (n : ℕ) (t : List ℕ) (ws : Values) → n ≤ k → ContextOf t ws → n + countOf ws ≤ 4096 → ContextOf (take (8 * n) context ++ t) (appended (firstOf n vs) ws)
     kept-then n t ws l b h =
         context-joined (take (8 * n) context) t (firstOf n vs) ws (context-first context vs n before (omega arith)) b (omega (arith, count-first n vs (omega arith)))
 

@@ -3,11 +3,11 @@ use Prim.Native.Nat.{ℕ, zero, suc, _+_, _≤_, _<_}
 use mathlib.Core.Path.{_≡_, refl, sym, ap, _∙_}
 use mathlib.Core.Bool.{Bool, true, false}
 use native.Mathlib.Omega.{arith}
-use Rattle.heap.specs.Values.{Value, integer, object, Values, nil, cons, countOf, joined, firstOf, valueAt, copies, KindsFrom}
+use Rattle.heap.specs.Values.{Value, integer, object, Values, nil, cons, countOf, appended, firstOf, valueAt, copies, KindsFrom}
 
 -- ---- how many
 
-pub count-joined : (vs ws : Values) → countOf (joined vs ws) ≡ countOf vs + countOf ws
+pub count-joined : (vs ws : Values) → countOf (appended vs ws) ≡ countOf vs + countOf ws
 count-joined nil ws = omega arith
 count-joined (cons v vs) ws = omega (arith, count-joined vs ws)
 
@@ -41,12 +41,12 @@ module _ (ext : ℕ → Bool) where
   kinds-at v (cons w vs) zero k h = let e : v + 0 ≡ v = omega arith in rw e (kinds-head v w vs k .0)
   kinds-at v (cons w vs) (suc a) k h = let e : v + suc a ≡ suc v + a = omega arith in rw e (kinds-at (suc v) vs a (kinds-head v w vs k .1) (omega arith))
 
-  pub kinds-joined : (v : ℕ) (vs ws : Values) → KindsFrom ext v vs → KindsFrom ext (v + countOf vs) ws → KindsFrom ext v (joined vs ws)
+  pub kinds-joined : (v : ℕ) (vs ws : Values) → KindsFrom ext v vs → KindsFrom ext (v + countOf vs) ws → KindsFrom ext v (appended vs ws)
   kinds-joined v nil ws k l = let e : v + 0 ≡ v = omega arith in rw e at l
   kinds-joined v (cons w vs) ws k l =
       let e : v + suc (countOf vs) ≡ suc v + countOf vs = omega arith in
       let p = kinds-head v w vs k in
-      kinds-cons v w (joined vs ws) (p .0) (kinds-joined (suc v) vs ws (p .1) (rw e at l))
+      kinds-cons v w (appended vs ws) (p .0) (kinds-joined (suc v) vs ws (p .1) (rw e at l))
 
   pub kinds-first : (v n : ℕ) (vs : Values) → KindsFrom ext v vs → KindsFrom ext v (firstOf n vs)
   kinds-first v zero vs k = tt

@@ -10,7 +10,7 @@ use Rattle.records.specs.Contexts.{extAt}
 use Rattle.trees.specs.Tree.{nop, seq, labels, size}
 use Rattle.layout.specs.declared.config.Shape.{Shape}
 use Rattle.layout.specs.Config.{Supported, positions}
-use Rattle.code.specs.Code.{moved}
+use Rattle.code.specs.Code.{movTree}
 use Rattle.code.proofs.Sizes.{plain-mov, plain-arithmetic, plain-load-immediate}
 use Rattle.memory.specs.Blocks.{eraseBlock, shareBlock}
 use Rattle.memory.specs.Objects.{fst, snd, extIn}
@@ -23,7 +23,7 @@ pub variable-extent : (g : Shape) (ext : Bool) (a v : ℕ) → (labels (copyVari
 variable-extent g ext a v =
     let f = plain-mov g (fst v) (fst a) in
     let s = plain-mov g (snd v) (snd a) in
-    within ext (moved g (snd v) (snd a)) (seq (moved g (fst v) (fst a)) (moved g (snd v) (snd a))) 0 4
+    within ext (movTree g (snd v) (snd a)) (seq (movTree g (fst v) (fst a)) (movTree g (snd v) (snd a))) 0 4
     (omega (arith, s .none)) (omega (arith, f .none, s .none)) (omega (arith, s .most)) (omega (arith, f .most, s .most))
 
 pub copies-extent : (g : Shape) (ext : Bool) (a v n : ℕ) → (labels (copyTo g ext a v n) ≤ 0) × (size (copyTo g ext a v n) ≤ 4 * n)

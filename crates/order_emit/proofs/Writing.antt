@@ -3,7 +3,7 @@ use Prim.Native.Nat.{ℕ, _-_}
 use mathlib.Core.Path.{_≡_, subst}
 use mathlib.Core.Bool.{Bool, cond}
 use mathlib.Core.List.{List}
-use Rattle.records.specs.declared.order.Operation.{Operation}
+use Rattle.records.specs.declared.order.Calculation.{Calculation}
 use Rattle.records.specs.declared.order.Order.{Order}
 use Rattle.records.specs.declared.order.Order.the-variants.{Put, Compute, Copy, Drop, Store, Load, Print}
 use Rattle.records.specs.Contexts.{extAt}
@@ -26,7 +26,7 @@ module _ (g : Shape) (c : List ℕ) (k : ℕ) (b : List ℕ) {o : Order} where
   unfolding treeOf
   put-tree value e = rw e
 
-  pub compute-tree : (operation : Operation) (x y : ℕ) → o ≡ Compute operation x y → arithmetic g operation (snd k) (snd x) (snd y) ≡ treeOf g c k b o
+  pub compute-tree : (operation : Calculation) (x y : ℕ) → o ≡ Compute operation x y → arithmetic g operation (snd k) (snd x) (snd y) ≡ treeOf g c k b o
   unfolding treeOf
   compute-tree operation x y e = rw e
 

@@ -20,7 +20,7 @@ use emit::cursor::Cursor;
 use layout::config::Shape;
 use layout::utils::ENTRIES;
 use memory::block;
-use records::order::Operation;
+use records::order::Calculation;
 use records::order::Order;
 
 // 1: a value into the new variable's Snd.
@@ -38,7 +38,7 @@ fn compute(
     p: Cursor,
     g: Shape,
     table: &[u16; ENTRIES],
-    operation: Operation,
+    operation: Calculation,
     k: u64,
     a: u32,
     b: u32,
@@ -222,7 +222,15 @@ pub fn emit_order(
         Order::Copy(a, n) => copy(out, p, g, table, context, k, a, n),
         Order::Drop => drop_last(out, p, g, table, context, k),
         Order::Store(n, tag) => store(out, p, g, table, context, k, n, tag),
-        Order::Load(n) => memory_load::load::load_object(out, p, g, table, bindings, k - 1, n as u64),
+        Order::Load(n) => memory_load::load::load_object(
+            out,
+            p,
+            g,
+            table,
+            bindings,
+            k - 1,
+            n as u64,
+        ),
         Order::Print(newline, a) => print(out, p, g, table, newline, a, context, k),
     }
 }

@@ -1,11 +1,11 @@
 -- The trees of code.rs are well formed: an operand is a register, or a spill, whose offset fits.
 use Prim.Native.Nat.{ℕ, _^_, _<_}
 use lib.Dec.{eqb}
-use Rattle.records.specs.declared.order.Operation.{Operation}
-use Rattle.records.specs.declared.order.Operation.the-variants.{Add, Sub, Mul, Div, Rem}
+use Rattle.records.specs.declared.order.Calculation.{Calculation}
+use Rattle.records.specs.declared.order.Calculation.the-variants.{Add, Sub, Mul, Div, Rem}
 use Rattle.layout.specs.declared.config.Shape.{Shape}
 use Rattle.layout.specs.Config.{Supported, RETURN2}
-use Rattle.code.specs.Code.{registerRegister, registerSpill, spillRegister, moveFrom, moveTo, toRegister, toSpill, intoRegister, throughTemp, commutative, subtraction, divideBy, divideKept, restored, quotient, remainder, arithmetic, loadImmediate, loadLabel, moved, compareWords, compareImmediate}
+use Rattle.code.specs.Code.{registerRegister, registerSpill, spillRegister, moveFrom, moveTo, toRegister, toSpill, intoRegister, throughTemp, commutative, subtraction, divideBy, divideKept, restored, divTree, remTree, arithmetic, loadImmediate, loadLabel, movTree, compareWords, compareImmediate}
 use Rattle.order_formed_proof.proofs.Formed.{Formed, one, _then_}
 use Rattle.order_formed_proof.proofs.Codes.{idiv, idivm, movi, movim, add, sub, imul, mov, addrm, addmr, subrm, submr, imulrm, imulmr, movs, movl, cmp, cmprm, cmpmr, cmpi, cmpim, cqo, Held, leal}
 use Rattle.order_formed_proof.proofs.Choices.{either, on-operand, offset-fits, stack, temp, return1, return2}
@@ -61,13 +61,13 @@ module _ (G : Shape) (sup : Supported G) where
   formed-restored : (t : ℕ) → Formed (restored G t)
   formed-restored t = move-to t return1 then move-from t return2 then one (mov return2 temp)
 
-  formed-quotient : (t x y : ℕ) → Formed (quotient G t x y)
+  formed-quotient : (t x y : ℕ) → Formed (divTree G t x y)
   formed-quotient t x y = divide-kept t x y then one (mov return2 return1) then formed-restored t
 
-  formed-remainder : (t x y : ℕ) → Formed (remainder G t x y)
+  formed-remainder : (t x y : ℕ) → Formed (remTree G t x y)
   formed-remainder t x y = divide-kept t x y then formed-restored t
 
-  pub formed-arithmetic : (o : Operation) (t x y : ℕ) → Formed (arithmetic G o t x y)
+  pub formed-arithmetic : (o : Calculation) (t x y : ℕ) → Formed (arithmetic G o t x y)
   formed-arithmetic Add t x y = formed-commutative 0 t x y
   formed-arithmetic Sub t x y = formed-subtraction t x y
   formed-arithmetic Mul t x y = formed-commutative 2 t x y
@@ -77,7 +77,7 @@ module _ (G : Shape) (sup : Supported G) where
   pub formed-immediate : (w : ℕ) {value : ℕ} → value < 2 ^ 64 → Formed (loadImmediate G w value)
   formed-immediate w q = on-operand w (λ l. one (movi l q)) (λ l. one (movim stack (offset-fits G sup w) q))
 
-  pub formed-moved : (w x : ℕ) → Formed (moved G w x)
+  pub formed-moved : (w x : ℕ) → Formed (movTree G w x)
   formed-moved w x = on-operand x (λ l. move-from w l) (λ l. on-operand w (λ k. move-to x k) (λ k. move-to x temp then move-from w temp))
 
   pub formed-compare : (x y : ℕ) → Formed (compareWords G x y)

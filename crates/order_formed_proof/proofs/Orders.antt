@@ -13,7 +13,7 @@ use Rattle.records.specs.Contexts.{extAt}
 use Rattle.trees.specs.Tree.{Tree, nop, seq, size}
 use Rattle.layout.specs.declared.config.Shape.{Shape}
 use Rattle.layout.specs.Config.{Supported, positions}
-use Rattle.code.specs.Code.{moved}
+use Rattle.code.specs.Code.{movTree}
 use Rattle.code.proofs.Sizes.{plain-arithmetic, plain-load-immediate, plain-mov}
 use Rattle.memory.specs.Blocks.{eraseBlock, shareBlock}
 use Rattle.memory.specs.Objects.{fst, snd, extIn}
@@ -58,7 +58,7 @@ module _ (G : Shape) (sup : Supported G) where
   variable-size ext a v =
       let p = plain-mov G (fst v) (fst a) .most in
       let q = plain-mov G (snd v) (snd a) .most in
-      size-most ext (moved G (snd v) (snd a)) (seq (moved G (fst v) (fst a)) (moved G (snd v) (snd a))) 4 (omega arith) (omega arith)
+      size-most ext (movTree G (snd v) (snd a)) (seq (movTree G (fst v) (fst a)) (movTree G (snd v) (snd a))) 4 (omega arith) (omega arith)
 
   copies-size : (ext : Bool) (a v n : ℕ) → size (copyTo G ext a v n) ≤ 4 * n
   copies-size ext a v zero = omega arith

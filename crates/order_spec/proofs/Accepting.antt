@@ -16,14 +16,14 @@ use Rattle.records.proofs.ContextsRead.{counted-good}
 use Rattle.trees.specs.Tree.{Tree, labels, size}
 use Rattle.layout.specs.declared.config.Shape.{Shape}
 use Rattle.layout.specs.Config.{positions}
-use Rattle.order_spec.specs.declared.answer.Answer.{Answer}
-use Rattle.order_spec.specs.declared.answer.Answer.the-variants.{Accepted, Context, Malformed, Frame, Missing, Kind, Count, Position, Labels, Room}
+use Rattle.order_spec.specs.declared.answer.OrderAnswer.{OrderAnswer}
+use Rattle.order_spec.specs.declared.answer.OrderAnswer.the-variants.{Accepted, Context, Malformed, Frame, Missing, Kind, Count, Position, Labels, Room}
 use Rattle.order_spec.specs.Writes.{countOk, treeOf, contextAfter, present, kindsOk, asked}
-use Rattle.order_spec.specs.Answered.{Asked, accepted, orderIs, granted, decided, answerTo, unframed}
+use Rattle.order_spec.specs.Answered.{Asked, orderAccepted, orderIs, orderGranted, decided, answerTo, unframedOrder}
 use Rattle.records.specs.Names.{lastLabel}
 
 -- the answer to an accepted order of records t and the context after them
-abbrev pub acceptance : Asked → Tree → List ℕ → Answer
+abbrev pub acceptance : Asked → Tree → List ℕ → OrderAnswer
 acceptance q t after = Accepted (size t) (q .counter + labels t) (length after / 8)
 
 pub record Taken (G : Shape) (context : List ℕ) (q : Asked) (k : ℕ) : Type 0 where
@@ -39,7 +39,7 @@ pub record Taken (G : Shape) (context : List ℕ) (q : Asked) (k : ℕ) : Type 0
   pub context-fits : length (contextAfter context k (q .bindings) (orderIs q)) ≤ q .contextRoom
   pub answer : answerTo G context q ≡ acceptance q (treeOf G context k (q .bindings) (orderIs q)) (contextAfter context k (q .bindings) (orderIs q))
 
-on-good : (c : ContextRead) (f : ℕ → Answer) → accepted (onContext c f Context) ≡ true → (k : ℕ) × (c ≡ checked.Good k) × (accepted (f k) ≡ true)
+on-good : (c : ContextRead) (f : ℕ → OrderAnswer) → orderAccepted (onContext c f Context) ≡ true → (k : ℕ) × (c ≡ checked.Good k) × (orderAccepted (f k) ≡ true)
 on-good (checked.Good k) f e = (k, refl, e)
 on-good (checked.Bad flaw) f e = let z : _≡_ {A = ℕ} 0 1 = cc in absurd (omega arith)
 
@@ -48,13 +48,13 @@ module _ (q : Asked) (t : Tree) (after : List ℕ) where
     pub labelled : q .counter + labels t ≤ lastLabel
     pub records-fit : 24 * size t ≤ q .recordsRoom
     pub context-fits : length after ≤ q .contextRoom
-    pub answer : granted q t after ≡ acceptance q t after
+    pub answer : orderGranted q t after ≡ acceptance q t after
 
-  granted-if : accepted (granted q t after) ≡ true → Granted
+  granted-if : orderAccepted (orderGranted q t after) ≡ true → Granted
   granted-if e =
-      let a = passed accepted (ltb lastLabel (q .counter + labels t)) Labels _ refl e in
-      let b = passed accepted (ltb (q .recordsRoom) (24 * size t)) (Room (24 * size t)) _ refl (a .1) in
-      let c = passed accepted (ltb (q .contextRoom) (length after)) (Room (length after)) _ refl (b .1) in
+      let a = passed orderAccepted (ltb lastLabel (q .counter + labels t)) Labels _ refl e in
+      let b = passed orderAccepted (ltb (q .recordsRoom) (24 * size t)) (Room (24 * size t)) _ refl (a .1) in
+      let c = passed orderAccepted (ltb (q .contextRoom) (length after)) (Room (length after)) _ refl (b .1) in
       record {
         labelled = ltb-false lastLabel (q .counter + labels t) (a .0);
         records-fit = ltb-false (q .recordsRoom) (24 * size t) (b .0);
@@ -71,12 +71,12 @@ module _ (G : Shape) (context : List ℕ) (q : Asked) (k : ℕ) where
     pub grants : Granted q (treeOf G context k (q .bindings) (orderIs q)) (contextAfter context k (q .bindings) (orderIs q))
     pub answer : decided G context k q ≡ acceptance q (treeOf G context k (q .bindings) (orderIs q)) (contextAfter context k (q .bindings) (orderIs q))
 
-  decided-if : accepted (decided G context k q) ≡ true → Decided
+  decided-if : orderAccepted (decided G context k q) ≡ true → Decided
   decided-if e =
-      let a = chosen accepted (present context k (q .bindings) (orderIs q)) _ Missing refl e in
-      let b = chosen accepted (kindsOk context k (q .bindings) (orderIs q)) _ Kind refl (a .1) in
-      let c = chosen accepted (countOk (orderIs q)) _ Count refl (b .1) in
-      let d = chosen accepted (leb (asked context k (q .bindings) (orderIs q)) (positions G)) _ Position refl (c .1) in
+      let a = chosen orderAccepted (present context k (q .bindings) (orderIs q)) _ Missing refl e in
+      let b = chosen orderAccepted (kindsOk context k (q .bindings) (orderIs q)) _ Kind refl (a .1) in
+      let c = chosen orderAccepted (countOk (orderIs q)) _ Count refl (b .1) in
+      let d = chosen orderAccepted (leb (asked context k (q .bindings) (orderIs q)) (positions G)) _ Position refl (c .1) in
       let g = granted-if q (treeOf G context k (q .bindings) (orderIs q)) (contextAfter context k (q .bindings) (orderIs q)) (d .1) in
       record {
         there = a .0;
@@ -95,23 +95,23 @@ all-passed G context q c b s n w = rw (c, b, s, n, w)
 
 pub all-judged : (G : Shape) (context : List ℕ) (q : Asked) (k : ℕ) → present context k (q .bindings) (orderIs q) ≡ true → kindsOk context k (q .bindings) (orderIs q) ≡ true → countOk (orderIs q) ≡ true
     → leb (asked context k (q .bindings) (orderIs q)) (positions G) ≡ true
-    → decided G context k q ≡ granted q (treeOf G context k (q .bindings) (orderIs q)) (contextAfter context k (q .bindings) (orderIs q))
+    → decided G context k q ≡ orderGranted q (treeOf G context k (q .bindings) (orderIs q)) (contextAfter context k (q .bindings) (orderIs q))
 all-judged G context q k a b c d = rw (a, b, c, d)
 
-pub good-context : (G : Shape) (context : List ℕ) (q : Asked) → accepted (answerTo G context q) ≡ true → (k : ℕ) × (checkedContext context ≡ checked.Good k)
+pub good-context : (G : Shape) (context : List ℕ) (q : Asked) → orderAccepted (answerTo G context q) ≡ true → (k : ℕ) × (checkedContext context ≡ checked.Good k)
 unfolding answerTo
 good-context G context q e = let a = on-good (checkedContext context) _ e in (a .0, a .1)
 
-pub taken : (G : Shape) (context : List ℕ) (q : Asked) (k : ℕ) → checkedContext context ≡ checked.Good k → accepted (answerTo G context q) ≡ true → Taken G context q k
+pub taken : (G : Shape) (context : List ℕ) (q : Asked) (k : ℕ) → checkedContext context ≡ checked.Good k → orderAccepted (answerTo G context q) ≡ true → Taken G context q k
 unfolding answerTo
 taken G context q k good e =
     let a = on-good (checkedContext context) _ e in
     let same : a .0 ≡ k = good-same (sym (a .1) ∙ good) in
     let b = on-good (countedOn (a .0) (checkedContext (q .bindings))) _ (a .2) in
     let bindings = counted-good (a .0) (checkedContext (q .bindings)) (b .1) in
-    let c = chosen accepted (orderStarts (q .order)) _ (Malformed 1) refl (b .2) in
-    let d = chosen accepted (eqb (b .0) (wanted (orderIs q))) _ (Malformed 1) refl (c .1) in
-    let f = chosen accepted (eqb (length (q .order)) 24) _ (Malformed 2) refl (d .1) in
+    let c = chosen orderAccepted (orderStarts (q .order)) _ (Malformed 1) refl (b .2) in
+    let d = chosen orderAccepted (eqb (b .0) (wanted (orderIs q))) _ (Malformed 1) refl (c .1) in
+    let f = chosen orderAccepted (eqb (length (q .order)) 24) _ (Malformed 2) refl (d .1) in
     let g = decided-if G context q k (rw same at (f .1)) in
     record {
       bindings-good = bindings ∙ ap checked.Good (eqb-true (b .0) (wanted (orderIs q)) (d .0));
@@ -131,17 +131,17 @@ taken G context q k good e =
     good-same e = cc
 
 -- no order is accepted where there is no such frame
-pub unframed-refused : (context : List ℕ) (q : Asked) → accepted (unframed context q) ≡ false
-unfolding unframed
+pub unframed-refused : (context : List ℕ) (q : Asked) → orderAccepted (unframedOrder context q) ≡ false
+unfolding unframedOrder
 unframed-refused context q =
     on-any (checkedContext context) _
     (λ k. on-any (countedOn k (checkedContext (q .bindings))) _ (λ m. read-any (orderStarts (q .order)) (eqb m (wanted (orderIs q))) (eqb (length (q .order)) 24)))
   where
-    on-any : (c : ContextRead) (f : ℕ → Answer) → ((k : ℕ) → accepted (f k) ≡ false) → accepted (onContext c f Context) ≡ false
+    on-any : (c : ContextRead) (f : ℕ → OrderAnswer) → ((k : ℕ) → orderAccepted (f k) ≡ false) → orderAccepted (onContext c f Context) ≡ false
     on-any (checked.Good k) f h = h k
     on-any (checked.Bad flaw) f h = refl
 
-    read-any : (a b d : Bool) → accepted (cond a (cond b (cond d Frame (Malformed 2)) (Malformed 1)) (Malformed 1)) ≡ false
+    read-any : (a b d : Bool) → orderAccepted (cond a (cond b (cond d Frame (Malformed 2)) (Malformed 1)) (Malformed 1)) ≡ false
     read-any true true true = refl
     read-any true true false = refl
     read-any true false d = refl

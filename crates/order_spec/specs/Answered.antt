@@ -15,41 +15,51 @@ use Rattle.trees.specs.Tree.{Tree, labels, size, flat}
 use Rattle.layout.specs.declared.config.Shape.{Shape}
 use Rattle.layout.specs.declared.config.Shaped.{Shaped}
 use Rattle.layout.specs.Config.{inShape, positions}
-use Rattle.order_spec.specs.declared.answer.Answer.{Answer}
-use Rattle.order_spec.specs.declared.answer.Answer.the-variants.{Accepted, Context, Malformed, Frame, Missing, Kind, Count, Position, Labels, Room, Edition}
+use Rattle.order_spec.specs.declared.answer.OrderAnswer.{OrderAnswer}
+use Rattle.order_spec.specs.declared.answer.OrderAnswer.the-variants.{Accepted, Context, Malformed, Frame, Missing, Kind, Count, Position, Labels, Room, Edition}
 use Rattle.order_spec.specs.Writes.{countOk, treeOf, contextAfter, present, kindsOk, asked}
 use Rattle.records.specs.Names.{lastLabel}
 
 -- document 01's number and values for each answer: 0, with the records, the bindings and the counter after them, where the order is accepted
-abbrev pub causeOf : Answer → List ℕ
-causeOf (Accepted records counter bindings) = ACCEPTED ∷ records ∷ bindings ∷ counter ∷ []
-causeOf (Context flaw) = flawCause flaw
-causeOf (Malformed place) = MALFORMED ∷ place ∷ []
-causeOf Frame = OPERAND ∷ []
-causeOf Missing = MISSING ∷ []
-causeOf Kind = KIND ∷ []
-causeOf Count = COUNT ∷ []
-causeOf Position = POSITION ∷ []
-causeOf Labels = LABELS ∷ []
-causeOf (Room bytes) = ROOM ∷ bytes ∷ []
-causeOf Edition = EDITION ∷ []
+abbrev pub orderAnswerCause : OrderAnswer → List ℕ
+orderAnswerCause (Accepted records counter bindings) = ACCEPTED ∷ records ∷ bindings ∷ counter ∷ []
+orderAnswerCause (Context flaw) = flawCause flaw
+orderAnswerCause (Malformed place) = MALFORMED ∷ place ∷ []
+orderAnswerCause Frame = OPERAND ∷ []
+orderAnswerCause Missing = MISSING ∷ []
+orderAnswerCause Kind = KIND ∷ []
+orderAnswerCause Count = COUNT ∷ []
+orderAnswerCause Position = POSITION ∷ []
+orderAnswerCause Labels = LABELS ∷ []
+orderAnswerCause (Room bytes) = ROOM ∷ bytes ∷ []
+orderAnswerCause Edition = EDITION ∷ []
 
--- the counter after an answer, the last of the accepted order's numbers: a refusal has none, and keeps it
-abbrev pub counterAfter : ℕ → Answer → ℕ
-counterAfter counter r = getD (causeOf r) 3 counter
+-- the counter after an answer: a refusal keeps it
+abbrev pub orderCounterAfter : ℕ → OrderAnswer → ℕ
+orderCounterAfter counter (Accepted records after bindings) = after
+orderCounterAfter counter (Context flaw) = counter
+orderCounterAfter counter (Malformed place) = counter
+orderCounterAfter counter Frame = counter
+orderCounterAfter counter Missing = counter
+orderCounterAfter counter Kind = counter
+orderCounterAfter counter Count = counter
+orderCounterAfter counter Position = counter
+orderCounterAfter counter Labels = counter
+orderCounterAfter counter (Room bytes) = counter
+orderCounterAfter counter Edition = counter
 
-abbrev pub accepted : Answer → Bool
-accepted (Accepted records counter bindings) = true
-accepted (Context flaw) = false
-accepted (Malformed place) = false
-accepted Frame = false
-accepted Missing = false
-accepted Kind = false
-accepted Count = false
-accepted Position = false
-accepted Labels = false
-accepted (Room bytes) = false
-accepted Edition = false
+abbrev pub orderAccepted : OrderAnswer → Bool
+orderAccepted (Accepted records counter bindings) = true
+orderAccepted (Context flaw) = false
+orderAccepted (Malformed place) = false
+orderAccepted Frame = false
+orderAccepted Missing = false
+orderAccepted Kind = false
+orderAccepted Count = false
+orderAccepted Position = false
+orderAccepted Labels = false
+orderAccepted (Room bytes) = false
+orderAccepted Edition = false
 
 -- what goes in with an order: its bytes, those of the bindings that follow it, the label counter, and how many bytes the two outputs have
 pub record Asked : Type 0 where
@@ -75,24 +85,24 @@ abbrev pub orderContext : List ℕ → Asked → List ℕ
 orderContext context q = contextAfter context (placesIn context) (q .bindings) (orderIs q)
 
 -- 9 and 10: records of t, and the context after them
-abbrev pub granted : Asked → Tree → List ℕ → Answer
-granted q t after =
+abbrev pub orderGranted : Asked → Tree → List ℕ → OrderAnswer
+orderGranted q t after =
     cond (ltb lastLabel (q .counter + labels t)) Labels
     (cond (ltb (q .recordsRoom) (24 * size t)) (Room (24 * size t))
     (cond (ltb (q .contextRoom) (length after)) (Room (length after)) (Accepted (size t) (q .counter + labels t) (length after / 8))))
 
 -- 4 to 10, for a well-formed order on k variables
-abbrev pub decided : Shape → List ℕ → ℕ → Asked → Answer
+abbrev pub decided : Shape → List ℕ → ℕ → Asked → OrderAnswer
 decided g context k q =
     cond (present context k (q .bindings) (orderIs q))
     (cond (kindsOk context k (q .bindings) (orderIs q))
     (cond (countOk (orderIs q))
     (cond (leb (asked context k (q .bindings) (orderIs q)) (positions g))
-    (granted q (treeOf g context k (q .bindings) (orderIs q)) (contextAfter context k (q .bindings) (orderIs q)))
+    (orderGranted q (treeOf g context k (q .bindings) (orderIs q)) (contextAfter context k (q .bindings) (orderIs q)))
     Position) Count) Kind) Missing
 
 -- 15 to 17 for the context, then for the bindings, whose places count on; 2 for the order: record 1, the number of its bindings, a record too many; then what is answered on the context's variables
-abbrev pub read : List ℕ → Asked → (ℕ → Answer) → Answer
+abbrev pub read : List ℕ → Asked → (ℕ → OrderAnswer) → OrderAnswer
 read context q answer =
     onContext (checkedContext context)
     (λ k. onContext (countedOn k (checkedContext (q .bindings)))
@@ -102,30 +112,30 @@ read context q answer =
     (Malformed 1))
     (Malformed 1)) Context) Context
 
-unfoldable pub answerTo : Shape → List ℕ → Asked → Answer
+unfoldable pub answerTo : Shape → List ℕ → Asked → OrderAnswer
 answerTo g context q = read context q (λ k. decided g context k q)
 
 -- 3 for another number of spills than a frame has, after 15 to 17 and 2
-unfoldable pub unframed : List ℕ → Asked → Answer
-unframed context q = read context q (λ k. Frame)
+unfoldable pub unframedOrder : List ℕ → Asked → OrderAnswer
+unframedOrder context q = read context q (λ k. Frame)
 
 -- the records' bytes
-abbrev pub recordsOf : Shape → List ℕ → Asked → List ℕ
-recordsOf g context q = joined codeBytes (flat (orderTree g context q) (q .counter))
+abbrev pub orderRecords : Shape → List ℕ → Asked → List ℕ
+orderRecords g context q = joined codeBytes (flat (orderTree g context q) (q .counter))
 
 -- the two outputs: what is written from their start where the order is accepted, else as they were
 abbrev pub recordsOutput : Shape → List ℕ → Asked → List ℕ → List ℕ
-recordsOutput g context q o = cond (accepted (answerTo g context q)) (sets o 0 (recordsOf g context q)) o
+recordsOutput g context q o = cond (orderAccepted (answerTo g context q)) (sets o 0 (orderRecords g context q)) o
 
 abbrev pub contextOutput : Shape → List ℕ → Asked → List ℕ → List ℕ
-contextOutput g context q o = cond (accepted (answerTo g context q)) (sets o 0 (orderContext context q)) o
+contextOutput g context q o = cond (orderAccepted (answerTo g context q)) (sets o 0 (orderContext context q)) o
 
 -- the answer and the two outputs by edition and frame: where there is no such edition or frame, both outputs stay
-abbrev pub answerIn : Shaped → List ℕ → Asked → Answer
-answerIn f context q = inShape f (λ g. answerTo g context q) (unframed context q) Edition
+abbrev pub answerIn : Shaped → List ℕ → Asked → OrderAnswer
+answerIn f context q = inShape f (λ g. answerTo g context q) (unframedOrder context q) Edition
 
-abbrev pub recordsIn : Shaped → List ℕ → Asked → List ℕ → List ℕ
-recordsIn f context q o = inShape f (λ g. recordsOutput g context q o) o o
+abbrev pub orderRecordsIn : Shaped → List ℕ → Asked → List ℕ → List ℕ
+orderRecordsIn f context q o = inShape f (λ g. recordsOutput g context q o) o o
 
 abbrev pub contextIn : Shaped → List ℕ → Asked → List ℕ → List ℕ
 contextIn f context q o = inShape f (λ g. contextOutput g context q o) o o

@@ -8,7 +8,7 @@ use Rattle.records.specs.declared.order.Order.the-variants.{Put, Compute, Copy,
 use Rattle.records.specs.Contexts.{extAt}
 use Rattle.word.specs.Results.{result, resultDefined}
 use Rattle.heap.specs.Orders.{listOf}
-use Rattle.heap.specs.Values.{Value, integer, object, Values, nil, cons, countOf, joined, firstOf, restOf, valueAt, copies, KindsFrom}
+use Rattle.heap.specs.Values.{Value, integer, object, Values, nil, cons, countOf, appended, firstOf, restOf, valueAt, copies, KindsFrom}
 
 -- a value's integer
 abbrev pub integerOf : Value → ℕ
@@ -16,12 +16,12 @@ integerOf (integer w) = w
 integerOf (object tag vs) = 0
 
 unfoldable pub plainly : Order → Values → Values
-plainly (Put value) vs = joined vs (cons (integer value) nil)
-plainly (Compute operation a b) vs = joined vs (cons (integer (result operation (integerOf (valueAt a vs)) (integerOf (valueAt b vs)))) nil)
-plainly (Copy a n) vs = joined vs (copies n (valueAt a vs))
+plainly (Put value) vs = appended vs (cons (integer value) nil)
+plainly (Compute operation a b) vs = appended vs (cons (integer (result operation (integerOf (valueAt a vs)) (integerOf (valueAt b vs)))) nil)
+plainly (Copy a n) vs = appended vs (copies n (valueAt a vs))
 plainly Drop vs = firstOf (countOf vs - 1) vs
-plainly (Store n tag) vs = joined (firstOf (countOf vs - n) vs) (cons (object tag (restOf (countOf vs - n) vs)) nil)
-plainly (Load n) vs = joined (firstOf (countOf vs - 1) vs) (listOf (valueAt (countOf vs - 1) vs))
+plainly (Store n tag) vs = appended (firstOf (countOf vs - n) vs) (cons (object tag (restOf (countOf vs - n) vs)) nil)
+plainly (Load n) vs = appended (firstOf (countOf vs - 1) vs) (listOf (valueAt (countOf vs - 1) vs))
 plainly (Print newline a) vs = vs
 
 -- n bindings name the kinds that an object was stored with

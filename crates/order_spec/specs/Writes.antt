@@ -12,7 +12,7 @@ use Rattle.records.specs.declared.order.Order.the-variants.{Put, Compute, Copy,
 use Rattle.records.specs.Contexts.{bindingBytes, extAt}
 use Rattle.trees.specs.Tree.{Tree, nop, seq}
 use Rattle.layout.specs.declared.config.Shape.{Shape}
-use Rattle.code.specs.Code.{loadImmediate, moved, arithmetic}
+use Rattle.code.specs.Code.{loadImmediate, movTree, arithmetic}
 use Rattle.memory.specs.Blocks.{eraseBlock, shareBlock}
 use Rattle.memory.specs.Objects.{fst, snd, extIn, storeObject, loadObject}
 use Rattle.print_i64.specs.Print.{printI64}
@@ -39,7 +39,7 @@ countOk (Print newline a) = true
 module _ (g : Shape) where
   -- variable a into variable v: an integer's Snd alone, else Fst before Snd
   abbrev pub copyVariable : Bool → ℕ → ℕ → Tree
-  copyVariable ext a v = cond ext (moved g (snd v) (snd a)) (seq (moved g (fst v) (fst a)) (moved g (snd v) (snd a)))
+  copyVariable ext a v = cond ext (movTree g (snd v) (snd a)) (seq (movTree g (fst v) (fst a)) (movTree g (snd v) (snd a)))
 
   -- and into the n variables from v on
   abbrev pub copyTo : Bool → ℕ → ℕ → ℕ → Tree

@@ -16,7 +16,7 @@ use Rattle.records.specs.Orders.{orderFieldsOf, orderBytes}
 use Rattle.text.specs.Putting.{Puts}
 use Rattle.text.proofs.Putting.{nothing, at-most, _⨟_}
 use Rattle.plan_line.specs.Orders.{Words}
-use Rattle.plan.specs.Plan.{kindOf, bindings, following}
+use Rattle.plan.specs.Plan.{kindOfWord, bindings, following}
 
 pub append-nil : (xs : List ℕ) → xs ++ [] ≡ xs
 append-nil [] = refl
@@ -70,7 +70,7 @@ no-kind o i n ws = let z : n - 0 ≡ n = omega arith in rw z (begin o i (binding
 
 -- the bindings of n kinds, of which k are put; the words that are left
 module _ (n k : ℕ) (ws : Words) {i j : ℕ} {o o′ all : List ℕ} (b : Begun (8 * k) o i o′ j all (bindings k (take (n - k) ws))) where
-  pub kind-put : {w : List ℕ} {rest : Words} {o″ : List ℕ} {l : ℕ} {kind : Kind} → k < n → ws ≡ w ∷ rest → kind ≡ kindOf w
+  pub kind-put : {w : List ℕ} {rest : Words} {o″ : List ℕ} {l : ℕ} {kind : Kind} → k < n → ws ≡ w ∷ rest → kind ≡ kindOfWord w
       → Puts 8 o′ j o″ l (bindingBytes (record { kind = kind; id = k }))
       → Begun (8 * (k + 1)) o i o″ l all (bindings (k + 1) (take (n - (k + 1)) rest))
   unfolding bindings

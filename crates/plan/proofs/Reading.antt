@@ -17,7 +17,7 @@ use Rattle.plan_line.specs.declared.orders.Line.{Line}
 use Rattle.plan_line.specs.declared.orders.Line.the-variants.{Empty, Asks, Faulty}
 use Rattle.plan_line.specs.Words.{linesOf}
 use Rattle.plan_line.specs.Orders.{Words, lineOf}
-use Rattle.plan.specs.Plan.{kindOf, bindings, following, recordsOf, Plan, records, bad, withLine, lineWords, planFrom, planOf}
+use Rattle.plan.specs.Plan.{kindOfWord, bindings, following, planRecords, Plan, records, bad, withLine, lineWords, planFrom, planOf}
 use Rattle.plan.specs.Reading.{AskedLine, askedBy, askedIn, recordsFor, IsRead, PlansAreRead}
 use Rattle.plan.proofs.Putting.{order-size}
 use Rattle.plan.proofs.WellFormed.{Sound, SoundLine, line-sound}
@@ -25,12 +25,12 @@ use Rattle.plan.proofs.WellFormed.{Sound, SoundLine, line-sound}
 -- the bindings of kinds as a list
 kindBindings : ℕ → Words → List Binding
 kindBindings i [] = []
-kindBindings i (w ∷ ws) = record { kind = kindOf w; id = i } ∷ kindBindings (suc i) ws
+kindBindings i (w ∷ ws) = record { kind = kindOfWord w; id = i } ∷ kindBindings (suc i) ws
 
 bindings-joined : (i : ℕ) (ws : Words) → bindings i ws ≡ joined bindingBytes (kindBindings i ws)
 unfolding bindings kindBindings
 bindings-joined i [] = refl
-bindings-joined i (w ∷ ws) = ap (λ (l : List ℕ). bindingBytes (record { kind = kindOf w; id = i }) ++ l) (bindings-joined (suc i) ws)
+bindings-joined i (w ∷ ws) = ap (λ (l : List ℕ). bindingBytes (record { kind = kindOfWord w; id = i }) ++ l) (bindings-joined (suc i) ws)
 
 bindings-many : (i : ℕ) (ws : Words) → length (kindBindings i ws) ≡ length ws
 unfolding kindBindings
@@ -63,7 +63,7 @@ following-accepted ws (Store n tag) h g = none-accepted
 following-accepted ws (Print newline a) h g = none-accepted
 
 sound-read : (ws : Words) (o : Order) → Sound ws o → IsRead (record { order = o; words = ws })
-unfolding recordsOf
+unfolding planRecords
 sound-read ws o s =
     record {
       order-read = rw (take-at (orderBytes (orderFieldsOf o)) (following o ws) 24 (order-size o)) (records-read-back .order-read o (s .formed));
@@ -86,8 +86,8 @@ one-joined : (n : ℕ) (ws : Words) (x : Line) (rest : Plan) (others : List Aske
     → (bs : List ℕ) → withLine n ws x rest ≡ records bs → bs ≡ joined recordsFor (askedBy ws x others)
 one-joined n ws Empty rest others h bs e = h bs e
 one-joined n ws (Asks o) (records cs) others h bs e =
-    let g : recordsOf o ws ++ cs ≡ bs = cc in
-    sym g ∙ ap (λ (l : List ℕ). recordsOf o ws ++ l) (h cs refl)
+    let g : planRecords o ws ++ cs ≡ bs = cc in
+    sym g ∙ ap (λ (l : List ℕ). planRecords o ws ++ l) (h cs refl)
 one-joined n ws (Asks o) (bad m wrong) others h bs e = let z : _≡_ {A = ℕ} 0 1 = cc in absurd (omega arith)
 one-joined n ws (Faulty wrong) rest others h bs e = let z : _≡_ {A = ℕ} 0 1 = cc in absurd (omega arith)
 

@@ -23,9 +23,9 @@ use Rattle.plan.specs.declared.lines.Step.the-variants.{Next, Stop}
 use Rattle.plan.specs.declared.lines.Laid.{Laid}
 use Rattle.plan.specs.declared.lines.Laid.the-variants.{Whole, BadLine}
 use Rattle.plan.specs.declared.Planned.the-variants.{Written, Bad, Room, Long}
-use Rattle.plan_line.specs.Words.{soughtIn, before, found, part, parts, wordsOf, linesOf}
+use Rattle.plan_line.specs.Words.{soughtIn, before, found, part, parts, wordsIn, linesOf}
 use Rattle.plan_line.specs.Orders.{Words, lineOf}
-use Rattle.plan.specs.Plan.{Plan, records, bad, onto, withLine, recordsOf, lineWords, planFrom, planOf, longest, answerOf, bytesOf, planned, plannedBytes}
+use Rattle.plan.specs.Plan.{Plan, records, bad, ontoPlan, withLine, planRecords, lineWords, planFrom, planOf, longestPlan, planAnswer, planBytes, planned, plannedBytes}
 use Rattle.plan.specs.Steps.{mostLine, PutsLine, Stepped, next, stop, PutsPlan, LaidOut, laid, bad-line}
 use Rattle.plan_line.proofs.Searching.{drop-past, take-before, part-found, drop-found, parts-first, rest}
 use Rattle.plan.proofs.Putting.{append-nil}
@@ -38,11 +38,11 @@ cut P s e = let z : found P s 0 ≡ length (before P s) = zero-add (length (befo
 abbrev pub LF : ℕ → Bool
 LF = soughtIn (Byte 10)
 
-onto-nil : (p : Plan) → p ≡ onto [] p
+onto-nil : (p : Plan) → p ≡ ontoPlan [] p
 onto-nil (records cs) = refl
 onto-nil (bad n wrong) = refl
 
-onto-onto : (cs bs : List ℕ) (p : Plan) → onto cs (onto bs p) ≡ onto (cs ++ bs) p
+onto-onto : (cs bs : List ℕ) (p : Plan) → ontoPlan cs (ontoPlan bs p) ≡ ontoPlan (cs ++ bs) p
 onto-onto cs bs (records ds) = ap records (sym (append-assoc cs bs ds))
 onto-onto cs bs (bad n wrong) = refl
 
@@ -50,7 +50,7 @@ onto-onto cs bs (bad n wrong) = refl
 pub record Laying (most : ℕ) (o o′ : List ℕ) (j : ℕ) (whole left : Plan) : Type 0 where
   pub so-far : List ℕ
   pub put : Puts most o 0 o′ j so-far
-  pub joins : whole ≡ onto so-far left
+  pub joins : whole ≡ ontoPlan so-far left
 
 no-line : (o : List ℕ) (plan : Plan) → Laying 0 o o 0 plan plan
 no-line o plan = record { so-far = []; put = nothing o 0; joins = onto-nil plan }
@@ -70,23 +70,23 @@ module _ {at end past size : ℕ} (inside : at < size) (from : at ≤ end) (with
   forward = forward-by (ltb end size) refl
 
 module _ {most j : ℕ} {o o′ : List ℕ} {whole left : Plan} (l : Laying most o o′ j whole left) where
-  put-next : {k : ℕ} {o″ : List ℕ} (bs : List ℕ) (left′ : Plan) → Puts mostLine o′ j o″ k bs → left ≡ onto bs left′
+  put-next : {k : ℕ} {o″ : List ℕ} (bs : List ℕ) (left′ : Plan) → Puts mostLine o′ j o″ k bs → left ≡ ontoPlan bs left′
       → Laying (most + mostLine) o o″ k whole left′
   put-next bs left′ p e =
-      record { so-far = l .so-far ++ bs; put = l .put ⨟ p; joins = l .joins ∙ ap (onto (l .so-far)) e ∙ onto-onto (l .so-far) bs left′ }
+      record { so-far = l .so-far ++ bs; put = l .put ⨟ p; joins = l .joins ∙ ap (ontoPlan (l .so-far)) e ∙ onto-onto (l .so-far) bs left′ }
 
   put-line : (n : ℕ) (ws : Words) (x : Line) (left′ : Plan) {k : ℕ} {o″ : List ℕ} → PutsLine o′ j o″ k ws x → left ≡ withLine n ws x left′
       → Laying (most + mostLine) o o″ k whole left′
   put-line n ws Empty left′ p e = put-next [] left′ p (e ∙ onto-nil left′)
-  put-line n ws (Asks order) left′ p e = put-next (recordsOf order ws) left′ p e
+  put-line n ws (Asks order) left′ p e = put-next (planRecords order ws) left′ p e
   put-line n ws (Faulty wrong) left′ p e = absurd p
 
   pub bad-line-left : {n : ℕ} {wrong : Wrong} → left ≡ bad n wrong → whole ≡ bad n wrong
-  bad-line-left e = l .joins ∙ ap (onto (l .so-far)) e
+  bad-line-left e = l .joins ∙ ap (ontoPlan (l .so-far)) e
 
   pub no-line-left : left ≡ records [] → most ≤ 0x10_0000_0030_0000 → PutsPlan o o′ j whole
   no-line-left e h =
-      let g : whole ≡ records (l .so-far) = l .joins ∙ ap (onto (l .so-far)) e ∙ ap records (append-nil (l .so-far)) in
+      let g : whole ≡ records (l .so-far) = l .joins ∙ ap (ontoPlan (l .so-far)) e ∙ ap records (append-nil (l .so-far)) in
       subst (λ (p : Plan). PutsPlan o o′ j p) (sym g) (record { whole = refl; put = at-most (l .put) h })
 
 -- a step's answer
@@ -108,7 +108,7 @@ module _ (text : List ℕ) (at : ℕ) {end : ℕ} (e : end ≡ found LF text at)
 
   module _ {past : ℕ} (on : end < length text → past ≡ end + 1) (off : length text ≤ end → past ≡ end) where
     others : (x : Bool) → ltb end (length text) ≡ x → planFrom (suc (n + 1)) (rest LF (drop end text)) ≡ planFrom (n + 1 + 1) (linesOf (drop past text))
-    unfolding planFrom parts before wordsOf lineOf
+    unfolding planFrom parts before wordsIn lineOf
     others true h = let g = ltb-true end (length text) h in rw (on g, drop-cons text end 0 g, add-one end, add-one (n + 1))
     others false h = let g = ltb-false end (length text) h in rw (off g, drop-past text end g)
 
@@ -134,7 +134,7 @@ module _ (text : List ℕ) (at : ℕ) {end : ℕ} (e : end ≡ found LF text at)
 
 -- the end of a text: nothing, or a line without a word
 pub text-ends : (text : List ℕ) (at n : ℕ) → length text ≤ at → planFrom n (linesOf (drop at text)) ≡ records []
-unfolding planFrom parts before wordsOf lineOf
+unfolding planFrom parts before wordsIn lineOf
 text-ends text at n h = rw (drop-past text at h)
 
 -- the answers
@@ -147,9 +147,9 @@ at-bad-line (bad-line e) = e
 stored-none : (o : List ℕ) → o ≡ stored o 0 []
 stored-none o = stored-whole o 0 [] (omega arith)
 
-pub too-long : (text o : List ℕ) → longest < length text → (Long ≡ planned text (length o)) × (o ≡ stored o 0 (plannedBytes text))
+pub too-long : (text o : List ℕ) → longestPlan < length text → (Long ≡ planned text (length o)) × (o ≡ stored o 0 (plannedBytes text))
 unfolding planned plannedBytes
-too-long text o h = rw (lt-leb (length text) longest h) (refl, stored-none o)
+too-long text o h = rw (lt-leb (length text) longestPlan h) (refl, stored-none o)
 
 -- a text of the records bs
 module _ (text o : List ℕ) {bs : List ℕ} where
@@ -158,32 +158,32 @@ module _ (text o : List ℕ) {bs : List ℕ} where
   second-bytes e (laid p) = rw e at (p .put .bytes)
   second-bytes e (bad-line f) = let z : _≡_ {A = ℕ} 0 1 = cc in absurd (omega arith)
 
-  module _ (short : length text ≤ longest) (e : planOf text ≡ records bs) {j : ℕ} (size : j ≡ length bs) where
+  module _ (short : length text ≤ longestPlan) (e : planOf text ≡ records bs) {j : ℕ} (size : j ≡ length bs) where
     no-room : length o < j → (Room j ≡ planned text (length o)) × (o ≡ stored o 0 (plannedBytes text))
     unfolding planned plannedBytes
     no-room h =
-        rw (le-leb (length text) longest short, e, lt-leb (length bs) (length o) (omega arith), ← size)
+        rw (le-leb (length text) longestPlan short, e, lt-leb (length bs) (length o) (omega arith), ← size)
         (refl, stored-nothing o 0 bs (omega arith))
 
     written : {o′ : List ℕ} → j ≤ length o → o′ ≡ sets o 0 bs → (Written j ≡ planned text (length o)) × (o′ ≡ stored o 0 (plannedBytes text))
     unfolding planned plannedBytes
     written h f =
-        rw (le-leb (length text) longest short, e, le-leb (length bs) (length o) (omega arith), ← size)
+        rw (le-leb (length text) longestPlan short, e, le-leb (length bs) (length o) (omega arith), ← size)
         (refl, f ∙ stored-whole o 0 bs (omega arith))
 
-module _ (text o : List ℕ) (short : length text ≤ longest) {q q′ : List ℕ} {r : Laid} (first : LaidOut text q q′ r) where
+module _ (text o : List ℕ) (short : length text ≤ longestPlan) {q q′ : List ℕ} {r : Laid} (first : LaidOut text q q′ r) where
   pub answer-bad : {n : ℕ} {wrong : Wrong} → r ≡ BadLine n wrong
       → (Bad n wrong ≡ planned text (length o)) × (o ≡ stored o 0 (plannedBytes text))
   unfolding planned plannedBytes
   answer-bad e =
       let g = at-bad-line (subst (λ (x : Laid). LaidOut text q q′ x) e first) in
-      rw (le-leb (length text) longest short, g) (refl, stored-none o)
+      rw (le-leb (length text) longestPlan short, g) (refl, stored-none o)
 
   module _ {j : ℕ} (e : r ≡ Whole j) where
     first-plan : PutsPlan q q′ j (planOf text)
     first-plan = at-laid (subst (λ (x : Laid). LaidOut text q q′ x) e first)
 
-    size : j ≡ length (bytesOf (planOf text))
+    size : j ≡ length (planBytes (planOf text))
     size = let p = first-plan .put .next in omega arith
 
     pub answer-room : length o < j → (Room j ≡ planned text (length o)) × (o ≡ stored o 0 (plannedBytes text))
@@ -198,14 +198,14 @@ fits-by : (room size : ℕ) {j : ℕ} (x : Bool) → leb size room ≡ x → con
 fits-by room size {j} true h e = let g : size ≡ j = cc in omega (arith, leb-true size room h)
 fits-by room size {j} false h e = let z : _≡_ {A = ℕ} 0 1 = cc in absurd (omega arith)
 
-plan-fits : (room : ℕ) {j : ℕ} (plan : Plan) → answerOf room plan ≡ Written j → j ≤ room
+plan-fits : (room : ℕ) {j : ℕ} (plan : Plan) → planAnswer room plan ≡ Written j → j ≤ room
 plan-fits room (records bs) e = fits-by room (length bs) (leb (length bs) room) refl e
 plan-fits room {j} (bad n wrong) e = let z : _≡_ {A = ℕ} 0 1 = cc in absurd (omega arith)
 
-short-fits : (room : ℕ) {j : ℕ} (plan : Plan) (x : Bool) → cond x (answerOf room plan) Long ≡ Written j → j ≤ room
+short-fits : (room : ℕ) {j : ℕ} (plan : Plan) (x : Bool) → cond x (planAnswer room plan) Long ≡ Written j → j ≤ room
 short-fits room plan true e = plan-fits room plan e
 short-fits room {j} plan false e = let z : _≡_ {A = ℕ} 0 1 = cc in absurd (omega arith)
 
 pub written-fits : (text : List ℕ) (room : ℕ) {j : ℕ} → planned text room ≡ Written j → j ≤ room
 unfolding planned
-written-fits text room e = short-fits room (planOf text) (leb (length text) longest) e
+written-fits text room e = short-fits room (planOf text) (leb (length text) longestPlan) e

@@ -7,8 +7,8 @@ use native.Mathlib.Omega.{arith}
 use borrow.Author.Tests.{leb-true, ltb-true}
 use lib.Dec.{leb, ltb, eqb}
 use lib.ListN.{length, drop}
-use Rattle.records.specs.declared.order.Operation.{Operation}
-use Rattle.records.specs.declared.order.Operation.the-variants.{Add, Sub, Mul, Div, Rem}
+use Rattle.records.specs.declared.order.Calculation.{Calculation}
+use Rattle.records.specs.declared.order.Calculation.the-variants.{Add, Sub, Mul, Div, Rem}
 use Rattle.records.specs.declared.order.Order.{Order}
 use Rattle.records.specs.declared.order.Order.the-variants.{Put, Compute, Copy, Drop, Store, Load, Print}
 use Rattle.records.specs.Orders.{orderFieldsOf, orderReaders, orderOf, usedByOrder, orderOperandsOk, orderOk, wanted}
@@ -24,8 +24,8 @@ use Rattle.plan_line.specs.declared.orders.Operator.{Operator}
 use Rattle.plan_line.specs.declared.orders.Operator.the-variants.{Is, NoOperator}
 use Rattle.plan_line.specs.declared.orders.Name.{Name}
 use Rattle.plan_line.specs.declared.orders.Name.the-variants.{PutName, ComputeName, CopyName, DropName, StoreName, LoadName, PrintName, OtherName}
-use Rattle.plan_line.specs.Numbers.{allDigits, valueOf, within, naturalOf, negated, integerOf}
-use Rattle.plan_line.specs.Orders.{Words, nameOf, placeAt, integerAt, operatorAt, named, isKind, ended, number, operator, name, putLine, secondLine, operandsLine, computeLine, timesLine, copyLine, tagLine, taggedLine, storeLine, loadLine, newlineLine, printLine, orderLine, lineOf}
+use Rattle.plan_line.specs.Numbers.{allDigits, digitsValue, within, naturalOf, negatedNumber, integerIn}
+use Rattle.plan_line.specs.Orders.{Words, nameOf, placeAt, integerAt, operatorAt, namedFirst, isKind, ended, onNumber, operator, name, putLine, secondLine, operandsLine, computeLine, timesLine, copyLine, tagLine, taggedLine, storeLine, loadLine, newlineLine, printLine, lineFor, lineOf}
 use Rattle.text.specs.Text.{ascii}
 
 -- numbers of words are below a bound
@@ -45,9 +45,9 @@ natural-below : (limit bound : ℕ) → limit < bound → (w : List ℕ) → Bel
 unfolding naturalOf within
 natural-below limit bound h [] = tt
 natural-below limit bound h (b ∷ w) =
-    either bound (allDigits (b ∷ w)) (within limit (valueOf 0 (b ∷ w))) (NoValue NotNumber) (within-by limit bound (valueOf 0 (b ∷ w)) h (leb (valueOf 0 (b ∷ w)) limit) refl) tt
+    either bound (allDigits (b ∷ w)) (within limit (digitsValue 0 (b ∷ w))) (NoValue NotNumber) (within-by limit bound (digitsValue 0 (b ∷ w)) h (leb (digitsValue 0 (b ∷ w)) limit) refl) tt
 
-negated-below : (n : Number) → Below (2 ^ 64) (negated n)
+negated-below : (n : Number) → Below (2 ^ 64) (negatedNumber n)
 negated-below (Value v) = omega arith
 negated-below (NoValue wrong) = tt
 
@@ -57,11 +57,11 @@ place-below [] = tt
 place-below (w ∷ ws) = natural-below 0xFFFF_FFFF (2 ^ 32) (omega arith) w
 
 integer-below : (ws : Words) → Below (2 ^ 64) (integerAt ws)
-unfolding integerAt integerOf
+unfolding integerAt integerIn
 integer-below [] = tt
 integer-below ([] ∷ ws) = tt
 integer-below ((b ∷ w) ∷ ws) =
-    either (2 ^ 64) (eqb b 45) (negated (naturalOf 0x8000_0000_0000_0000 w)) (naturalOf 0x7FFF_FFFF_FFFF_FFFF (b ∷ w))
+    either (2 ^ 64) (eqb b 45) (negatedNumber (naturalOf 0x8000_0000_0000_0000 w)) (naturalOf 0x7FFF_FFFF_FFFF_FFFF (b ∷ w))
     (negated-below (naturalOf 0x8000_0000_0000_0000 w)) (natural-below 0x7FFF_FFFF_FFFF_FFFF (2 ^ 64) (omega arith) (b ∷ w))
 
 -- an order that is well formed and has its kinds
@@ -78,7 +78,7 @@ SoundLine ws (Faulty wrong) = Unit {0}
 plain : (ws : Words) (o : Order) → wanted o ≡ 0 → WellFormedOrder o → Sound ws o
 plain ws o e w = record { formed = w; enough = omega arith; few = omega arith }
 
-compute-ok : (operation : Operation) (a b : ℕ) → orderOk (orderFieldsOf (Compute operation a b)) ≡ true
+compute-ok : (operation : Calculation) (a b : ℕ) → orderOk (orderFieldsOf (Compute operation a b)) ≡ true
 unfolding orderOk orderOperandsOk usedByOrder orderOf orderReaders
 compute-ok Add a b = refl
 compute-ok Sub a b = refl
@@ -96,7 +96,7 @@ module _ (ws : Words) where
   unfolding orderOk orderOperandsOk usedByOrder orderOf orderReaders
   sound-put v h = plain ws (Put v) refl (record { a-fits = omega arith; b-fits = omega arith; n-fits = omega arith; value-fits = h; ok = refl })
 
-  sound-compute : (operation : Operation) (a b : ℕ) → a < 2 ^ 32 → b < 2 ^ 32 → Sound ws (Compute operation a b)
+  sound-compute : (operation : Calculation) (a b : ℕ) → a < 2 ^ 32 → b < 2 ^ 32 → Sound ws (Compute operation a b)
   sound-compute operation a b h g =
       plain ws (Compute operation a b) refl (record { a-fits = h; b-fits = g; n-fits = omega arith; value-fits = omega arith; ok = compute-ok operation a b })
 
@@ -131,11 +131,11 @@ module _ (ws : Words) where
   when-ended o [] s = s
   when-ended o (w ∷ rest) s = tt
 
-  with-number : (bound : ℕ) (n : Number) (then : ℕ → Line) → Below bound n → ((v : ℕ) → v < bound → SoundLine ws (then v)) → SoundLine ws (number n then)
+  with-number : (bound : ℕ) (n : Number) (then : ℕ → Line) → Below bound n → ((v : ℕ) → v < bound → SoundLine ws (then v)) → SoundLine ws (onNumber n then)
   with-number bound (Value v) then h f = f v h
   with-number bound (NoValue wrong) then h f = tt
 
-  with-operator : (x : Operator) (then : Operation → Line) → ((operation : Operation) → SoundLine ws (then operation)) → SoundLine ws (operator x then)
+  with-operator : (x : Operator) (then : Calculation → Line) → ((operation : Calculation) → SoundLine ws (then operation)) → SoundLine ws (operator x then)
   with-operator (Is operation) then f = f operation
   with-operator (NoOperator wrong) then f = tt
 
@@ -148,13 +148,13 @@ module _ (ws : Words) where
   unfolding putLine
   put-sound = with-number (2 ^ 64) (integerAt (drop 1 ws)) (λ v. ended (Put v) (drop 2 ws)) (integer-below (drop 1 ws)) (λ v h. when-ended (Put v) (drop 2 ws) (sound-put v h))
 
-  second-sound : (operation : Operation) (a : ℕ) → a < 2 ^ 32 → SoundLine ws (secondLine operation a ws)
+  second-sound : (operation : Calculation) (a : ℕ) → a < 2 ^ 32 → SoundLine ws (secondLine operation a ws)
   unfolding secondLine
   second-sound operation a g =
       with-number (2 ^ 32) (placeAt (drop 3 ws)) (λ b. ended (Compute operation a b) (drop 4 ws)) (place-below (drop 3 ws))
       (λ b h. when-ended (Compute operation a b) (drop 4 ws) (sound-compute operation a b g h))
 
-  operands-sound : (operation : Operation) → SoundLine ws (operandsLine operation ws)
+  operands-sound : (operation : Calculation) → SoundLine ws (operandsLine operation ws)
   unfolding operandsLine
   operands-sound operation = with-number (2 ^ 32) (placeAt (drop 2 ws)) (λ a. secondLine operation a ws) (place-below (drop 2 ws)) (λ a h. second-sound operation a h)
 
@@ -178,7 +178,7 @@ module _ (ws : Words) where
 
   tagged-sound : (n : ℕ) → n < 2 ^ 32 → SoundLine ws (taggedLine n ws)
   unfolding taggedLine
-  tagged-sound n g = with-name (named (ascii "tag") (drop 2 ws)) (tagLine n ws) (Faulty NotTag) (Faulty MissingWord) (tag-sound n g) tt tt
+  tagged-sound n g = with-name (namedFirst (ascii "tag") (drop 2 ws)) (tagLine n ws) (Faulty NotTag) (Faulty MissingWord) (tag-sound n g) tt tt
 
   store-sound : SoundLine ws (storeLine ws)
   unfolding storeLine
@@ -187,7 +187,7 @@ module _ (ws : Words) where
   newline-sound : (a : ℕ) → a < 2 ^ 32 → SoundLine ws (newlineLine a ws)
   unfolding newlineLine
   newline-sound a g =
-      with-name (named (ascii "newline") (drop 2 ws)) (ended (Print true a) (drop 3 ws)) (Faulty NotNewline) (Asks (Print false a))
+      with-name (namedFirst (ascii "newline") (drop 2 ws)) (ended (Print true a) (drop 3 ws)) (Faulty NotNewline) (Asks (Print false a))
       (when-ended (Print true a) (drop 3 ws) (sound-print true a g)) tt (sound-print false a g)
 
   print-sound : SoundLine ws (printLine ws)
@@ -206,7 +206,7 @@ module _ (ws : Words) where
   load-sound n (w ∷ rest) e h =
       kind-by n (loadLine (suc n) rest) (ltb n 4096) (isKind w) refl (λ g. load-sound (suc n) rest (omega arith) (omega arith))
 
-named-sound : (x : Name) (w : List ℕ) (ws : Words) → SoundLine (w ∷ ws) (orderLine x (w ∷ ws) ws)
+named-sound : (x : Name) (w : List ℕ) (ws : Words) → SoundLine (w ∷ ws) (lineFor x (w ∷ ws) ws)
 named-sound PutName w ws = put-sound (w ∷ ws)
 named-sound ComputeName w ws = compute-sound (w ∷ ws)
 named-sound CopyName w ws = copy-sound (w ∷ ws)

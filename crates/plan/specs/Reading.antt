@@ -14,7 +14,7 @@ use Rattle.plan_line.specs.declared.orders.Line.{Line}
 use Rattle.plan_line.specs.declared.orders.Line.the-variants.{Empty, Asks, Faulty}
 use Rattle.plan_line.specs.Words.{linesOf}
 use Rattle.plan_line.specs.Orders.{Words, lineOf}
-use Rattle.plan.specs.Plan.{recordsOf, records, lineWords, planOf}
+use Rattle.plan.specs.Plan.{planRecords, records, lineWords, planOf}
 
 -- an order and its line's words
 pub record AskedLine : Type 0 where
@@ -32,7 +32,7 @@ askedIn [] = []
 askedIn (l ∷ ls) = askedBy (lineWords l) (lineOf (lineWords l)) (askedIn ls)
 
 abbrev pub recordsFor : AskedLine → List ℕ
-recordsFor a = recordsOf (a .order) (a .words)
+recordsFor a = planRecords (a .order) (a .words)
 
 pub record IsRead (a : AskedLine) : Type 0 where
   pub order-read : orderRead (take 24 (recordsFor a)) ≡ Whole (a .order)

@@ -11,7 +11,7 @@ use Rattle.plan.specs.declared.lines.Laid.the-variants.{Whole, BadLine}
 use Rattle.plan_line.specs.declared.orders.Line.{Line}
 use Rattle.plan_line.specs.declared.orders.Line.the-variants.{Empty, Asks, Faulty}
 use Rattle.plan_line.specs.Orders.{Words, lineOf}
-use Rattle.plan.specs.Plan.{Plan, records, bad, recordsOf, bytesOf, planOf}
+use Rattle.plan.specs.Plan.{Plan, records, bad, planRecords, planBytes, planOf}
 
 -- a bound on an order's records: its own and 2^32 bindings
 abbrev pub mostLine : ℕ
@@ -24,7 +24,7 @@ mostText = 0x10_0000_0030_0000
 -- the records of a line that is not bad
 abbrev pub PutsLine : List ℕ → ℕ → List ℕ → ℕ → Words → Line → Type 0
 PutsLine o i o′ j ws Empty = Puts mostLine o i o′ j []
-PutsLine o i o′ j ws (Asks order) = Puts mostLine o i o′ j (recordsOf order ws)
+PutsLine o i o′ j ws (Asks order) = Puts mostLine o i o′ j (planRecords order ws)
 PutsLine o i o′ j ws (Faulty wrong) = ⊥
 
 -- a line that is put, or bad
@@ -34,8 +34,8 @@ pub data Stepped (o : List ℕ) (i : ℕ) (o′ : List ℕ) (ws : Words) : Step 
 
 -- a text's records put from the output's start
 pub record PutsPlan (o o′ : List ℕ) (j : ℕ) (plan : Plan) : Type 0 where
-  pub whole : plan ≡ records (bytesOf plan)
-  pub put : Puts mostText o 0 o′ j (bytesOf plan)
+  pub whole : plan ≡ records (planBytes plan)
+  pub put : Puts mostText o 0 o′ j (planBytes plan)
 
 -- a text that is put, or has a bad line
 pub data LaidOut (text o o′ : List ℕ) : Laid → Type 0 where

@@ -5,20 +5,20 @@ ghost use lib.ListN.{length, take, drop};
 ghost use Rattle.records.specs.Contexts.{bindingBytes};
 ghost use Rattle.records.specs.Orders.{orderFieldsOf, orderBytes};
 ghost use Rattle.text.specs.Putting.{farthest, Puts};
-ghost use Rattle.plan_line.specs.Words.{wordsOf, uncommented};
-ghost use Rattle.plan.specs.Plan.{kindOf, bindings, following, recordsOf, longest};
+ghost use Rattle.plan_line.specs.Words.{wordsIn, uncommented};
+ghost use Rattle.plan.specs.Plan.{kindOfWord, bindings, following, planRecords, longestPlan};
 ghost use Rattle.plan.specs.Steps.{mostLine, Stepped, LaidOut};
+use plan_line::orders;
+use plan_line::orders::Line;
+use plan_line::words;
+use plan_line::words::FoundWord;
+use plan_line::words::Sought;
+use plan_line::wrong::Wrong;
 use records::binding;
 use records::binding::Binding;
 use records::binding::Kind;
 use records::order;
 use records::order::Order;
-use plan_line::orders;
-use plan_line::orders::Line;
-use plan_line::words;
-use plan_line::words::Found;
-use plan_line::words::Sought;
-use plan_line::wrong::Wrong;
 
 // The index past a line's records, or what is wrong with the line.
 pub enum Step {
@@ -33,7 +33,7 @@ pub enum Laid {
 }
 
 fn kind_of(w: &[u8]) -> Kind
-    ensures { λ r. ⌜ r ≡ kindOf (now (w .entry)) ⌝ }
+    ensures { λ r. ⌜ r ≡ kindOfWord (now (w .entry)) ⌝ }
 {
     if words::same(w, b"e") {
         return Kind::Ext;
@@ -62,18 +62,18 @@ fn put_order(out: &mut [u8], at: usize, o: Order) -> usize
 // The bindings of the first n kinds from index `from` on.
 fn put_kinds(out: &mut [u8], at: usize, line: &[u8], from: usize, n: u32) -> usize
     requires { ⌜ (from ≤ length (now line)) × (at + 8 * n ≤ farthest) ⌝ }
-    ensures { λ r. ⌜ Puts (8 * n) (now (out .entry)) at (now (out .exit)) r (bindings 0 (take n (wordsOf (drop from (now (line .entry)))))) ⌝ }
+    ensures { λ r. ⌜ Puts (8 * n) (now (out .entry)) at (now (out .exit)) r (bindings 0 (take n (wordsIn (drop from (now (line .entry)))))) ⌝ }
 {
     let mut next = at;
     let mut i = from;
     let mut id: u32 = 0;
     while id < n {
         match words::next_word(line, i) {
-            Found::Word(start, end) => {
+            FoundWord::Word(start, end) => {
                 next = put_binding(out, next, kind_of(&line[start..end]), id);
                 i = end;
             }
-            Found::NoWord => {
+            FoundWord::NoWord => {
                 return next;
             }
         }
@@ -85,12 +85,12 @@ fn put_kinds(out: &mut [u8], at: usize, line: &[u8], from: usize, n: u32) -> usi
 // The bindings that follow an order.
 fn put_following(out: &mut [u8], at: usize, line: &[u8], o: Order) -> usize
     requires { ⌜ at + 0x8_0000_0000 ≤ farthest ⌝ }
-    ensures { λ r. ⌜ Puts 0x8_0000_0000 (now (out .entry)) at (now (out .exit)) r (following o (wordsOf (now (line .entry)))) ⌝ }
+    ensures { λ r. ⌜ Puts 0x8_0000_0000 (now (out .entry)) at (now (out .exit)) r (following o (wordsIn (now (line .entry)))) ⌝ }
 {
     match o {
         Order::Load(n) => match words::word_at(line, 0) {
-            Found::Word(_, end) => put_kinds(out, at, line, end, n),
-            Found::NoWord => at,
+            FoundWord::Word(_, end) => put_kinds(out, at, line, end, n),
+            FoundWord::NoWord => at,
         },
         Order::Put(_) => at,
         Order::Compute(_, _, _) => at,
@@ -103,7 +103,7 @@ fn put_following(out: &mut [u8], at: usize, line: &[u8], o: Order) -> usize
 
 fn put_records(out: &mut [u8], at: usize, line: &[u8], o: Order) -> usize
     requires { ⌜ at + mostLine ≤ farthest ⌝ }
-    ensures { λ r. ⌜ Puts mostLine (now (out .entry)) at (now (out .exit)) r (recordsOf o (wordsOf (now (line .entry)))) ⌝ }
+    ensures { λ r. ⌜ Puts mostLine (now (out .entry)) at (now (out .exit)) r (planRecords o (wordsIn (now (line .entry)))) ⌝ }
 {
     let next = put_order(out, at, o);
     put_following(out, next, line, o)
@@ -112,7 +112,7 @@ fn put_records(out: &mut [u8], at: usize, line: &[u8], o: Order) -> usize
 // The records of a line without a comment.
 fn put_words(out: &mut [u8], at: usize, line: &[u8]) -> Step
     requires { ⌜ at + mostLine ≤ farthest ⌝ }
-    ensures { λ r. ⌜ Stepped (now (out .entry)) at (now (out .exit)) (wordsOf (now (line .entry))) r ⌝ }
+    ensures { λ r. ⌜ Stepped (now (out .entry)) at (now (out .exit)) (wordsIn (now (line .entry))) r ⌝ }
 {
     match orders::read_line(line) {
         Line::Empty => Step::Next(at),
@@ -123,7 +123,7 @@ fn put_words(out: &mut [u8], at: usize, line: &[u8]) -> Step
 
 fn put_line(out: &mut [u8], at: usize, line: &[u8]) -> Step
     requires { ⌜ at + mostLine ≤ farthest ⌝ }
-    ensures { λ r. ⌜ Stepped (now (out .entry)) at (now (out .exit)) (wordsOf (uncommented (now (line .entry)))) r ⌝ }
+    ensures { λ r. ⌜ Stepped (now (out .entry)) at (now (out .exit)) (wordsIn (uncommented (now (line .entry)))) r ⌝ }
 {
     let end = words::find(line, 0, Sought::Byte(b'#'));
     put_words(out, at, &line[..end])
@@ -138,7 +138,7 @@ fn past(text: &[u8], end: usize) -> usize
 
 // The records of a text, from the start of `out`.
 pub fn put_plan(out: &mut [u8], text: &[u8]) -> Laid
-    requires { ⌜ length (now text) ≤ longest ⌝ }
+    requires { ⌜ length (now text) ≤ longestPlan ⌝ }
     ensures { λ r. ⌜ LaidOut (now (text .entry)) (now (out .entry)) (now (out .exit)) r ⌝ }
 {
     let mut next = 0;

@@ -1,12 +1,12 @@
 // What is wrong with a line, in words.
 ghost use Prim.Native.Nat.{_+_, _≤_};
 ghost use Rattle.text.specs.Putting.{farthest, Puts};
-ghost use Rattle.plan.specs.Messages.{causeOf, message};
+ghost use Rattle.plan.specs.Messages.{wrongWords, message};
 use plan_line::wrong::Wrong;
 
 fn put_cause(text: &mut [u8], at: usize, wrong: Wrong) -> usize
     requires { ⌜ at + 31 ≤ farthest ⌝ }
-    ensures { λ r. ⌜ Puts 31 (now (text .entry)) at (now (text .exit)) r (causeOf wrong) ⌝ }
+    ensures { λ r. ⌜ Puts 31 (now (text .entry)) at (now (text .exit)) r (wrongWords wrong) ⌝ }
 {
     match wrong {
         Wrong::NoSuchOrder => text::put_bytes(text, at, b"no such order"),

@@ -8,17 +8,17 @@ use Rattle.plan_line.specs.declared.numbers.Number.{Number}
 use Rattle.plan_line.specs.declared.numbers.Number.the-variants.{Value, NoValue}
 
 -- '0' to '9'
-abbrev pub digit : ℕ → Bool
-digit b = leb 48 b && ltb b 58
+abbrev pub isDigit : ℕ → Bool
+isDigit b = leb 48 b && ltb b 58
 
 unfoldable pub allDigits : List ℕ → Bool
 allDigits [] = true
-allDigits (b ∷ s) = digit b && allDigits s
+allDigits (b ∷ s) = isDigit b && allDigits s
 
 -- the value of digits that follow those of value v
-unfoldable pub valueOf : ℕ → List ℕ → ℕ
-valueOf v [] = v
-valueOf v (b ∷ s) = valueOf (10 * v + (b - 48)) s
+unfoldable pub digitsValue : ℕ → List ℕ → ℕ
+digitsValue v [] = v
+digitsValue v (b ∷ s) = digitsValue (10 * v + (b - 48)) s
 
 unfoldable pub within : ℕ → ℕ → Number
 within limit v = cond (leb v limit) (Value v) (NoValue OutOfRange)
@@ -26,18 +26,18 @@ within limit v = cond (leb v limit) (Value v) (NoValue OutOfRange)
 -- at least one digit, and a value up to the limit
 unfoldable pub naturalOf : ℕ → List ℕ → Number
 naturalOf limit [] = NoValue NotNumber
-naturalOf limit (b ∷ s) = cond (allDigits (b ∷ s)) (within limit (valueOf 0 (b ∷ s))) (NoValue NotNumber)
+naturalOf limit (b ∷ s) = cond (allDigits (b ∷ s)) (within limit (digitsValue 0 (b ∷ s))) (NoValue NotNumber)
 
 -- a place or a count: 32 bits
-abbrev pub placeOf : List ℕ → Number
-placeOf w = naturalOf 0xFFFF_FFFF w
+abbrev pub placeIn : List ℕ → Number
+placeIn w = naturalOf 0xFFFF_FFFF w
 
 -- the 64-bit two's complement
-abbrev pub negated : Number → Number
-negated (Value v) = Value ((0x1_0000_0000_0000_0000 - v) % 0x1_0000_0000_0000_0000)
-negated (NoValue wrong) = NoValue wrong
+abbrev pub negatedNumber : Number → Number
+negatedNumber (Value v) = Value ((0x1_0000_0000_0000_0000 - v) % 0x1_0000_0000_0000_0000)
+negatedNumber (NoValue wrong) = NoValue wrong
 
 -- a value or a tag: 64 bits, signed, '-' in front of a negative one
-unfoldable pub integerOf : List ℕ → Number
-integerOf [] = NoValue NotNumber
-integerOf (b ∷ s) = cond (eqb b 45) (negated (naturalOf 0x8000_0000_0000_0000 s)) (naturalOf 0x7FFF_FFFF_FFFF_FFFF (b ∷ s))
+unfoldable pub integerIn : List ℕ → Number
+integerIn [] = NoValue NotNumber
+integerIn (b ∷ s) = cond (eqb b 45) (negatedNumber (naturalOf 0x8000_0000_0000_0000 s)) (naturalOf 0x7FFF_FFFF_FFFF_FFFF (b ∷ s))

@@ -5,8 +5,8 @@ use mathlib.Core.Bool.{Bool, true, false, _||_, cond}
 use mathlib.Core.List.{List, [], _∷_}
 use lib.Dec.{ltb}
 use lib.ListN.{drop}
-use Rattle.records.specs.declared.order.Operation.{Operation}
-use Rattle.records.specs.declared.order.Operation.the-variants.{Add, Sub, Mul, Div, Rem}
+use Rattle.records.specs.declared.order.Calculation.{Calculation}
+use Rattle.records.specs.declared.order.Calculation.the-variants.{Add, Sub, Mul, Div, Rem}
 use Rattle.records.specs.declared.order.Order.{Order}
 use Rattle.records.specs.declared.order.Order.the-variants.{Put, Compute, Copy, Drop, Store, Load, Print}
 use Rattle.text.specs.Text.{ascii}
@@ -22,7 +22,7 @@ use Rattle.plan_line.specs.declared.orders.Operator.the-variants.{Is, No
 use Rattle.plan_line.specs.declared.orders.Name.{Name}
 use Rattle.plan_line.specs.declared.orders.Name.the-variants.{PutName, ComputeName, CopyName, DropName, StoreName, LoadName, PrintName, OtherName}
 use Rattle.plan_line.specs.Words.{sameBytes}
-use Rattle.plan_line.specs.Numbers.{placeOf, integerOf}
+use Rattle.plan_line.specs.Numbers.{placeIn, integerIn}
 
 abbrev pub Words : Type 0
 Words = List (List ℕ)
@@ -52,19 +52,19 @@ isKind w = sameBytes w (ascii "e") || sameBytes w (ascii "l")
 -- the first of some words, as a place or a count, a value or a tag, an operation, a name
 unfoldable pub placeAt : Words → Number
 placeAt [] = NoValue MissingWord
-placeAt (w ∷ ws) = placeOf w
+placeAt (w ∷ ws) = placeIn w
 
 unfoldable pub integerAt : Words → Number
 integerAt [] = NoValue MissingWord
-integerAt (w ∷ ws) = integerOf w
+integerAt (w ∷ ws) = integerIn w
 
 unfoldable pub operatorAt : Words → Operator
 operatorAt [] = NoOperator MissingWord
 operatorAt (w ∷ ws) = operatorOf w
 
-unfoldable pub named : List ℕ → Words → Named
-named name [] = Missing
-named name (w ∷ ws) = cond (sameBytes w name) Yes Other
+unfoldable pub namedFirst : List ℕ → Words → Named
+namedFirst name [] = Missing
+namedFirst name (w ∷ ws) = cond (sameBytes w name) Yes Other
 
 -- the order, where no word is left
 unfoldable pub ended : Order → Words → Line
@@ -72,11 +72,11 @@ ended o [] = Asks o
 ended o (w ∷ ws) = Faulty SurplusWord
 
 -- what follows a number, an operation, a name
-abbrev pub number : Number → (ℕ → Line) → Line
-number (Value v) then = then v
-number (NoValue wrong) then = Faulty wrong
+abbrev pub onNumber : Number → (ℕ → Line) → Line
+onNumber (Value v) then = then v
+onNumber (NoValue wrong) then = Faulty wrong
 
-abbrev pub operator : Operator → (Operation → Line) → Line
+abbrev pub operator : Operator → (Calculation → Line) → Line
 operator (Is operation) then = then operation
 operator (NoOperator wrong) then = Faulty wrong
 
@@ -87,34 +87,34 @@ name Missing same else none = none
 
 -- put V
 unfoldable pub putLine : Words → Line
-putLine ws = number (integerAt (drop 1 ws)) (λ v. ended (Put v) (drop 2 ws))
+putLine ws = onNumber (integerAt (drop 1 ws)) (λ v. ended (Put v) (drop 2 ws))
 
 -- compute OPERATION A B
-unfoldable pub secondLine : Operation → ℕ → Words → Line
-secondLine operation a ws = number (placeAt (drop 3 ws)) (λ b. ended (Compute operation a b) (drop 4 ws))
+unfoldable pub secondLine : Calculation → ℕ → Words → Line
+secondLine operation a ws = onNumber (placeAt (drop 3 ws)) (λ b. ended (Compute operation a b) (drop 4 ws))
 
-unfoldable pub operandsLine : Operation → Words → Line
-operandsLine operation ws = number (placeAt (drop 2 ws)) (λ a. secondLine operation a ws)
+unfoldable pub operandsLine : Calculation → Words → Line
+operandsLine operation ws = onNumber (placeAt (drop 2 ws)) (λ a. secondLine operation a ws)
 
 unfoldable pub computeLine : Words → Line
 computeLine ws = operator (operatorAt (drop 1 ws)) (λ operation. operandsLine operation ws)
 
 -- copy A N
 unfoldable pub timesLine : ℕ → Words → Line
-timesLine a ws = number (placeAt (drop 2 ws)) (λ n. ended (Copy a n) (drop 3 ws))
+timesLine a ws = onNumber (placeAt (drop 2 ws)) (λ n. ended (Copy a n) (drop 3 ws))
 
 unfoldable pub copyLine : Words → Line
-copyLine ws = number (placeAt (drop 1 ws)) (λ a. timesLine a ws)
+copyLine ws = onNumber (placeAt (drop 1 ws)) (λ a. timesLine a ws)
 
 -- store N tag V
 unfoldable pub tagLine : ℕ → Words → Line
-tagLine n ws = number (integerAt (drop 3 ws)) (λ v. ended (Store n v) (drop 4 ws))
+tagLine n ws = onNumber (integerAt (drop 3 ws)) (λ v. ended (Store n v) (drop 4 ws))
 
 unfoldable pub taggedLine : ℕ → Words → Line
-taggedLine n ws = name (named (ascii "tag") (drop 2 ws)) (tagLine n ws) (Faulty NotTag) (Faulty MissingWord)
+taggedLine n ws = name (namedFirst (ascii "tag") (drop 2 ws)) (tagLine n ws) (Faulty NotTag) (Faulty MissingWord)
 
 unfoldable pub storeLine : Words → Line
-storeLine ws = number (placeAt (drop 1 ws)) (λ n. taggedLine n ws)
+storeLine ws = onNumber (placeAt (drop 1 ws)) (λ n. taggedLine n ws)
 
 -- load K ..: after n kinds, the kinds that are left
 unfoldable pub loadOf : ℕ → Words → Line
@@ -127,22 +127,22 @@ loadLine n (w ∷ ws) = cond (ltb n 4096) (cond (isKind w) (loadLine (suc n) ws)
 
 -- print A, or print A newline
 unfoldable pub newlineLine : ℕ → Words → Line
-newlineLine a ws = name (named (ascii "newline") (drop 2 ws)) (ended (Print true a) (drop 3 ws)) (Faulty NotNewline) (Asks (Print false a))
+newlineLine a ws = name (namedFirst (ascii "newline") (drop 2 ws)) (ended (Print true a) (drop 3 ws)) (Faulty NotNewline) (Asks (Print false a))
 
 unfoldable pub printLine : Words → Line
-printLine ws = number (placeAt (drop 1 ws)) (λ a. newlineLine a ws)
+printLine ws = onNumber (placeAt (drop 1 ws)) (λ a. newlineLine a ws)
 
 -- the order of a line with this name; rest are the words after the name
-abbrev pub orderLine : Name → Words → Words → Line
-orderLine PutName ws rest = putLine ws
-orderLine ComputeName ws rest = computeLine ws
-orderLine CopyName ws rest = copyLine ws
-orderLine DropName ws rest = ended Drop (drop 1 ws)
-orderLine StoreName ws rest = storeLine ws
-orderLine LoadName ws rest = loadLine 0 rest
-orderLine PrintName ws rest = printLine ws
-orderLine OtherName ws rest = Faulty NoSuchOrder
+abbrev pub lineFor : Name → Words → Words → Line
+lineFor PutName ws rest = putLine ws
+lineFor ComputeName ws rest = computeLine ws
+lineFor CopyName ws rest = copyLine ws
+lineFor DropName ws rest = ended Drop (drop 1 ws)
+lineFor StoreName ws rest = storeLine ws
+lineFor LoadName ws rest = loadLine 0 rest
+lineFor PrintName ws rest = printLine ws
+lineFor OtherName ws rest = Faulty NoSuchOrder
 
 unfoldable pub lineOf : Words → Line
 lineOf [] = Empty
-lineOf (w ∷ ws) = orderLine (nameOf w) (w ∷ ws) ws
+lineOf (w ∷ ws) = lineFor (nameOf w) (w ∷ ws) ws

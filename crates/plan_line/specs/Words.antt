@@ -54,8 +54,8 @@ filled ([] ∷ ps) = filled ps
 filled ((b ∷ p) ∷ ps) = (b ∷ p) ∷ filled ps
 
 -- words stand between blanks
-unfoldable pub wordsOf : List ℕ → List (List ℕ)
-wordsOf line = filled (parts (soughtIn Blank) line)
+unfoldable pub wordsIn : List ℕ → List (List ℕ)
+wordsIn line = filled (parts (soughtIn Blank) line)
 
 -- whether two words are the same
 unfoldable pub sameBytes : List ℕ → List ℕ → Bool

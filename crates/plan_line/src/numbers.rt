@@ -1,7 +1,7 @@
 // The number of a word.
 ghost use mathlib.Core.Path.{_≡_};
 ghost use Prim.Native.Nat.{_-_, _≤_};
-ghost use Rattle.plan_line.specs.Numbers.{digit, allDigits, valueOf, within, naturalOf, negated, integerOf};
+ghost use Rattle.plan_line.specs.Numbers.{isDigit, allDigits, digitsValue, within, naturalOf, negatedNumber, integerIn};
 use crate::wrong::Wrong;
 
 // A number, or what is wrong with the word that should be one.
@@ -11,7 +11,7 @@ pub enum Number {
 }
 
 fn is_digit(b: u8) -> bool
-    ensures { λ r. ⌜ r ≡ digit b ⌝ }
+    ensures { λ r. ⌜ r ≡ isDigit b ⌝ }
 {
     if b < 48 {
         return false;
@@ -45,7 +45,7 @@ fn are_digits(w: &[u8]) -> bool
 // the limit with one digit more.
 fn value_within(w: &[u8], limit: u64) -> Number
     requires { ⌜ limit ≤ 0x8000_0000_0000_0000 ⌝ }
-    ensures { λ r. ⌜ r ≡ within limit (valueOf 0 (now (w .entry))) ⌝ }
+    ensures { λ r. ⌜ r ≡ within limit (digitsValue 0 (now (w .entry))) ⌝ }
 {
     let mut value: u64 = 0;
     let mut i = 0;
@@ -78,7 +78,7 @@ pub fn natural(w: &[u8], limit: u64) -> Number
 
 // The two's complement of a number with a sign in front of it.
 fn negative(n: Number) -> Number
-    ensures { λ r. ⌜ r ≡ negated n ⌝ }
+    ensures { λ r. ⌜ r ≡ negatedNumber n ⌝ }
 {
     match n {
         Number::Value(v) => {
@@ -92,7 +92,7 @@ fn negative(n: Number) -> Number
 }
 
 pub fn integer(w: &[u8]) -> Number
-    ensures { λ r. ⌜ r ≡ integerOf (now (w .entry)) ⌝ }
+    ensures { λ r. ⌜ r ≡ integerIn (now (w .entry)) ⌝ }
 {
     if w.len() == 0 {
         return Number::NoValue(Wrong::NotNumber);

@@ -2,15 +2,15 @@
 ghost use mathlib.Core.Path.{_≡_};
 ghost use Prim.Native.Nat.{_≤_};
 ghost use lib.ListN.{length, drop};
-ghost use Rattle.plan_line.specs.Words.{wordsOf};
-ghost use Rattle.plan_line.specs.Orders.{nameOf, named, placeAt, integerAt, operatorOf, operatorAt, isKind, ended, putLine, secondLine, operandsLine, computeLine, timesLine, copyLine, tagLine, taggedLine, storeLine, loadOf, loadLine, newlineLine, printLine, orderLine, lineOf};
+ghost use Rattle.plan_line.specs.Words.{wordsIn};
+ghost use Rattle.plan_line.specs.Orders.{nameOf, namedFirst, placeAt, integerAt, operatorOf, operatorAt, isKind, ended, putLine, secondLine, operandsLine, computeLine, timesLine, copyLine, tagLine, taggedLine, storeLine, loadOf, loadLine, newlineLine, printLine, lineFor, lineOf};
 ghost use Rattle.plan_line.specs.Fits.{Fits32};
 use crate::numbers;
 use crate::numbers::Number;
 use crate::words;
-use crate::words::Found;
+use crate::words::FoundWord;
 use crate::wrong::Wrong;
-use records::order::Operation;
+use records::order::Calculation;
 use records::order::Order;
 
 // What a line asks for.
@@ -29,7 +29,7 @@ pub enum Named {
 
 // The operation of compute, or what is wrong with its word.
 pub enum Operator {
-    Is(Operation),
+    Is(Calculation),
     NoOperator(Wrong),
 }
 
@@ -75,19 +75,19 @@ fn operator_of(w: &[u8]) -> Operator
     ensures { λ r. ⌜ r ≡ operatorOf (now (w .entry)) ⌝ }
 {
     if words::same(w, b"add") {
-        return Operator::Is(Operation::Add);
+        return Operator::Is(Calculation::Add);
     }
     if words::same(w, b"sub") {
-        return Operator::Is(Operation::Sub);
+        return Operator::Is(Calculation::Sub);
     }
     if words::same(w, b"mul") {
-        return Operator::Is(Operation::Mul);
+        return Operator::Is(Calculation::Mul);
     }
     if words::same(w, b"div") {
-        return Operator::Is(Operation::Div);
+        return Operator::Is(Calculation::Div);
     }
     if words::same(w, b"rem") {
-        return Operator::Is(Operation::Rem);
+        return Operator::Is(Calculation::Rem);
     }
     Operator::NoOperator(Wrong::NoSuchOperation)
 }
@@ -103,61 +103,61 @@ fn is_kind(w: &[u8]) -> bool
 
 // Whether word k is `name`.
 fn word_named(line: &[u8], k: usize, name: &[u8]) -> Named
-    ensures { λ r. ⌜ r ≡ named (now (name .entry)) (drop k (wordsOf (now (line .entry)))) ⌝ }
+    ensures { λ r. ⌜ r ≡ namedFirst (now (name .entry)) (drop k (wordsIn (now (line .entry)))) ⌝ }
 {
     match words::word_at(line, k) {
-        Found::Word(start, end) => {
+        FoundWord::Word(start, end) => {
             if words::same(&line[start..end], name) {
                 return Named::Yes;
             }
             Named::Other
         }
-        Found::NoWord => Named::Missing,
+        FoundWord::NoWord => Named::Missing,
     }
 }
 
 // Word k as a place or a count.
 fn place_at(line: &[u8], k: usize) -> Number
-    ensures is { λ r. ⌜ r ≡ placeAt (drop k (wordsOf (now (line .entry)))) ⌝ }
+    ensures is { λ r. ⌜ r ≡ placeAt (drop k (wordsIn (now (line .entry)))) ⌝ }
     ensures fits { λ r. ⌜ Fits32 r ⌝ }
 {
     match words::word_at(line, k) {
-        Found::Word(start, end) => numbers::natural(&line[start..end], 0xFFFFFFFF),
-        Found::NoWord => Number::NoValue(Wrong::MissingWord),
+        FoundWord::Word(start, end) => numbers::natural(&line[start..end], 0xFFFFFFFF),
+        FoundWord::NoWord => Number::NoValue(Wrong::MissingWord),
     }
 }
 
 // Word k as a value or a tag.
 fn integer_at(line: &[u8], k: usize) -> Number
-    ensures { λ r. ⌜ r ≡ integerAt (drop k (wordsOf (now (line .entry)))) ⌝ }
+    ensures { λ r. ⌜ r ≡ integerAt (drop k (wordsIn (now (line .entry)))) ⌝ }
 {
     match words::word_at(line, k) {
-        Found::Word(start, end) => numbers::integer(&line[start..end]),
-        Found::NoWord => Number::NoValue(Wrong::MissingWord),
+        FoundWord::Word(start, end) => numbers::integer(&line[start..end]),
+        FoundWord::NoWord => Number::NoValue(Wrong::MissingWord),
     }
 }
 
 fn operator_at(line: &[u8], k: usize) -> Operator
-    ensures { λ r. ⌜ r ≡ operatorAt (drop k (wordsOf (now (line .entry)))) ⌝ }
+    ensures { λ r. ⌜ r ≡ operatorAt (drop k (wordsIn (now (line .entry)))) ⌝ }
 {
     match words::word_at(line, k) {
-        Found::Word(start, end) => operator_of(&line[start..end]),
-        Found::NoWord => Operator::NoOperator(Wrong::MissingWord),
+        FoundWord::Word(start, end) => operator_of(&line[start..end]),
+        FoundWord::NoWord => Operator::NoOperator(Wrong::MissingWord),
     }
 }
 
 // The order, where no word k follows.
 fn ended_at(line: &[u8], k: usize, o: Order) -> Line
-    ensures { λ r. ⌜ r ≡ ended o (drop k (wordsOf (now (line .entry)))) ⌝ }
+    ensures { λ r. ⌜ r ≡ ended o (drop k (wordsIn (now (line .entry)))) ⌝ }
 {
     match words::word_at(line, k) {
-        Found::Word(_, _) => Line::Faulty(Wrong::SurplusWord),
-        Found::NoWord => Line::Asks(o),
+        FoundWord::Word(_, _) => Line::Faulty(Wrong::SurplusWord),
+        FoundWord::NoWord => Line::Asks(o),
     }
 }
 
 fn read_put(line: &[u8]) -> Line
-    ensures { λ r. ⌜ r ≡ putLine (wordsOf (now (line .entry))) ⌝ }
+    ensures { λ r. ⌜ r ≡ putLine (wordsIn (now (line .entry))) ⌝ }
 {
     match integer_at(line, 1) {
         Number::Value(value) => ended_at(line, 2, Order::Put(value)),
@@ -165,8 +165,8 @@ fn read_put(line: &[u8]) -> Line
     }
 }
 
-fn read_second(line: &[u8], operation: Operation, a: u32) -> Line
-    ensures { λ r. ⌜ r ≡ secondLine operation a (wordsOf (now (line .entry))) ⌝ }
+fn read_second(line: &[u8], operation: Calculation, a: u32) -> Line
+    ensures { λ r. ⌜ r ≡ secondLine operation a (wordsIn (now (line .entry))) ⌝ }
 {
     match place_at(line, 3) {
         Number::Value(b) => ended_at(line, 4, Order::Compute(operation, a, b as u32)),
@@ -174,8 +174,8 @@ fn read_second(line: &[u8], operation: Operation, a: u32) -> Line
     }
 }
 
-fn read_operands(line: &[u8], operation: Operation) -> Line
-    ensures { λ r. ⌜ r ≡ operandsLine operation (wordsOf (now (line .entry))) ⌝ }
+fn read_operands(line: &[u8], operation: Calculation) -> Line
+    ensures { λ r. ⌜ r ≡ operandsLine operation (wordsIn (now (line .entry))) ⌝ }
 {
     match place_at(line, 2) {
         Number::Value(a) => read_second(line, operation, a as u32),
@@ -184,7 +184,7 @@ fn read_operands(line: &[u8], operation: Operation) -> Line
 }
 
 fn read_compute(line: &[u8]) -> Line
-    ensures { λ r. ⌜ r ≡ computeLine (wordsOf (now (line .entry))) ⌝ }
+    ensures { λ r. ⌜ r ≡ computeLine (wordsIn (now (line .entry))) ⌝ }
 {
     match operator_at(line, 1) {
         Operator::Is(operation) => read_operands(line, operation),
@@ -193,7 +193,7 @@ fn read_compute(line: &[u8]) -> Line
 }
 
 fn read_times(line: &[u8], a: u32) -> Line
-    ensures { λ r. ⌜ r ≡ timesLine a (wordsOf (now (line .entry))) ⌝ }
+    ensures { λ r. ⌜ r ≡ timesLine a (wordsIn (now (line .entry))) ⌝ }
 {
     match place_at(line, 2) {
         Number::Value(n) => ended_at(line, 3, Order::Copy(a, n as u32)),
@@ -202,7 +202,7 @@ fn read_times(line: &[u8], a: u32) -> Line
 }
 
 fn read_copy(line: &[u8]) -> Line
-    ensures { λ r. ⌜ r ≡ copyLine (wordsOf (now (line .entry))) ⌝ }
+    ensures { λ r. ⌜ r ≡ copyLine (wordsIn (now (line .entry))) ⌝ }
 {
     match place_at(line, 1) {
         Number::Value(a) => read_times(line, a as u32),
@@ -211,7 +211,7 @@ fn read_copy(line: &[u8]) -> Line
 }
 
 fn read_tag(line: &[u8], n: u32) -> Line
-    ensures { λ r. ⌜ r ≡ tagLine n (wordsOf (now (line .entry))) ⌝ }
+    ensures { λ r. ⌜ r ≡ tagLine n (wordsIn (now (line .entry))) ⌝ }
 {
     match integer_at(line, 3) {
         Number::Value(tag) => ended_at(line, 4, Order::Store(n, tag)),
@@ -220,7 +220,7 @@ fn read_tag(line: &[u8], n: u32) -> Line
 }
 
 fn read_tagged(line: &[u8], n: u32) -> Line
-    ensures { λ r. ⌜ r ≡ taggedLine n (wordsOf (now (line .entry))) ⌝ }
+    ensures { λ r. ⌜ r ≡ taggedLine n (wordsIn (now (line .entry))) ⌝ }
 {
     match word_named(line, 2, b"tag") {
         Named::Yes => read_tag(line, n),
@@ -230,7 +230,7 @@ fn read_tagged(line: &[u8], n: u32) -> Line
 }
 
 fn read_store(line: &[u8]) -> Line
-    ensures { λ r. ⌜ r ≡ storeLine (wordsOf (now (line .entry))) ⌝ }
+    ensures { λ r. ⌜ r ≡ storeLine (wordsIn (now (line .entry))) ⌝ }
 {
     match place_at(line, 1) {
         Number::Value(n) => read_tagged(line, n as u32),
@@ -241,30 +241,30 @@ fn read_store(line: &[u8]) -> Line
 // The order, where no word follows index `at`.
 fn load_of(line: &[u8], at: usize, n: u32) -> Line
     requires { ⌜ at ≤ length (now line) ⌝ }
-    ensures { λ r. ⌜ r ≡ loadOf n (wordsOf (drop at (now (line .entry)))) ⌝ }
+    ensures { λ r. ⌜ r ≡ loadOf n (wordsIn (drop at (now (line .entry)))) ⌝ }
 {
     match words::next_word(line, at) {
-        Found::Word(_, _) => Line::Faulty(Wrong::TooManyKinds),
-        Found::NoWord => Line::Asks(Order::Load(n)),
+        FoundWord::Word(_, _) => Line::Faulty(Wrong::TooManyKinds),
+        FoundWord::NoWord => Line::Asks(Order::Load(n)),
     }
 }
 
 // A load of the kinds from index `from` on.
 fn read_load(line: &[u8], from: usize) -> Line
     requires { ⌜ from ≤ length (now line) ⌝ }
-    ensures { λ r. ⌜ r ≡ loadLine 0 (wordsOf (drop from (now (line .entry)))) ⌝ }
+    ensures { λ r. ⌜ r ≡ loadLine 0 (wordsIn (drop from (now (line .entry)))) ⌝ }
 {
     let mut at = from;
     let mut n: u32 = 0;
     while n < 4096 {
         match words::next_word(line, at) {
-            Found::Word(start, end) => {
+            FoundWord::Word(start, end) => {
                 if is_kind(&line[start..end]) {} else {
                     return Line::Faulty(Wrong::NotKind);
                 }
                 at = end;
             }
-            Found::NoWord => {
+            FoundWord::NoWord => {
                 return Line::Asks(Order::Load(n));
             }
         }
@@ -274,7 +274,7 @@ fn read_load(line: &[u8], from: usize) -> Line
 }
 
 fn read_newline(line: &[u8], a: u32) -> Line
-    ensures { λ r. ⌜ r ≡ newlineLine a (wordsOf (now (line .entry))) ⌝ }
+    ensures { λ r. ⌜ r ≡ newlineLine a (wordsIn (now (line .entry))) ⌝ }
 {
     match word_named(line, 2, b"newline") {
         Named::Yes => ended_at(line, 3, Order::Print(true, a)),
@@ -284,7 +284,7 @@ fn read_newline(line: &[u8], a: u32) -> Line
 }
 
 fn read_print(line: &[u8]) -> Line
-    ensures { λ r. ⌜ r ≡ printLine (wordsOf (now (line .entry))) ⌝ }
+    ensures { λ r. ⌜ r ≡ printLine (wordsIn (now (line .entry))) ⌝ }
 {
     match place_at(line, 1) {
         Number::Value(a) => read_newline(line, a as u32),
@@ -295,7 +295,7 @@ fn read_print(line: &[u8]) -> Line
 // The order of a line that starts with a name, which ends at index `end`.
 fn read_named(line: &[u8], name: Name, end: usize) -> Line
     requires { ⌜ end ≤ length (now line) ⌝ }
-    ensures { λ r. ⌜ r ≡ orderLine name (wordsOf (now (line .entry))) (wordsOf (drop end (now (line .entry)))) ⌝ }
+    ensures { λ r. ⌜ r ≡ lineFor name (wordsIn (now (line .entry))) (wordsIn (drop end (now (line .entry)))) ⌝ }
 {
     match name {
         Name::PutName => read_put(line),
@@ -310,10 +310,10 @@ fn read_named(line: &[u8], name: Name, end: usize) -> Line
 }
 
 pub fn read_line(line: &[u8]) -> Line
-    ensures { λ r. ⌜ r ≡ lineOf (wordsOf (now (line .entry))) ⌝ }
+    ensures { λ r. ⌜ r ≡ lineOf (wordsIn (now (line .entry))) ⌝ }
 {
     match words::word_at(line, 0) {
-        Found::Word(start, end) => read_named(line, name_of(&line[start..end]), end),
-        Found::NoWord => Line::Empty,
+        FoundWord::Word(start, end) => read_named(line, name_of(&line[start..end]), end),
+        FoundWord::NoWord => Line::Empty,
     }
 }

@@ -13,7 +13,7 @@ pub enum Sought {
 }
 
 // A word from an index to another, or none.
-pub enum Found {
+pub enum FoundWord {
     Word(usize, usize),
     NoWord,
 }
@@ -61,31 +61,31 @@ pub fn find(s: &[u8], at: usize, sought: Sought) -> usize
 }
 
 // The first word from index `at` on.
-pub fn next_word(line: &[u8], at: usize) -> Found
+pub fn next_word(line: &[u8], at: usize) -> FoundWord
     requires { ⌜ at ≤ length (now line) ⌝ }
     ensures { λ r. ⌜ NextWord (now (line .entry)) at r ⌝ }
 {
     let start = find(line, at, Sought::Letter);
     if start < line.len() {
-        Found::Word(start, find(line, start, Sought::Blank))
+        FoundWord::Word(start, find(line, start, Sought::Blank))
     } else {
-        Found::NoWord
+        FoundWord::NoWord
     }
 }
 
 // Word k of a line, from 0.
-pub fn word_at(line: &[u8], k: usize) -> Found
+pub fn word_at(line: &[u8], k: usize) -> FoundWord
     ensures { λ r. ⌜ WordAt (now (line .entry)) k r ⌝ }
 {
     let mut at = 0;
     let mut i = 0;
     while i < k {
         match next_word(line, at) {
-            Found::Word(_, end) => {
+            FoundWord::Word(_, end) => {
                 at = end;
             }
-            Found::NoWord => {
-                return Found::NoWord;
+            FoundWord::NoWord => {
+                return FoundWord::NoWord;
             }
         }
         i += 1;

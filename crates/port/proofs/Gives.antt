@@ -13,29 +13,29 @@ use Rattle.layout.specs.declared.config.Shaped.{Shaped}
 use Rattle.layout.specs.declared.config.Shaped.the-variants.{In, NoFrame, NoEdition}
 use Rattle.layout.specs.declared.config.Shape.{Shape}
 use Rattle.layout.specs.Config.{stackDepth, blockWords}
-use Rattle.machine.specs.declared.run.Answer.{Answer}
+use Rattle.machine.specs.declared.run.RunAnswer.{RunAnswer}
 use Rattle.machine_step.specs.View.{View}
 use Rattle.machine_step.specs.Memory.{heapOk}
 use Rattle.machine.specs.Run.{ran, Leaves}
 use Rattle.port_numbers.specs.Run.{runNumbers}
-use Rattle.port.specs.Run.{startState, Starts, unrun, Gives}
+use Rattle.port.specs.Run.{startState, StartsRun, unrun, Gives}
 
 start-stack : (g : Shape) (fresh : Bool) → replicate (stackDepth g) 0 ≡ startState g fresh .stack
 start-stack g true = refl
 start-stack g false = refl
 
 module _ (f : Shaped) (fresh : Bool) {registers registers′ stack stack′ : List ℕ} where
-  pub starts : {g : Shape} {words : ℕ} → f ≡ In g → registers′ ≡ startState g fresh .registers → words ≡ stackDepth g → stack′ ≡ replicate words 0 → Starts f fresh ACCEPTED registers registers′ stack stack′
+  pub starts : {g : Shape} {words : ℕ} → f ≡ In g → registers′ ≡ startState g fresh .registers → words ≡ stackDepth g → stack′ ≡ replicate words 0 → StartsRun f fresh ACCEPTED registers registers′ stack stack′
   starts {g} e r w s = rw e (record { answer = refl; registers-set = r; stack-set = s ∙ ap (λ (n : ℕ). replicate n 0) w ∙ start-stack g fresh })
 
-  pub unframed-start : f ≡ NoFrame → registers′ ≡ registers → stack′ ≡ stack → Starts f fresh OPERAND registers registers′ stack stack′
+  pub unframed-start : f ≡ NoFrame → registers′ ≡ registers → stack′ ≡ stack → StartsRun f fresh OPERAND registers registers′ stack stack′
   unframed-start e r s = rw e (record { answer = refl; registers-set = r; stack-set = s })
 
-  pub unknown-start : f ≡ NoEdition → registers′ ≡ registers → stack′ ≡ stack → Starts f fresh EDITION registers registers′ stack stack′
+  pub unknown-start : f ≡ NoEdition → registers′ ≡ registers → stack′ ≡ stack → StartsRun f fresh EDITION registers registers′ stack stack′
   unknown-start e r s = rw e (record { answer = refl; registers-set = r; stack-set = s })
 
 module _ (edition frame : Choice) (words : ℕ → ℕ) (s : List ℕ) (limit : ℕ) {v v′ : View} {n m p : ℕ} where
-  pub gives : {b g : Shape} {a : Answer} {block : ℕ} → edition ≡ Of b → block ≡ blockWords b → frame ≡ Of g → Leaves a v′ (ran block words s limit v) → n ∷ m ∷ p ∷ [] ≡ runNumbers a
+  pub gives : {b g : Shape} {a : RunAnswer} {block : ℕ} → edition ≡ Of b → block ≡ blockWords b → frame ≡ Of g → Leaves a v′ (ran block words s limit v) → n ∷ m ∷ p ∷ [] ≡ runNumbers a
       → Gives edition frame words s limit v v′ n m p
   gives e k f l t =
       let w = rw k at l in

@@ -7,8 +7,8 @@ use Rattle.layout.specs.declared.config.Shaped.{Shaped}
 use Rattle.emit.specs.declared.answer.Answer.{Answer}
 use Rattle.emit.specs.Answers.{Answers}
 use Rattle.routine.specs.Routine.{Assembles}
-use Rattle.order_spec.specs.declared.answer.Answer as order
-use Rattle.order_spec.specs.Answered.{Asked, counterAfter}
+use Rattle.order_spec.specs.declared.answer.OrderAnswer.{OrderAnswer}
+use Rattle.order_spec.specs.Answered.{Asked, orderCounterAfter}
 use Rattle.order.specs.Answers.{AnswersOrder}
 use Rattle.port_numbers.specs.Emission.{answerNumbers}
 use Rattle.port_numbers.specs.Order.{orderNumbers}
@@ -21,5 +21,5 @@ tells a e = record { numbers = e ∙ ap answerNumbers (a .answer); bytes = a .by
 pub tells-routine : {o o′ : List ℕ} {r expected : Answer} {routine : List ℕ} {number value : ℕ} → Assembles o o′ r expected routine → number ∷ value ∷ [] ≡ answerNumbers r → TellsRoutine o o′ number value expected routine
 tells-routine a e = record { numbers = e ∙ ap answerNumbers (a .answer); bytes = a .bytes }
 
-pub tells-order : {f : Shaped} {context o o′ a a′ : List ℕ} {q : Asked} {r : order.Answer} {number value bindings after : ℕ} → AnswersOrder f context q r o o′ a a′ → number ∷ value ∷ bindings ∷ [] ≡ orderNumbers r → after ≡ counterAfter (q .counter) r → TellsOrder f context q number value bindings after o o′ a a′
-tells-order {q = q} s e d = record { numbers = e ∙ ap orderNumbers (s .answer); counter = d ∙ ap (counterAfter (q .counter)) (s .answer); records = s .records; context-after = s .after }
+pub tells-order : {f : Shaped} {context o o′ a a′ : List ℕ} {q : Asked} {r : OrderAnswer} {number value bindings after : ℕ} → AnswersOrder f context q r o o′ a a′ → number ∷ value ∷ bindings ∷ [] ≡ orderNumbers r → after ≡ orderCounterAfter (q .counter) r → TellsOrder f context q number value bindings after o o′ a a′
+tells-order {q = q} s e d = record { numbers = e ∙ ap orderNumbers (s .answer); counter = d ∙ ap (orderCounterAfter (q .counter)) (s .answer); records = s .records; context-after = s .after }

@@ -7,7 +7,7 @@ use Rattle.layout.specs.declared.config.Choice.{Choice}
 use Rattle.layout.specs.Config.{inChoice, blockWords}
 use Rattle.heap_chains.specs.declared.Blocks.{Blocks}
 use Rattle.heap_chains.specs.declared.Fit.{Fit}
-use Rattle.heap_chains.specs.Blocks.{counted, fitIn}
+use Rattle.heap_chains.specs.Blocks.{blocksCounted, fitIn}
 
 -- on HEAP's list, lazily freed, held, never used; and the most that were reachable at once
 abbrev pub blockNumbers : Blocks → Fit → List ℕ
@@ -19,5 +19,5 @@ pub record TellsBlocks (edition : Choice) (size : ℕ) (words : ℕ → ℕ) (li
   pub told :
       counts′
       ≡ inChoice edition
-      (λ g. blockNumbers (counted (g .fields) (size / blockWords g) words linear-head lazy-head) (fitIn (g .fields) (size / blockWords g) words lazy-head))
+      (λ g. blockNumbers (blocksCounted (g .fields) (size / blockWords g) words linear-head lazy-head) (fitIn (g .fields) (size / blockWords g) words lazy-head))
       counts

@@ -7,7 +7,7 @@ use Rattle.layout.specs.declared.config.Offset.the-variants.{Operand, Edition}
 use Rattle.layout.specs.declared.utils.Temporary.the-variants.{Frame}
 use Rattle.layout.specs.Config.{inFrame, inEdition}
 use Rattle.layout.specs.Positions.{positionAnswer}
-use Rattle.layout.specs.Queries.{freshTemporary, variableTemporary, unframed, spillOffset, fieldOffset}
+use Rattle.layout.specs.Queries.{freshTemporary, variableTemporary, unframedTemporary, spillOffset, fieldOffset}
 use Rattle.port_numbers.specs.Numbers.{unknown}
 use Rattle.port_numbers.specs.Query.{temporaryNumbers, offsetNumbers, halfOf}
 
@@ -18,8 +18,8 @@ queryNumbers edition frame query second at id context =
     inEdition edition
     (λ g.
     cond (eqb query 1) (temporaryNumbers (inFrame frame (λ f. positionAnswer f at) Frame))
-    (cond (eqb query 2) (temporaryNumbers (inFrame frame (λ f. freshTemporary f (halfOf second) context) (unframed context)))
-    (cond (eqb query 3) (temporaryNumbers (inFrame frame (λ f. variableTemporary f (halfOf second) context id) (unframed context)))
+    (cond (eqb query 2) (temporaryNumbers (inFrame frame (λ f. freshTemporary f (halfOf second) context) (unframedTemporary context)))
+    (cond (eqb query 3) (temporaryNumbers (inFrame frame (λ f. variableTemporary f (halfOf second) context id) (unframedTemporary context)))
     (cond (eqb query 4) (offsetNumbers (inFrame frame (λ f. spillOffset f at) Operand))
     (cond (eqb query 5) (offsetNumbers (fieldOffset g (halfOf second) at)) unknown)))))
     (offsetNumbers Edition)

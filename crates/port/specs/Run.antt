@@ -23,7 +23,7 @@ abbrev pub startState : Shape → Bool → State
 startState g fresh = cond fresh (freshState g) (entryState g)
 
 -- the number, and registers and stack before and after; without a frame, or on a stack that is not the frame's, 3, without an edition 23, and nothing is set
-pub record Starts (f : Shaped) (fresh : Bool) (number : ℕ) (registers registers′ stack stack′ : List ℕ) : Type 0 where
+pub record StartsRun (f : Shaped) (fresh : Bool) (number : ℕ) (registers registers′ stack stack′ : List ℕ) : Type 0 where
   pub answer : number ≡ inShape f (λ g. ACCEPTED) OPERAND EDITION
   pub registers-set : registers′ ≡ inShape f (λ g. startState g fresh .registers) registers registers
   pub stack-set : stack′ ≡ inShape f (λ g. startState g fresh .stack) stack stack

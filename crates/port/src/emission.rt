@@ -2,7 +2,7 @@
 // the value beside it is how many they are, the place of a bad record, or the bytes needed. An operation goes by a number.
 ghost use mathlib.Core.Path.{_≡_};
 ghost use lib.ListN.{length};
-ghost use Rattle.operations.specs.Operations.{operateIn, recordsIn};
+ghost use Rattle.operations.specs.Operations.{operateIn, operationRecordsIn};
 ghost use Rattle.print_i64.specs.Print.{printIn, printRecordsIn};
 ghost use Rattle.routine.specs.Routine.{routineIn, routineBytesIn};
 ghost use Rattle.port_numbers.specs.Emission.{counterAfter, operationNumbered, memoryAnswer, memoryRecords};
@@ -21,7 +21,7 @@ pub extern "C" fn axcut_operation(
     out: &mut [u8],
     value: &mut u64,
 ) -> u64
-    ensures { λ r. ⌜ Tells (now (out .entry)) (now (out .exit)) r (now (value .exit)) (operateIn frame (length (now (out .entry))) (operationNumbered operation first second third label immediate)) (recordsIn frame (operationNumbered operation first second third label immediate)) ⌝ }
+    ensures { λ r. ⌜ Tells (now (out .entry)) (now (out .exit)) r (now (value .exit)) (operateIn frame (length (now (out .entry))) (operationNumbered operation first second third label immediate)) (operationRecordsIn frame (operationNumbered operation first second third label immediate)) ⌝ }
 {
     let chosen = port_numbers::emission::operation_numbered(
         operation,

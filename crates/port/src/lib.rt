@@ -10,18 +10,18 @@ ghost use Rattle.port_numbers.specs.Numbers.{numberIn, valueIn};
 ghost use Rattle.port_numbers.specs.List.{listedNumbers};
 ghost use Rattle.layout.specs.Config.{Supported, editionOf, frameOn, shapeOn, HEAP, FREE};
 ghost use Rattle.port.specs.Blocks.{TellsBlocks};
-ghost use Rattle.port.specs.Run.{startState, Starts, unrun, Gives};
+ghost use Rattle.port.specs.Run.{startState, StartsRun, unrun, Gives};
 
 pub mod check; // bytes checked: a context, instruction records, an order
 pub mod emission; // the operations of code.rs, memory.rs and into_routine.rs
 pub mod query; // the queries of utils.rs and config.rs
 pub mod order; // the seven orders
 
-use machine_step::memory;
 use layout::config;
 use layout::config::Choice;
 use layout::config::Shape;
 use layout::config::Shaped;
+use machine_step::memory;
 use records::check::Checked;
 use records::code;
 
@@ -66,7 +66,7 @@ pub extern "C" fn axcut_start(
     registers: &mut [u64; 16],
     stack: &mut [u64],
 ) -> u64
-    ensures { λ r. ⌜ Starts (shapeOn edition frame (length (now (stack .entry)))) fresh r (now (registers .entry)) (now (registers .exit)) (now (stack .entry)) (now (stack .exit)) ⌝ }
+    ensures { λ r. ⌜ StartsRun (shapeOn edition frame (length (now (stack .entry)))) fresh r (now (registers .entry)) (now (registers .exit)) (now (stack .entry)) (now (stack .exit)) ⌝ }
 {
     match config::shape_on(edition, frame, stack.len()) {
         Shaped::NoEdition => 23,

@@ -27,7 +27,10 @@ pub extern "C" fn axcut_query(
     let half = port_numbers::query::half_of(second);
     match query {
         1 => port_numbers::query::located(layout::utils::position(frame, at), value),
-        2 => port_numbers::query::located(layout::utils::fresh_temporary(frame, half, context), value),
+        2 => port_numbers::query::located(
+            layout::utils::fresh_temporary(frame, half, context),
+            value,
+        ),
         3 => port_numbers::query::located(
             layout::utils::variable_temporary(frame, half, context, id),
             value,

@@ -5,12 +5,12 @@ use mathlib.Core.List.{List, [], _∷_}
 use lib.Dec.{eqb}
 use lib.ListN.{getD}
 use Rattle.records.specs.Causes.{MALFORMED}
-use Rattle.machine.specs.declared.run.Answer.{Answer}
-use Rattle.machine.specs.Run.{causeOf}
+use Rattle.machine.specs.declared.run.RunAnswer.{RunAnswer}
+use Rattle.machine.specs.Run.{runCause}
 use Rattle.port_numbers.specs.Numbers.{numberIn, valueIn}
 
 -- a run's answer: the number, the steps done, and the place of a bad or faulting record, 0 where there is none; the one value of 2 is a place
-abbrev pub runNumbers : Answer → List ℕ
+abbrev pub runNumbers : RunAnswer → List ℕ
 runNumbers r =
-    cond (eqb (numberIn (causeOf r)) MALFORMED) (numberIn (causeOf r) ∷ 0 ∷ valueIn (causeOf r) ∷ [])
-    (numberIn (causeOf r) ∷ valueIn (causeOf r) ∷ getD (causeOf r) 2 0 ∷ [])
+    cond (eqb (numberIn (runCause r)) MALFORMED) (numberIn (runCause r) ∷ 0 ∷ valueIn (runCause r) ∷ [])
+    (numberIn (runCause r) ∷ valueIn (runCause r) ∷ getD (runCause r) 2 0 ∷ [])

@@ -1,7 +1,7 @@
 // Bytes checked: a context, a list of instruction records, an order.
 ghost use mathlib.Core.Path.{_≡_};
 ghost use mathlib.Core.List.{[], _∷_};
-ghost use Rattle.records.specs.Checked.{causeOf};
+ghost use Rattle.records.specs.Checked.{checkedCause};
 ghost use Rattle.records.specs.Contexts.{checkedContext, flawCause, contextCause};
 ghost use Rattle.records.specs.Instructions.{checkedCodes};
 ghost use Rattle.records.specs.Orders.{orderRead, orderCause};
@@ -44,7 +44,7 @@ pub fn check_context(bytes: &[u8], place: &mut u64) -> u64
 }
 
 pub fn check_records(bytes: &[u8], place: &mut u64) -> u64
-    ensures { λ r. ⌜ r ∷ now (place .exit) ∷ [] ≡ numbersIn (causeOf (checkedCodes 65536 (now (bytes .entry)))) ⌝ }
+    ensures { λ r. ⌜ r ∷ now (place .exit) ∷ [] ≡ numbersIn (checkedCause (checkedCodes 65536 (now (bytes .entry)))) ⌝ }
 {
     match records::code::check_codes(bytes, 65536) {
         Checked::Good(_) => {

@@ -16,10 +16,10 @@ use Rattle.records.proofs.ContextsRead.{counted-good, context-long}
 use Rattle.trees.specs.Tree.{Tree, labels, size}
 use Rattle.layout.specs.declared.config.Shape.{Shape}
 use Rattle.layout.specs.Config.{Supported, positions, mostVariables}
-use Rattle.order_spec.specs.declared.answer.Answer.{Answer}
-use Rattle.order_spec.specs.declared.answer.Answer.the-variants.{Accepted, Context, Malformed, Frame, Missing, Kind, Count, Position, Labels, Room, Edition}
+use Rattle.order_spec.specs.declared.answer.OrderAnswer.{OrderAnswer}
+use Rattle.order_spec.specs.declared.answer.OrderAnswer.the-variants.{Accepted, Context, Malformed, Frame, Missing, Kind, Count, Position, Labels, Room, Edition}
 use Rattle.order_spec.specs.Writes.{countOk, treeOf, contextAfter, present, kindsOk, asked}
-use Rattle.order_spec.specs.Answered.{Asked, accepted, orderIs, placesIn, orderContext, granted, answerTo}
+use Rattle.order_spec.specs.Answered.{Asked, orderAccepted, orderIs, placesIn, orderContext, orderGranted, answerTo}
 use Rattle.order_spec.proofs.Accepting.{all-passed, all-judged}
 use Rattle.order_check.proofs.Leaving.{after-long}
 use Rattle.port_rooms_proof.specs.Sizes.{roomForRecords, roomForContext}
@@ -27,7 +27,7 @@ use Rattle.port_rooms_proof.proofs.OrderSizes.{order-most, few-left}
 use Rattle.records.specs.Names.{lastLabel}
 
 -- before 9
-early : Answer → Bool
+early : OrderAnswer → Bool
 early (Accepted records counter bindings) = false
 early (Context flaw) = true
 early (Malformed place) = true
@@ -44,14 +44,14 @@ pub record Passed (g : Shape) (context : List ℕ) (q : Asked) (k : ℕ) : Type 
   pub bindings-good : checkedContext (q .bindings) ≡ checked.Good (wanted (orderIs q))
   pub there : present context k (q .bindings) (orderIs q) ≡ true
   pub placed : asked context k (q .bindings) (orderIs q) ≤ positions g
-  pub answer : answerTo g context q ≡ granted q (treeOf g context k (q .bindings) (orderIs q)) (contextAfter context k (q .bindings) (orderIs q))
+  pub answer : answerTo g context q ≡ orderGranted q (treeOf g context k (q .bindings) (orderIs q)) (contextAfter context k (q .bindings) (orderIs q))
 
 -- a choice of which the second part is such a refusal
-chosen : (b : Bool) (x y : Answer) → early y ≡ true → early (cond b x y) ≡ false → (b ≡ true) × (early x ≡ false)
+chosen : (b : Bool) (x y : OrderAnswer) → early y ≡ true → early (cond b x y) ≡ false → (b ≡ true) × (early x ≡ false)
 chosen true x y r e = (refl, e)
 chosen false x y r e = let z : _≡_ {A = ℕ} 0 1 = cc in absurd (omega arith)
 
-on-good : (c : ContextRead) (f : ℕ → Answer) → early (onContext c f Context) ≡ false → (k : ℕ) × (c ≡ checked.Good k) × (early (f k) ≡ false)
+on-good : (c : ContextRead) (f : ℕ → OrderAnswer) → early (onContext c f Context) ≡ false → (k : ℕ) × (c ≡ checked.Good k) × (early (f k) ≡ false)
 unfolding early
 on-good (checked.Good k) f e = (k, refl, e)
 on-good (checked.Bad flaw) f e = let z : _≡_ {A = ℕ} 0 1 = cc in absurd (omega arith)
@@ -86,19 +86,19 @@ labels-or-none true records counter bindings bytes e = let z : _≡_ {A = ℕ} 0
 labels-or-none false records counter bindings bytes e = let z : _≡_ {A = ℕ} 0 1 = cc in omega arith
 
 module _ (q : Asked) (t : Tree) (after : List ℕ) where
-  no-room-wanted : 24 * size t ≤ q .recordsRoom → length after ≤ q .contextRoom → (bytes : ℕ) → granted q t after ≢ Room bytes
+  no-room-wanted : 24 * size t ≤ q .recordsRoom → length after ≤ q .contextRoom → (bytes : ℕ) → orderGranted q t after ≢ Room bytes
   no-room-wanted h l bytes e =
       labels-or-none (ltb lastLabel (q .counter + labels t)) (size t) (q .counter + labels t) (length after / 8) bytes
       (rw (le-ltb (q .recordsRoom) (24 * size t) h, le-ltb (q .contextRoom) (length after) l) at e)
 
-  pub records-short : {n : ℕ} → q .counter + labels t ≤ lastLabel → 24 * size t ≡ n → q .recordsRoom < n → granted q t after ≡ Room n
+  pub records-short : {n : ℕ} → q .counter + labels t ≤ lastLabel → 24 * size t ≡ n → q .recordsRoom < n → orderGranted q t after ≡ Room n
   records-short {n} l e h = rw (le-ltb lastLabel (q .counter + labels t) l, e, lt-ltb (q .recordsRoom) n h)
 
   pub context-short : {n : ℕ} → q .counter + labels t ≤ lastLabel → 24 * size t ≤ q .recordsRoom → length after ≡ n → q .contextRoom < n
-      → granted q t after ≡ Room n
+      → orderGranted q t after ≡ Room n
   context-short {n} l r e h = rw (le-ltb lastLabel (q .counter + labels t) l, le-ltb (q .recordsRoom) (24 * size t) r, e, lt-ltb (q .contextRoom) n h)
 
-accepted-late : (r : Answer) → accepted r ≡ true → early r ≡ false
+accepted-late : (r : OrderAnswer) → orderAccepted r ≡ true → early r ≡ false
 unfolding early
 accepted-late (Accepted records counter bindings) e = refl
 accepted-late (Context flaw) e = sym e
@@ -127,7 +127,7 @@ module _ (g : Shape) (s : Supported g) (context : List ℕ) (q : Asked) (few : p
       let a = after-long context k (q .bindings) (orderIs q) (context-long context k good) (context-long (q .bindings) (wanted (orderIs q)) (p .bindings-good)) in
       omega (arith, few-left context k (q .bindings) g s (orderIs q) l (p .there) (p .placed))
 
-  pub variables-stay : accepted (answerTo g context q) ≡ true → placesIn (orderContext context q) ≤ mostVariables g
+  pub variables-stay : orderAccepted (answerTo g context q) ≡ true → placesIn (orderContext context q) ≤ mostVariables g
   variables-stay e =
       let p = passed g context q (accepted-late (answerTo g context q) e) in
       few-places g (orderContext context q) (rw (p .1) (context-few (p .0) (p .1) (p .2)))

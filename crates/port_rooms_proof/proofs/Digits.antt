@@ -6,7 +6,7 @@ use native.Mathlib.Omega.{arith}
 use native.Mathlib.Decide.{decLt}
 use lib.ListN.{length, length-append}
 use borrow.Author.Tests.{lt-ltb, le-ltb}
-use Rattle.text.specs.Text.{ascii, digit, digits, decimal, signed}
+use Rattle.text.specs.Text.{ascii, digit, digits, decimal, signedDecimal}
 
 -- the least number of j + 2 digits
 abbrev tens : ℕ → ℕ
@@ -64,11 +64,11 @@ next-digits k h = by (decLt (suc k) 10) (decLt (suc k) 100) (decLt (suc k) 1000)
     by (no a) (no b) (no c) = omega (arith, most 3 h, digits-least 2 20 (suc k) (omega arith) (omega arith))
 
 -- 19 digits, and a sign
-pub signed-most : (v : ℕ) → length (signed v) ≤ 20
-unfolding signed
+pub signed-most : (v : ℕ) → length (signedDecimal v) ≤ 20
+unfolding signedDecimal
 signed-most v = by (decLt v 0x8000_0000_0000_0000)
   where
-    by : Dec (v < 0x8000_0000_0000_0000) → length (signed v) ≤ 20
+    by : Dec (v < 0x8000_0000_0000_0000) → length (signedDecimal v) ≤ 20
     by (yes l) = rw (lt-ltb v 0x8000_0000_0000_0000 l) (omega (arith, digits-most 18 20 v (omega arith)))
     by (no l) =
         rw (le-ltb v 0x8000_0000_0000_0000 (omega arith))

@@ -24,14 +24,14 @@ use Rattle.layout.specs.Config.{Supported, frameOf, editionOf, shapeOf, positio
 use Rattle.layout.specs.Positions.{location}
 use Rattle.memory.specs.Objects.{snd, extIn}
 use Rattle.memory.proofs.Sizes.{store-object-size, immediate-size}
-use Rattle.order_spec.specs.declared.answer.Answer.the-variants.{Room}
+use Rattle.order_spec.specs.declared.answer.OrderAnswer.the-variants.{Room}
 use Rattle.order_spec.specs.Writes.{countOk, treeOf, contextAfter, present, kindsOk, asked}
-use Rattle.order_spec.specs.Answered.{Asked, orderIs, granted, answerTo}
+use Rattle.order_spec.specs.Answered.{Asked, orderIs, orderGranted, answerTo}
 use Rattle.order_spec.proofs.Accepting.{all-passed, all-judged}
 use Rattle.records.proofs.ContextsRead.{context-long}
 use Rattle.order_check.proofs.Leaving.{after-long}
 use Rattle.port_rooms_proof.specs.Sizes.{variables, storeOfAll, roomForRecords, roomForContext}
-use Rattle.port_rooms_proof.specs.Claims.{ordering, RoomsByShape, OrdersFill}
+use Rattle.port_rooms_proof.specs.Claims.{askedWith, RoomsByShape, OrdersFill}
 use Rattle.port_rooms_proof.proofs.Answering.{records-short, context-short}
 use Rattle.port_rooms_proof.proofs.OrderSizes.{order-most}
 
@@ -49,7 +49,7 @@ module _ (kind : Kind) where
 -- an order alone on such a context, which nothing before 9 refuses
 module _ (g : Shape) (context : List ℕ) (k : ℕ) (good : checkedContext context ≡ Good k) (o : Order) (w : WellFormedOrder o) (alone : wanted o ≡ 0) (records after : ℕ) where
   abbrev q : Asked
-  q = ordering o records after
+  q = askedWith o records after
 
   is : orderIs q ≡ o
   is = rw append-nil at (order-laws .same o [] w)
@@ -58,7 +58,7 @@ module _ (g : Shape) (context : List ℕ) (k : ℕ) (good : checkedContext conte
   none-good = records-read-back .context-accepted [] tt (omega arith)
 
   ordered : present context k [] o ≡ true → kindsOk context k [] o ≡ true → countOk o ≡ true → asked context k [] o ≤ positions g
-      → answerTo g context q ≡ granted q (treeOf g context k [] o) (contextAfter context k [] o)
+      → answerTo g context q ≡ orderGranted q (treeOf g context k [] o) (contextAfter context k [] o)
   ordered p n c h =
       let starts = rw append-nil at (order-laws .good o [] w) in
       rw is at
@@ -77,13 +77,13 @@ module _ (g : Shape) (s : Supported g) (room : ℕ) where
   unfolding treeOf
   store-labels = omega (arith, store-object-size g (extIn (variables Linked most) 0) s (most - most) most .0, immediate-size g (snd (most - most)) 0 .0)
 
-  records-needed : room < roomForRecords g → answerTo g (variables Linked most) (ordering (Store most 0) room (roomForContext g)) ≡ Room (roomForRecords g)
+  records-needed : room < roomForRecords g → answerTo g (variables Linked most) (askedWith (Store most 0) room (roomForContext g)) ≡ Room (roomForRecords g)
   unfolding present kindsOk asked
   records-needed h =
       let context : List ℕ = variables Linked most in
       ordered g context most (variables-good Linked most (omega (arith, s .frame))) (Store most 0) stored refl room (roomForContext g)
       (le-leb most most (omega arith)) refl refl (rw (ne-eqb most 0 (λ e. omega (arith, s .aside))) (omega arith))
-      ∙ records-short (ordering (Store most 0) room (roomForContext g)) (storeOfAll g) (contextAfter context most [] (Store most 0)) (omega (arith, store-labels, s .frame)) refl h
+      ∙ records-short (askedWith (Store most 0) room (roomForContext g)) (storeOfAll g) (contextAfter context most [] (Store most 0)) (omega (arith, store-labels, s .frame)) refl h
 
   -- a put on all but one
   abbrev before : List ℕ
@@ -97,14 +97,14 @@ module _ (g : Shape) (s : Supported g) (room : ℕ) where
   unfolding treeOf
   put-labels = immediate-size g (snd (most - 1)) 0 .0
 
-  context-needed : room < roomForContext g → answerTo g before (ordering (Put 0) (roomForRecords g) room) ≡ Room (roomForContext g)
+  context-needed : room < roomForContext g → answerTo g before (askedWith (Put 0) (roomForRecords g) room) ≡ Room (roomForContext g)
   unfolding present kindsOk asked
   context-needed h =
       let good : checkedContext before ≡ Good (most - 1) = variables-good Ext (most - 1) (omega (arith, s .frame)) in
       let fits : asked before (most - 1) [] (Put 0) ≤ positions g = omega (arith, s .aside) in
       let long = after-long before (most - 1) [] (Put 0) (context-long before (most - 1) good) refl in
       ordered g before (most - 1) good (Put 0) put refl (roomForRecords g) room refl refl refl fits
-      ∙ context-short (ordering (Put 0) (roomForRecords g) room) (treeOf g before (most - 1) [] (Put 0)) (contextAfter before (most - 1) [] (Put 0)) (omega (arith, put-labels)) (order-most before (most - 1) [] g s (Put 0) refl fits) (omega (arith, s .aside)) h
+      ∙ context-short (askedWith (Put 0) (roomForRecords g) room) (treeOf g before (most - 1) [] (Put 0)) (contextAfter before (most - 1) [] (Put 0)) (omega (arith, put-labels)) (order-most before (most - 1) [] g s (Put 0) refl fits) (omega (arith, s .aside)) h
 
 pub orders-fill : OrdersFill
 unfolding treeOf location bindingBytes le

@@ -19,10 +19,10 @@ use Rattle.records.proofs.CodesRead.{ok-code, starts-ok, starts-whole}
 use Rattle.records.proofs.Digits.{number-below}
 use Rattle.records.proofs.Each.{each-drop}
 use Rattle.records.proofs.Table.{at}
-use Rattle.text.specs.Text.{ascii, spaced, digits, decimal, signed}
+use Rattle.text.specs.Text.{ascii, spaced, digits, decimal, signedDecimal}
 use Rattle.listing.specs.declared.Listed.the-variants.{Text, Short}
 use Rattle.listing.specs.Names.{codeNames}
-use Rattle.listing.specs.Listing.{nameOf, operands, line, lines, listing, checkedList, textOf, listedText, answerOf, listed}
+use Rattle.listing.specs.Listing.{codeName, operandsText, line, lines, listing, checkedList, textOf, listedText, listingAnswer, listed}
 use Rattle.listing.proofs.Accepted.{record-passes, few-records}
 use Rattle.port_rooms_proof.specs.Sizes.{roomForText}
 use Rattle.port_rooms_proof.proofs.Digits.{digits-most, placeDigits, next-digits, signed-most}
@@ -38,8 +38,8 @@ unfolding digits
 label-long u l true e h o = omega (arith, digits-most 9 20 l (omega arith), eqb-true u 1 e)
 label-long u l false e h o = rw (eqb-true l 0 o) (omega arith)
 
-word-long : (u w : ℕ) (uses : Bool) → eqb u 1 ≡ uses → wordOk uses w ≡ true → length (signed w) ≤ 1 + 19 * u
-unfolding signed digits
+word-long : (u w : ℕ) (uses : Bool) → eqb u 1 ≡ uses → wordOk uses w ≡ true → length (signedDecimal w) ≤ 1 + 19 * u
+unfolding signedDecimal digits
 word-long u w true e h = omega (arith, signed-most w, eqb-true u 1 e)
 word-long u w false e h = rw (eqb-true w 0 h) (omega arith)
 
@@ -61,8 +61,8 @@ newline-long = refl
 pub of-four : (s t u v : List ℕ) → length (s ++ t ++ u ++ v) ≡ length s + length t + length u + length v
 of-four s t u v = simp length-append
 
-operands-long : (u f : Fields) → f .label < 256 ^ 4 → operandsOk u f ≡ true → length (operands f) ≤ 10 + usedBytes u
-unfolding operandsOk operands
+operands-long : (u f : Fields) → f .label < 256 ^ 4 → operandsOk u f ≡ true → length (operandsText f) ≤ 10 + usedBytes u
+unfolding operandsOk operandsText
 operands-long u f l e =
     let p₄ = both _ (wordOk (eqb (u .value) 1) (f .value)) e in
     let p₃ = both _ (wordOk (eqb (u .offset) 1) (f .offset)) (p₄ .0) in
@@ -73,19 +73,19 @@ operands-long u f l e =
     let c = label-long (u .label) (f .label) (eqb (u .label) 1) refl l (p₂ .1) in
     let o = word-long (u .offset) (f .offset) (eqb (u .offset) 1) refl (p₃ .1) in
     let v = word-long (u .value) (f .value) (eqb (u .value) 1) refl (p₄ .1) in
-    omega (arith, five-spaced (decimal (f .a)) (decimal (f .b)) (decimal (f .label)) (signed (f .offset)) (signed (f .value)))
+    omega (arith, five-spaced (decimal (f .a)) (decimal (f .b)) (decimal (f .label)) (signedDecimal (f .offset)) (signedDecimal (f .value)))
 
 -- the name and the fields that are used, of each code: one computed test
 short : ℕ → ℕ → Bool
-short k n = leb (length (nameOf codeNames (k + 1)) + usedBytes (used (k + 1))) 44
+short k n = leb (length (codeName codeNames (k + 1)) + usedBytes (used (k + 1))) 44
 
-name-and-used : (code : ℕ) → 1 ≤ code → code ≤ 44 → length (nameOf codeNames code) + usedBytes (used code) ≤ 44
+name-and-used : (code : ℕ) → 1 ≤ code → code ≤ 44 → length (codeName codeNames code) + usedBytes (used code) ≤ 44
 unfolding short codeNames used codeOf readers
 name-and-used code l h =
     let e : code - 1 + 1 ≡ code = omega arith in
-    let t : T (leb (length (nameOf codeNames (code - 1 + 1)) + usedBytes (used (code - 1 + 1))) 44) = at short (map length codeNames) tt (code - 1) (omega arith) in
-    leb→le (length (nameOf codeNames code) + usedBytes (used code)) 44
-    (subst (λ (c : ℕ). T (leb (length (nameOf codeNames c) + usedBytes (used c)) 44)) e t)
+    let t : T (leb (length (codeName codeNames (code - 1 + 1)) + usedBytes (used (code - 1 + 1))) 44) = at short (map length codeNames) tt (code - 1) (omega arith) in
+    leb→le (length (codeName codeNames code) + usedBytes (used code)) 44
+    (subst (λ (c : ℕ). T (leb (length (codeName codeNames c) + usedBytes (used c)) 44)) e t)
 
 line-long : (place : ℕ) (f : Fields) → f .label < 256 ^ 4 → fieldsOk f ≡ true → length (line codeNames place f) ≤ length (decimal place) + 56
 unfolding line fieldsOk
@@ -93,7 +93,7 @@ line-long place f l e =
     let c = ok-code f e in
     let n = name-and-used (f .code) (c .0) (c .1) in
     let o = operands-long (used (f .code)) f l (and-right (leb 1 (f .code) && leb (f .code) 44) (operandsOk (used (f .code)) f) e) in
-    omega (arith, of-four (decimal place) (spaced (nameOf codeNames (f .code))) (operands f) (ascii "\n"), spaced-long (nameOf codeNames (f .code)), newline-long)
+    omega (arith, of-four (decimal place) (spaced (codeName codeNames (f .code))) (operandsText f) (ascii "\n"), spaced-long (codeName codeNames (f .code)), newline-long)
 
 -- the header and the lines
 pub listing-parts : (s : List ℕ) (n : ℕ) → length (listing codeNames s n) ≡ length (decimal n) + 9 + length (lines codeNames s n)
@@ -137,10 +137,10 @@ module _ (s : List ℕ) (bytes : Bytes s) where
       by (Malformed place) e = omega arith
 
   pub no-room-wanted : (room : ℕ) → roomForText ≤ room → (needed : ℕ) → listed codeNames s room ≢ Short needed
-  unfolding answerOf
+  unfolding listingAnswer
   no-room-wanted room h needed = by (checkedList s) refl
     where
-      by : (c : Checked) → checkedList s ≡ c → answerOf codeNames s room c ≢ Short needed
+      by : (c : Checked) → checkedList s ≡ c → listingAnswer codeNames s room c ≢ Short needed
       by (Good n) e r =
           let t : Text (length (listing codeNames s n)) ≡ Short needed = rw (le-leb (length (listing codeNames s n)) room (omega (arith, listing-long s bytes n e))) at r in
           let z : _≡_ {A = ℕ} 0 1 = cc in

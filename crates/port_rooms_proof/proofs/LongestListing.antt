@@ -13,10 +13,10 @@ use Rattle.records.specs.Bytes.{le, number}
 use Rattle.records.specs.Instructions.{fieldsBytes, fieldsIn, used, operandsOk, fieldsOk}
 use Rattle.records.specs.ReadBack.{Each, WellFormedCode, codeBytes}
 use Rattle.records.proofs.ReadBack.{records-read-back}
-use Rattle.text.specs.Text.{ascii, spaced, digits, decimal, signed}
+use Rattle.text.specs.Text.{ascii, spaced, digits, decimal, signedDecimal}
 use Rattle.listing.specs.declared.Listed.the-variants.{Short}
 use Rattle.listing.specs.Names.{codeNames}
-use Rattle.listing.specs.Listing.{nameOf, operands, line, lines, listing, checkedList, answerOf, listed}
+use Rattle.listing.specs.Listing.{codeName, operandsText, line, lines, listing, checkedList, listingAnswer, listed}
 use Rattle.port_rooms_proof.specs.Sizes.{roomForText}
 use Rattle.port_rooms_proof.specs.Claims.{longestRecord, longestRecords, ListingsFill}
 use Rattle.port_rooms_proof.proofs.Digits.{placeDigits, next-digits}
@@ -48,19 +48,19 @@ at-place : (k n : ℕ) → fieldsIn (drop (24 * k) (longestRecords (k + suc n)))
 unfolding fieldsIn fieldsBytes number le
 at-place k n = rw (from k (suc n))
 
-name-long : length (spaced (nameOf codeNames (fieldsOf longestRecord .code))) ≡ 6
+name-long : length (spaced (codeName codeNames (fieldsOf longestRecord .code))) ≡ 6
 unfolding codeNames
 name-long = refl
 
-operands-long : length (operands (fieldsOf longestRecord)) ≡ 49
-unfolding operands signed digits
+operands-long : length (operandsText (fieldsOf longestRecord)) ≡ 49
+unfolding operandsText signedDecimal digits
 operands-long = refl
 
 line-long : (place : ℕ) → length (line codeNames place (fieldsOf longestRecord)) ≡ length (decimal place) + 56
 unfolding line
 line-long place =
     let f = fieldsOf longestRecord in
-    omega (arith, of-four (decimal place) (spaced (nameOf codeNames (f .code))) (operands f) (ascii "\n"), name-long, operands-long, newline-long)
+    omega (arith, of-four (decimal place) (spaced (codeName codeNames (f .code))) (operandsText f) (ascii "\n"), name-long, operands-long, newline-long)
 
 module _ (n : ℕ) (h : n ≤ 2730) where
   lines-long : (k : ℕ) → k ≤ n → length (lines codeNames (longestRecords n) k) ≡ 56 * k + placeDigits k
@@ -75,7 +75,7 @@ module _ (n : ℕ) (h : n ≤ 2730) where
       omega (arith, length-append (lines codeNames (longestRecords n) k) (line codeNames (suc k) f), next-digits k (omega arith))
 
   listing-short : (m : ℕ) → length (decimal n) + 9 + (56 * n + placeDigits n) ≡ m → (room : ℕ) → room < m → listed codeNames (longestRecords n) room ≡ Short m
-  unfolding answerOf
+  unfolding listingAnswer
   listing-short m e room l =
       let t : length (listing codeNames (longestRecords n) n) ≡ m = omega (arith, listing-parts (longestRecords n) n, lines-long n (omega arith)) in
       rw (accepted n h, t, lt-leb m room l)

@@ -12,16 +12,16 @@ use Rattle.records.specs.declared.code.Code.{Code}
 use Rattle.records.specs.declared.code.Code.the-variants.{MOVIM}
 use Rattle.records.specs.declared.order.Order.{Order}
 use Rattle.records.specs.declared.order.Order.the-variants.{Put, Store, Load}
-use Rattle.records.specs.Orders.{orderFieldsOf, orderBytes}
+use Rattle.records.specs.Orders.{recordOf}
 use Rattle.records.specs.ReadBack.{Bytes, joined, codeBytes}
 use Rattle.trees.specs.Tree.{size}
 use Rattle.layout.specs.declared.config.Shape.{Shape}
 use Rattle.layout.specs.Config.{Supported, base, second, shapeOf, inShape, mostVariables}
 use Rattle.emit.specs.declared.answer.Answer.the-variants as emission
 use Rattle.routine.specs.Routine.{routineAnswer}
-use Rattle.order_spec.specs.declared.answer.Answer.the-variants.{Room}
+use Rattle.order_spec.specs.declared.answer.OrderAnswer.the-variants.{Room}
 use Rattle.order_spec.specs.Writes.{treeOf}
-use Rattle.order_spec.specs.Answered.{Asked, accepted, answerTo, placesIn, orderContext}
+use Rattle.order_spec.specs.Answered.{Asked, orderAccepted, answerTo, placesIn, orderContext}
 use Rattle.listing.specs.declared.Listed.the-variants.{Short}
 use Rattle.listing.specs.Names.{codeNames}
 use Rattle.listing.specs.Listing.{listedText, listed}
@@ -37,7 +37,7 @@ pub record OrdersFit : Type 0 where
       → (bytes : ℕ) → answerTo g context q ≢ Room bytes
   -- an accepted order leaves no more variables, so that the next one finds the same
   pub variables-stay :
-      (g : Shape) → Supported g → (context : List ℕ) (q : Asked) → placesIn context ≤ mostVariables g → accepted (answerTo g context q) ≡ true
+      (g : Shape) → Supported g → (context : List ℕ) (q : Asked) → placesIn context ≤ mostVariables g → orderAccepted (answerTo g context q) ≡ true
       → placesIn (orderContext context q) ≤ mostVariables g
 
 -- what a shape decides, by the numbers of an edition and a frame
@@ -56,9 +56,9 @@ pub record RoomsByShape : Type 0 where
   pub second-records-512 : sizeIn 2 512 roomForRecords ≡ 135648
 
 -- an order alone, with so many bytes for its records and the context after it
-abbrev pub ordering : Order → ℕ → ℕ → Asked
-ordering order records after =
-    record { order = orderBytes (orderFieldsOf order); bindings = []; counter = 0; recordsRoom = records; contextRoom = after }
+abbrev pub askedWith : Order → ℕ → ℕ → Asked
+askedWith order records after =
+    record { order = recordOf order; bindings = []; counter = 0; recordsRoom = records; contextRoom = after }
 
 -- blocks of the first edition, and of the second, in a frame of so many spills
 abbrev pub ofSpills : ℕ → Shape
@@ -79,11 +79,11 @@ pub record OrdersFill : Type 0 where
   -- a store of all variables, all linked, needs the whole room for records
   pub records-needed :
       (g : Shape) → Supported g → (room : ℕ) → room < roomForRecords g
-      → answerTo g (variables Linked (mostVariables g)) (ordering (Store (mostVariables g) 0) room (roomForContext g)) ≡ Room (roomForRecords g)
+      → answerTo g (variables Linked (mostVariables g)) (askedWith (Store (mostVariables g) 0) room (roomForContext g)) ≡ Room (roomForRecords g)
   -- the last variable that has positions needs the whole room for the context
   pub context-needed :
       (g : Shape) → Supported g → (room : ℕ) → room < roomForContext g
-      → answerTo g (variables Ext (mostVariables g - 1)) (ordering (Put 0) (roomForRecords g) room) ≡ Room (roomForContext g)
+      → answerTo g (variables Ext (mostVariables g - 1)) (askedWith (Put 0) (roomForRecords g) room) ≡ Room (roomForContext g)
 
 pub record ListingsFit : Type 0 where
   pub text-fits : (s : List ℕ) → Bytes s → length (listedText codeNames s) ≤ roomForText

@@ -13,7 +13,7 @@ use Rattle.word.specs.Words.{choose}
 use Rattle.layout.specs.Config.{STACK}
 use Rattle.machine_step.specs.declared.instruction.Compared.the-variants.{Absent}
 use Rattle.machine_step.specs.View.{View, putReg}
-use Rattle.machine_step.specs.Step.{Call, Config, config, changed, printed, step}
+use Rattle.machine_step.specs.Step.{Call, Config, config, changed, afterPrint, step}
 use Rattle.print_i64.specs.Print.{printName}
 use Rattle.trees_proof.specs.Evaluation.{evaluate, done}
 use Rattle.layout_proof.proofs.Operands.{withRegister}
@@ -75,14 +75,14 @@ pub record Called (B : ℕ) (o : View) (z : List Call) (newline : Bool) (w : ℕ
 
 -- what the call leaves, where STACK is a multiple of 16
 call-is : (words : ℕ → ℕ) (newline : Bool) (c : Config) → c .state .reg 0 % 16 ≡ 0
-    → evaluate words (leaf (CALL (printName newline)) refl) c ≡ done (config (printed words (c .state)) Absent (c .calls ++ (callOf newline (c .state .reg 7) ∷ [])))
+    → evaluate words (leaf (CALL (printName newline)) refl) c ≡ done (config (afterPrint words (c .state)) Absent (c .calls ++ (callOf newline (c .state .reg 7) ∷ [])))
 unfolding step
 call-is words true c e = rw e
 call-is words false c e = rw e
 
 module _ (words : ℕ → ℕ) (s : View) where
   -- registers but 1 and 4..11
-  printed-kept : (j : ℕ) → j ≢ 1 → ((r : ℕ) → 4 ≤ r → r < 12 → j ≢ r) → printed words s .reg j ≡ s .reg j
+  printed-kept : (j : ℕ) → j ≢ 1 → ((r : ℕ) → 4 ≤ r → r < 12 → j ≢ r) → afterPrint words s .reg j ≡ s .reg j
   printed-kept j o n =
       rw (
         ne-eqb j 11 (n 11 (omega arith) (omega arith)),

@@ -34,7 +34,7 @@ use Rattle.code_proof.proofs.Ran.{placed, ends}
 use Rattle.heap.specs.Blocks.{Cell, cell}
 use Rattle.memory_proof.proofs.Variables.{variable, variables}
 use Rattle.memory_proof.proofs.Shown.{heapOf}
-use Rattle.print_i64_proof.specs.Claims.{Prints, PrintKeepsAllVariables}
+use Rattle.print_i64_proof.specs.Claims.{PrintLeaves, PrintKeepsAllVariables}
 use Rattle.print_i64_proof.proofs.Each.{saved-of, registers-low}
 use Rattle.print_i64_proof.proofs.Stack.{stackAddress}
 use Rattle.print_i64_proof.proofs.Saved.{Room}
@@ -89,7 +89,7 @@ module _ (G : Shape) (ext : ℕ → Bool) (n : ℕ) (c : Config) (o : View) (z :
   fst-at v h k x = position-at (2 * v) (omega arith) k (λ l. saved v h (omega arith) .1 x)
 
   pub prints : (newline : Bool) (w : ℕ) → Supported G → c .state .reg 0 ≡ framePointer G → z ≡ c .calls ++ (callOf newline w ∷ []) → o .mem ≡ c .state .mem → o .size ≡ c .state .size → o .depth ≡ c .state .depth
-      → Prints G newline w ext n c e
+      → PrintLeaves G newline w ext n c e
   prints newline w h s q m t y = record {
     called = r .beside .calls-are ∙ q;
     snd-kept = snd-at;
@@ -131,13 +131,13 @@ module _ (words : ℕ → ℕ) {G : Shape} {N : ℕ} (ext : ℕ → Bool) (newli
         by (no a) = absurd (omega (arith, location-high p (omega arith)))
 
     -- of any position
-    pub position-printed : Does words (printI64 G newline w ext n) c (Prints G newline (held c w) ext n c)
+    pub position-printed : Does words (printI64 G newline w ext n) c (PrintLeaves G newline (held c w) ext n c)
     position-printed = by (ltb w 16) refl
       where
         by : (t : Bool) → ltb w 16 ≡ t
             → Does words (seq (cond t nop (leaf (MOVL TEMP STACK (stackOffset G w)) refl))
             (seq (saveRegisters f used (registersToSave ext n)) (seq (seq (leaf (MOV 7 (cond t w TEMP)) refl) (leaf (CALL (printName newline)) refl)) (restoreRegisters f used (registersToSave ext n))))) c
-            (Prints G newline (held c w) ext n c)
+            (PrintLeaves G newline (held c w) ext n c)
         by true e =
             let l : w < 16 = ltb-true w 16 e in
             let q : c .state .reg w ≡ held c w = sym (held-register (c .state .reg) (c .state .stk) w l) in
@@ -149,7 +149,7 @@ module _ (words : ℕ → ℕ) {G : Shape} {N : ℕ} (ext : ℕ → Bool) (newli
             (λ g r. prints G ext n c (d .state) (c .calls ++ (callOf newline (held c w) ∷ [])) g (λ j i. upd-other (c .state .reg) 1 (held c w) j i) refl r newline (held c w) (v .shape) (v .stack) refl refl refl refl))
 
 -- the variables of a context as cells
-module _ {G : Shape} {newline : Bool} {w : ℕ} (ext : ℕ → Bool) (n : ℕ) (c d : Config) (s : Prints G newline w ext n c d) where
+module _ {G : Shape} {newline : Bool} {w : ℕ} (ext : ℕ → Bool) (n : ℕ) (c d : Config) (s : PrintLeaves G newline w ext n c d) where
   variable-kept : (v : ℕ) → v < n → 2 * v + 1 < positions G → variable ext d v ≡ variable ext c v
   variable-kept v h k = by (ext v) refl
     where

@@ -18,7 +18,7 @@ use Rattle.code_proof.specs.Claims.{Ready, EndsWith}
 use Rattle.machine.specs.Run.{starting}
 
 -- from c to d a word was printed, and the n variables of these kinds and the heap are as they were
-pub record Prints (G : Shape) (newline : Bool) (word : ℕ) (ext : ℕ → Bool) (n : ℕ) (c d : Config) : Type 0 where
+pub record PrintLeaves (G : Shape) (newline : Bool) (word : ℕ) (ext : ℕ → Bool) (n : ℕ) (c d : Config) : Type 0 where
   -- one call more, of the print asked for
   pub called : d .calls ≡ c .calls ++ (record { name = printName newline; number = word } ∷ [])
   pub snd-kept : (v : ℕ) → v < n → 2 * v + 1 < positions G → held d (location (2 * v + 1)) ≡ held c (location (2 * v + 1))
@@ -38,4 +38,4 @@ PrintKeepsAllVariables =
     (G : Shape) → Supported G → (words : ℕ → ℕ) (v : View) (context : List ℕ) (n p : ℕ) (newline : Bool) → Ready G v
     → checkedContext context ≡ Good n → p < 2 * n → p < positions G
     → EndsWith G words (printRecords G newline (location p) context (checkedContext context)) v
-    (Prints G newline (held (starting v) (location p)) (extAt context) n (starting v))
+    (PrintLeaves G newline (held (starting v) (location p)) (extAt context) n (starting v))

@@ -26,27 +26,27 @@ unfoldable pub oneOfTwo : List ℕ → List ℕ → List ℕ → Which
 oneOfTwo w first second = cond (sameBytes w first) First (cond (sameBytes w second) Second Neither)
 
 -- the same with another edition, or another frame, before what comes next
-abbrev pub inEdition : Options → ℕ → Next → Options
-inEdition o edition next = record { edition = edition; frame = o .frame; next = next }
+abbrev pub withEdition : Options → ℕ → Next → Options
+withEdition o edition next = record { edition = edition; frame = o .frame; next = next }
 
-abbrev pub inFrame : Options → ℕ → Next → Options
-inFrame o frame next = record { edition = o .edition; frame = frame; next = next }
+abbrev pub withFrame : Options → ℕ → Next → Options
+withFrame o frame next = record { edition = o .edition; frame = frame; next = next }
 
 -- the number that was to come: 1 or 2, 256 or 512
 abbrev pub chosenEdition : Options → Which → Heard
-chosenEdition o First = Choice (inEdition o 1 Any) Nothing
-chosenEdition o Second = Choice (inEdition o 2 Any) Nothing
-chosenEdition o Neither = Choice (inEdition o 0 Any) NoEdition
+chosenEdition o First = Choice (withEdition o 1 Any) Nothing
+chosenEdition o Second = Choice (withEdition o 2 Any) Nothing
+chosenEdition o Neither = Choice (withEdition o 0 Any) NoEdition
 
 abbrev pub chosenFrame : Options → Which → Heard
-chosenFrame o First = Choice (inFrame o (base .spills) Any) Nothing
-chosenFrame o Second = Choice (inFrame o (larger .spills) Any) Nothing
-chosenFrame o Neither = Choice (inFrame o 0 Any) NoFrame
+chosenFrame o First = Choice (withFrame o (base .spills) Any) Nothing
+chosenFrame o Second = Choice (withFrame o (larger .spills) Any) Nothing
+chosenFrame o Neither = Choice (withFrame o 0 Any) NoFrame
 
 -- `edition` or `frame`, which a number follows; until it comes there is none
 abbrev pub chosenAny : Options → Which → Heard
-chosenAny o First = Choice (inEdition o 0 next.Edition) Nothing
-chosenAny o Second = Choice (inFrame o 0 next.Frame) Nothing
+chosenAny o First = Choice (withEdition o 0 next.Edition) Nothing
+chosenAny o Second = Choice (withFrame o 0 next.Frame) Nothing
 chosenAny o Neither = Other
 
 abbrev pub heardAs : Next → List ℕ → Options → Heard

@@ -2,7 +2,7 @@
 ghost use mathlib.Core.Path.{_≡_};
 ghost use Prim.Native.Nat.{_+_, _≤_};
 ghost use Rattle.text.specs.Putting.{farthest, Puts};
-ghost use Rattle.program_options.specs.Options.{atFirst, oneOfTwo, inEdition, inFrame, chosenEdition, chosenFrame, chosenAny, heard, stillToCome, isPlayed, saidWords};
+ghost use Rattle.program_options.specs.Options.{atFirst, oneOfTwo, withEdition, withFrame, chosenEdition, chosenFrame, chosenAny, heard, stillToCome, isPlayed, saidWords};
 use plan_line::words;
 
 // What the next word is: any, or the number of an edition or of a frame.
@@ -63,7 +63,7 @@ fn one_of_two(word: &[u8], first: &[u8], second: &[u8]) -> Which
 }
 
 fn in_edition(o: Options, edition: u64, next: Next) -> Options
-    ensures { λ r. ⌜ r ≡ inEdition o edition next ⌝ }
+    ensures { λ r. ⌜ r ≡ withEdition o edition next ⌝ }
 {
     Options {
         edition,
@@ -73,7 +73,7 @@ fn in_edition(o: Options, edition: u64, next: Next) -> Options
 }
 
 fn in_frame(o: Options, frame: u64, next: Next) -> Options
-    ensures { λ r. ⌜ r ≡ inFrame o frame next ⌝ }
+    ensures { λ r. ⌜ r ≡ withFrame o frame next ⌝ }
 {
     Options {
         edition: o.edition,

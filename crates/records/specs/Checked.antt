@@ -29,6 +29,6 @@ onChecked (Good n) good bad = good n
 onChecked (Malformed place) good bad = bad place
 
 -- document 01's number and values for each answer: 0 where the list is accepted
-abbrev pub causeOf : Checked → List ℕ
-causeOf (Good n) = ACCEPTED ∷ []
-causeOf (Malformed place) = MALFORMED ∷ place ∷ []
+abbrev pub checkedCause : Checked → List ℕ
+checkedCause (Good n) = ACCEPTED ∷ []
+checkedCause (Malformed place) = MALFORMED ∷ place ∷ []

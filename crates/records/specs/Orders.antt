@@ -5,8 +5,8 @@ use mathlib.Core.List.{List, [], _∷_, _++_}
 use lib.Dec.{leb, ltb, eqb}
 use lib.ListN.{length, getD}
 use Rattle.records.specs.Causes.{ACCEPTED, MALFORMED}
-use Rattle.records.specs.declared.order.Operation.{Operation}
-use Rattle.records.specs.declared.order.Operation.the-variants.{Add, Sub, Mul, Div, Rem}
+use Rattle.records.specs.declared.order.Calculation.{Calculation}
+use Rattle.records.specs.declared.order.Calculation.the-variants.{Add, Sub, Mul, Div, Rem}
 use Rattle.records.specs.declared.order.Order.{Order}
 use Rattle.records.specs.declared.order.Order.the-variants.{Put, Compute, Copy, Drop, Store, Load, Print}
 use Rattle.records.specs.declared.order.OrderFields.{OrderFields}
@@ -20,14 +20,14 @@ abbrev pub orderFields : ℕ → ℕ → ℕ → ℕ → ℕ → ℕ → OrderFi
 orderFields code flag a b n value = record { code = code; flag = flag; a = a; b = b; n = n; value = value }
 
 -- compute's flag
-abbrev pub flagOf : Operation → ℕ
+abbrev pub flagOf : Calculation → ℕ
 flagOf Add = 0
 flagOf Sub = 1
 flagOf Mul = 2
 flagOf Div = 3
 flagOf Rem = 4
 
-abbrev pub operationOf : ℕ → Operation
+abbrev pub operationOf : ℕ → Calculation
 operationOf f = cond (eqb f 0) Add (cond (eqb f 1) Sub (cond (eqb f 2) Mul (cond (eqb f 3) Div Rem)))
 
 -- print's flag: 1 adds a newline
@@ -109,6 +109,10 @@ orderRead s =
 abbrev pub orderCause : OrderRead → List ℕ
 orderCause (Whole order) = ACCEPTED ∷ []
 orderCause (Malformed place) = MALFORMED ∷ place ∷ []
+
+-- an order's 24 bytes
+abbrev pub recordOf : Order → List ℕ
+recordOf o = orderBytes (orderFieldsOf o)
 
 -- how many bindings follow an order: a load's own
 abbrev pub wanted : Order → ℕ

@@ -8,14 +8,14 @@ use lib.ListN.{getD}
 use Rattle.records.specs.declared.register.Hardware.{Hardware}
 use Rattle.records.specs.declared.register.Hardware.the-variants.{Number, Absent}
 
-pub data Name : Type 0 where
-  rax rcx rdx rbx rsp rbp rsi rdi r8 r9 r10 r11 r12 r13 r14 r15 : Name
+pub data RegisterName : Type 0 where
+  rax rcx rdx rbx rsp rbp rsi rdi r8 r9 r10 r11 r12 r13 r14 r15 : RegisterName
 
-abbrev pub registerNames : List Name
+abbrev pub registerNames : List RegisterName
 registerNames =
     rsp ∷ rcx ∷ rbx ∷ rbp ∷ rax ∷ rdx ∷ rsi ∷ rdi ∷ r8 ∷ r9 ∷ r10 ∷ r11 ∷ r12 ∷ r13 ∷ r14 ∷ r15 ∷ []
 
-abbrev pub encoded : Name → ℕ
+abbrev pub encoded : RegisterName → ℕ
 encoded rax = 0
 encoded rcx = 1
 encoded rdx = 2

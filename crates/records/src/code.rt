@@ -4,13 +4,13 @@ ghost use Prim.Native.Nat.{_+_, _≤_};
 ghost use lib.ListN.{length, drop};
 ghost use Rattle.records.specs.Answers.{AnswersBy};
 ghost use Rattle.records.specs.Bytes.{stored};
-ghost use Rattle.records.specs.Checked.{causeOf};
+ghost use Rattle.records.specs.Checked.{checkedCause};
 ghost use Rattle.records.specs.Codes.{fieldsOf, codeOf};
 ghost use Rattle.records.specs.Instructions.{bitsOf, fieldsBytes, fieldsIn, registerOk, labelHeld, labelOk, wordOk, operandsOk, fieldsOk, labWith, codeStarts, checkedCodes, codeAt, codeCause};
-use crate::name::FIRST_UNNAMED;
-use crate::name::LAST_UNNAMED;
 use crate::bytes;
 use crate::check::Checked;
+use crate::name::FIRST_UNNAMED;
+use crate::name::LAST_UNNAMED;
 
 // The machine instructions, labels and directives. Registers are 0 to 15, immediates are 64-bit two's complement, labels are numbers.
 pub enum Code {
@@ -350,7 +350,7 @@ fn code_starts(s: &[u8], at: usize) -> bool
 
 // A list of at most 65,536 records, or of `most` where that is fewer.
 pub fn check_codes(s: &[u8], most: usize) -> Checked
-    ensures { λ r. ⌜ AnswersBy causeOf r (checkedCodes most (now (s .entry))) ⌝ }
+    ensures { λ r. ⌜ AnswersBy checkedCause r (checkedCodes most (now (s .entry))) ⌝ }
 {
     let limit = bytes::least(most, 65536);
     let mut at = 0;

@@ -8,7 +8,7 @@ ghost use Rattle.records.specs.Orders.{flagOf, operationOf, newlineFlag,
 use crate::bytes;
 use crate::code;
 
-pub enum Operation {
+pub enum Calculation {
     Add,
     Sub,
     Mul,
@@ -21,7 +21,7 @@ pub enum Order {
     // value
     Put(u64),
     // operation, a, b
-    Compute(Operation, u32, u32),
+    Compute(Calculation, u32, u32),
     // a, n times
     Copy(u32, u32),
     Drop,
@@ -49,27 +49,27 @@ pub enum OrderRead {
     Malformed(usize),
 }
 
-fn flag_of(operation: Operation) -> u8
+fn flag_of(operation: Calculation) -> u8
     ensures { λ r. ⌜ r ≡ flagOf operation ⌝ }
 {
     match operation {
-        Operation::Add => 0,
-        Operation::Sub => 1,
-        Operation::Mul => 2,
-        Operation::Div => 3,
-        Operation::Rem => 4,
+        Calculation::Add => 0,
+        Calculation::Sub => 1,
+        Calculation::Mul => 2,
+        Calculation::Div => 3,
+        Calculation::Rem => 4,
     }
 }
 
-fn operation_of(flag: u8) -> Operation
+fn operation_of(flag: u8) -> Calculation
     ensures { λ r. ⌜ r ≡ operationOf flag ⌝ }
 {
     match flag {
-        0 => Operation::Add,
-        1 => Operation::Sub,
-        2 => Operation::Mul,
-        3 => Operation::Div,
-        _ => Operation::Rem,
+        0 => Calculation::Add,
+        1 => Calculation::Sub,
+        2 => Calculation::Mul,
+        3 => Calculation::Div,
+        _ => Calculation::Rem,
     }
 }
 

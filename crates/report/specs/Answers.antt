@@ -1,5 +1,5 @@
 -- The line of an order's answer: `3 load: refused 5, a variable of the wrong kind for the order`. A refusal's number and values are document 01's, 'Causes and numbers', by
--- the `causeOf` that the order function's contract cites.
+-- the `orderAnswerCause` that the order function's contract cites.
 use Prim.Native.Nat.{ℕ, _-_}
 use mathlib.Core.Bool.{Bool, _||_, cond}
 use mathlib.Core.List.{List, [], _∷_, _++_}
@@ -12,9 +12,9 @@ use Rattle.records.specs.declared.order.OrderRead.the-variants as read
 use Rattle.records.specs.Orders.{orderRead}
 use Rattle.text.specs.Text.{ascii, decimal}
 use Rattle.layout.specs.Config.{inFrame, positions}
-use Rattle.order_spec.specs.declared.answer.Answer.{Answer}
-use Rattle.order_spec.specs.declared.answer.Answer.the-variants.{Accepted, Context, Malformed, Frame, Missing, Kind, Count, Position, Labels, Room, Edition}
-use Rattle.order_spec.specs.Answered.{causeOf}
+use Rattle.order_spec.specs.declared.answer.OrderAnswer.{OrderAnswer}
+use Rattle.order_spec.specs.declared.answer.OrderAnswer.the-variants.{Accepted, Context, Malformed, Frame, Missing, Kind, Count, Position, Labels, Room, Edition}
+use Rattle.order_spec.specs.Answered.{orderAnswerCause}
 use Rattle.report.specs.Parts.{counted}
 
 unfoldable pub orderName : Order → List ℕ
@@ -81,18 +81,18 @@ unfoldable pub acceptance : ℕ → ℕ → List ℕ
 acceptance records labels = counted "accepted, records " records ++ counted ", labels " labels
 
 -- `before` is the label counter that went in
-unfoldable pub outcome : ℕ → ℕ → Answer → List ℕ
+unfoldable pub outcome : ℕ → ℕ → OrderAnswer → List ℕ
 outcome frame before (Accepted records counter bindings) = acceptance records (counter - before)
-outcome frame before (Context flaw) = refusal frame (causeOf (Context flaw))
-outcome frame before (Malformed place) = refusal frame (causeOf (Malformed place))
-outcome frame before Frame = refusal frame (causeOf Frame)
-outcome frame before Missing = refusal frame (causeOf Missing)
-outcome frame before Kind = refusal frame (causeOf Kind)
-outcome frame before Count = refusal frame (causeOf Count)
-outcome frame before Position = refusal frame (causeOf Position)
-outcome frame before Labels = refusal frame (causeOf Labels)
-outcome frame before (Room bytes) = refusal frame (causeOf (Room bytes))
-outcome frame before Edition = refusal frame (causeOf Edition)
+outcome frame before (Context flaw) = refusal frame (orderAnswerCause (Context flaw))
+outcome frame before (Malformed place) = refusal frame (orderAnswerCause (Malformed place))
+outcome frame before Frame = refusal frame (orderAnswerCause Frame)
+outcome frame before Missing = refusal frame (orderAnswerCause Missing)
+outcome frame before Kind = refusal frame (orderAnswerCause Kind)
+outcome frame before Count = refusal frame (orderAnswerCause Count)
+outcome frame before Position = refusal frame (orderAnswerCause Position)
+outcome frame before Labels = refusal frame (orderAnswerCause Labels)
+outcome frame before (Room bytes) = refusal frame (orderAnswerCause (Room bytes))
+outcome frame before Edition = refusal frame (orderAnswerCause Edition)
 
-unfoldable pub orderLine : ℕ → ℕ → List ℕ → ℕ → Answer → List ℕ
+unfoldable pub orderLine : ℕ → ℕ → List ℕ → ℕ → OrderAnswer → List ℕ
 orderLine frame number order before answer = start number order ++ outcome frame before answer ++ ascii "\n"

@@ -1,13 +1,13 @@
 -- The line of a run that did not end: `5 compute: machine fault 11 after 3 steps at record 4, the channel stops here`. Numbers and values are document 01's,
--- 'Causes and numbers', by the `causeOf` that the contract of the machine's run cites.
+-- 'Causes and numbers', by the `runCause` that the contract of the machine's run cites.
 use Prim.Native.Nat.{ℕ}
 use mathlib.Core.Bool.{cond}
 use mathlib.Core.List.{List, [], _∷_, _++_}
 use lib.Dec.{eqb}
 use Rattle.records.specs.Causes.{ACCEPTED, LIMIT}
 use Rattle.text.specs.Text.{ascii}
-use Rattle.machine.specs.declared.run.Answer.{Answer}
-use Rattle.machine.specs.Run.{causeOf}
+use Rattle.machine.specs.declared.run.RunAnswer.{RunAnswer}
+use Rattle.machine.specs.Run.{runCause}
 use Rattle.report.specs.Parts.{counted}
 use Rattle.report.specs.Answers.{start}
 
@@ -24,5 +24,5 @@ unfoldable pub stopped : List ℕ → List ℕ → List ℕ
 stopped head [] = []
 stopped head (n ∷ values) = cond (eqb n ACCEPTED) [] (head ++ stopWords n values ++ ascii ", the channel stops here\n")
 
-unfoldable pub stopLine : ℕ → List ℕ → Answer → List ℕ
-stopLine number order ran = stopped (start number order) (causeOf ran)
+unfoldable pub stopLine : ℕ → List ℕ → RunAnswer → List ℕ
+stopLine number order ran = stopped (start number order) (runCause ran)

@@ -7,13 +7,13 @@ ghost use Rattle.records.specs.Contexts.{flawCause};
 ghost use Rattle.text.specs.Text.{ascii, decimal};
 ghost use Rattle.text.specs.Putting.{farthest, Puts};
 ghost use Rattle.layout.specs.Config.{Supported, positions};
-ghost use Rattle.order_spec.specs.Answered.{causeOf};
+ghost use Rattle.order_spec.specs.Answered.{orderAnswerCause};
 ghost use Rattle.report.specs.Parts.{counted};
 ghost use Rattle.report.specs.Answers.{orderName, readName, start, refusal, acceptance, outcome, orderLine};
 use crate::parts;
 use layout::config::Choice;
 use layout::config::Shape;
-use order_spec::answer::Answer;
+use order_spec::answer::OrderAnswer;
 use records::context::Flaw;
 use records::order::Order;
 use records::order::OrderRead;
@@ -110,7 +110,7 @@ fn put_flaw(text: &mut [u8], at: usize, flaw: Flaw) -> usize
 
 fn put_malformed(text: &mut [u8], at: usize, place: u64) -> usize
     requires { ⌜ at + 87 ≤ farthest ⌝ }
-    ensures { λ r. ⌜ ((frame : ℕ) → Puts 87 (now (text .entry)) at (now (text .exit)) r (refusal frame (causeOf (Answer.Malformed place)))) ⌝ }
+    ensures { λ r. ⌜ ((frame : ℕ) → Puts 87 (now (text .entry)) at (now (text .exit)) r (refusal frame (orderAnswerCause (OrderAnswer.Malformed place)))) ⌝ }
 {
     let next = parts::put_count(text, at, b"refused 2 at place ", place);
     text::put_bytes(
@@ -122,7 +122,7 @@ fn put_malformed(text: &mut [u8], at: usize, place: u64) -> usize
 
 fn put_short(text: &mut [u8], at: usize, bytes: u64) -> usize
     requires { ⌜ at + 69 ≤ farthest ⌝ }
-    ensures { λ r. ⌜ ((frame : ℕ) → Puts 69 (now (text .entry)) at (now (text .exit)) r (refusal frame (causeOf (Answer.Room bytes)))) ⌝ }
+    ensures { λ r. ⌜ ((frame : ℕ) → Puts 69 (now (text .entry)) at (now (text .exit)) r (refusal frame (orderAnswerCause (OrderAnswer.Room bytes)))) ⌝ }
 {
     let needed = parts::put_count(text, at, b"refused 10, ", bytes);
     let next = text::put_bytes(text, needed, b" bytes needed");
@@ -141,7 +141,7 @@ fn put_last(text: &mut [u8], at: usize, g: Shape) -> usize
 // The frame's last position is named.
 fn put_position(text: &mut [u8], at: usize, frame: u64) -> usize
     requires { ⌜ at + 75 ≤ farthest ⌝ }
-    ensures { λ r. ⌜ Puts 75 (now (text .entry)) at (now (text .exit)) r (refusal frame (causeOf Answer.Position)) ⌝ }
+    ensures { λ r. ⌜ Puts 75 (now (text .entry)) at (now (text .exit)) r (refusal frame (orderAnswerCause OrderAnswer.Position)) ⌝ }
 {
     let next = text::put_bytes(text, at, b"refused 8, too many variables");
     match layout::config::frame_of(frame) {
@@ -151,34 +151,44 @@ fn put_position(text: &mut [u8], at: usize, frame: u64) -> usize
 }
 
 // What was answered; `before` is the label counter that went in.
-fn put_outcome(text: &mut [u8], at: usize, frame: u64, before: u64, answer: Answer) -> usize
+fn put_outcome(text: &mut [u8], at: usize, frame: u64, before: u64, answer: OrderAnswer) -> usize
     requires { ⌜ at + 96 ≤ farthest ⌝ }
     ensures { λ r. ⌜ Puts 96 (now (text .entry)) at (now (text .exit)) r (outcome frame before answer) ⌝ }
 {
     match answer {
-        Answer::Accepted(records, counter, _) => {
-            put_acceptance(text, at, records as u64, layout::utils::excess(counter, before))
+        OrderAnswer::Accepted(records, counter, _) => {
+            put_acceptance(
+                text,
+                at,
+                records as u64,
+                layout::utils::excess(counter, before),
+            )
         }
-        Answer::Context(flaw) => put_flaw(text, at, flaw),
-        Answer::Malformed(place) => put_malformed(text, at, place as u64),
-        Answer::Frame => put_refused(text, at, 3, b", a frame has 256 or 512 spills"),
-        Answer::Missing => put_refused(
+        OrderAnswer::Context(flaw) => put_flaw(text, at, flaw),
+        OrderAnswer::Malformed(place) => put_malformed(text, at, place as u64),
+        OrderAnswer::Frame => put_refused(text, at, 3, b", a frame has 256 or 512 spills"),
+        OrderAnswer::Missing => put_refused(
             text,
             at,
             4,
             b", a place that is not in the context, or too few variables",
         ),
-        Answer::Kind => put_refused(text, at, 5, b", a variable of the wrong kind for the order"),
-        Answer::Count => put_refused(text, at, 7, b", a copy's count above 2147483647"),
-        Answer::Position => put_position(text, at, frame),
-        Answer::Labels => put_refused(
+        OrderAnswer::Kind => put_refused(
+            text,
+            at,
+            5,
+            b", a variable of the wrong kind for the order",
+        ),
+        OrderAnswer::Count => put_refused(text, at, 7, b", a copy's count above 2147483647"),
+        OrderAnswer::Position => put_position(text, at, frame),
+        OrderAnswer::Labels => put_refused(
             text,
             at,
             9,
             b", labels above 2147483647 needed, let the counter start afresh",
         ),
-        Answer::Room(bytes) => put_short(text, at, bytes as u64),
-        Answer::Edition => put_refused(text, at, 23, b", an edition is 1 or 2"),
+        OrderAnswer::Room(bytes) => put_short(text, at, bytes as u64),
+        OrderAnswer::Edition => put_refused(text, at, 23, b", an edition is 1 or 2"),
     }
 }
 
@@ -190,7 +200,7 @@ pub fn put_order(
     number: u64,
     order: &[u8],
     before: u64,
-    answer: Answer,
+    answer: OrderAnswer,
 ) -> usize
     requires { ⌜ at + 127 ≤ farthest ⌝ }
     ensures { λ r. ⌜ Puts 127 (now (text .entry)) at (now (text .exit)) r (orderLine frame number (now (order .entry)) before answer) ⌝ }

@@ -5,7 +5,7 @@ ghost use Rattle.text.specs.Putting.{farthest, Puts};
 ghost use Rattle.report.specs.Stops.{stopWords, stopLine};
 use crate::answers;
 use crate::parts;
-use machine::run::Answer;
+use machine::run::RunAnswer;
 
 fn put_fault(text: &mut [u8], at: usize, steps: u64, place: u64) -> usize
     requires { ⌜ at + 80 ≤ farthest ⌝ }
@@ -36,23 +36,23 @@ fn put_malformed(text: &mut [u8], at: usize, place: u64) -> usize
 }
 
 // The line of the order with a number, from 1, whose run did not end; nothing where it did.
-pub fn put_stop(text: &mut [u8], at: usize, number: u64, order: &[u8], ran: Answer) -> usize
+pub fn put_stop(text: &mut [u8], at: usize, number: u64, order: &[u8], ran: RunAnswer) -> usize
     requires { ⌜ at + 147 ≤ farthest ⌝ }
     ensures { λ r. ⌜ Puts 147 (now (text .entry)) at (now (text .exit)) r (stopLine number (now (order .entry)) ran) ⌝ }
 {
     match ran {
-        Answer::Ended(_) => at,
-        Answer::Malformed(place) => {
+        RunAnswer::Ended(_) => at,
+        RunAnswer::Malformed(place) => {
             let said = answers::put_start(text, at, number, order);
             let end = put_malformed(text, said, place as u64);
             text::put_bytes(text, end, b", the channel stops here\n")
         }
-        Answer::Fault(steps, place) => {
+        RunAnswer::Fault(steps, place) => {
             let said = answers::put_start(text, at, number, order);
             let end = put_fault(text, said, steps, place as u64);
             text::put_bytes(text, end, b", the channel stops here\n")
         }
-        Answer::Limit(limit) => {
+        RunAnswer::Limit(limit) => {
             let said = answers::put_start(text, at, number, order);
             let end = put_limit(text, said, limit);
             text::put_bytes(text, end, b", the channel stops here\n")

@@ -20,7 +20,7 @@ use Rattle.layout.specs.Positions.{location}
 use Rattle.machine_step.specs.View.{wordsOf, fromEnd}
 use Rattle.heap.specs.Blocks.{cell}
 use Rattle.layout.specs.Frame.{heldIn, variableIn, variablesIn}
-use Rattle.report_state.specs.Cells.{cellWords, cellLine, cellLines, lineOf, firstLines, variableLines}
+use Rattle.report_state.specs.Cells.{cellWords, cellLine, cellLines, variableLine, firstLines, variableLines}
 
 -- the word of a spill, which the stack holds
 pub spill-word : (R S : List ℕ) {l m i : ℕ} → l ≡ m → 16 ≤ l → l - 9 < length S → i ≡ length S - suc (l - 9) → getD S i 0 ≡ heldIn (wordsOf R) (fromEnd S) m
@@ -36,10 +36,10 @@ same-cell g place p w false = refl
 -- one variable's line from its two words
 pub line-of : (g : Shape) (context registers stack : List ℕ) (k : ℕ) {ext : Bool} {p w m i j : ℕ} {o o′ : List ℕ}
     → p ≡ heldIn (wordsOf registers) (fromEnd stack) (location (2 * k)) → w ≡ heldIn (wordsOf registers) (fromEnd stack) (location (2 * k + 1)) → ext ≡ extAt context k
-    → Puts m o i o′ j (cellLine g k ext (cell p w)) → Puts m o i o′ j (lineOf g context registers stack k)
-unfolding lineOf
+    → Puts m o i o′ j (cellLine g k ext (cell p w)) → Puts m o i o′ j (variableLine g context registers stack k)
+unfolding variableLine
 line-of g context registers stack k {ext} {p} {w} {m} {i} {j} {o} {o′} e d x put =
-    let h : cellLine g k ext (cell p w) ≡ lineOf g context registers stack k = rw (e, d, x) (same-cell g k _ _ (extAt context k)) in
+    let h : cellLine g k ext (cell p w) ≡ variableLine g context registers stack k = rw (e, d, x) (same-cell g k _ _ (extAt context k)) in
     subst (λ (bs : List ℕ). Puts m o i o′ j bs) h put
 
 -- the lines of k + 1 variables are those of k, and the last one's
@@ -58,11 +58,11 @@ module _ (g : Shape) (context registers stack : List ℕ) where
   no-lines o i = nothing o i
 
   module _ (k : ℕ) {i j : ℕ} {o o′ : List ℕ} (so-far : Puts (83 * k) o i o′ j (firstLines g context registers stack k)) where
-    pub line-more : {o″ : List ℕ} {n : ℕ} → Puts 83 o′ j o″ n (lineOf g context registers stack k) → Puts (83 * (k + 1)) o i o″ n (firstLines g context registers stack (k + 1))
-    unfolding firstLines lineOf
+    pub line-more : {o″ : List ℕ} {n : ℕ} → Puts 83 o′ j o″ n (variableLine g context registers stack k) → Puts (83 * (k + 1)) o i o″ n (firstLines g context registers stack (k + 1))
+    unfolding firstLines variableLine
     line-more p =
         let z : 0 + k ≡ k = omega arith in
-        let e : firstLines g context registers stack (k + 1) ≡ firstLines g context registers stack k ++ lineOf g context registers stack k =
+        let e : firstLines g context registers stack (k + 1) ≡ firstLines g context registers stack k ++ variableLine g context registers stack k =
         rw (add-one k) (rw z at (lines-more g (extAt context) (wordsOf registers) (fromEnd stack) 0 k))
         in
         rw e (at-most (so-far ⨟ p) (omega arith))

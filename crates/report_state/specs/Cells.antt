@@ -6,7 +6,7 @@ use mathlib.Core.List.{List, [], _∷_, _++_}
 use lib.Dec.{eqb, ltb}
 use lib.ListN.{length}
 use Rattle.records.specs.Contexts.{extAt}
-use Rattle.text.specs.Text.{ascii, decimal, signed}
+use Rattle.text.specs.Text.{ascii, decimal, signedDecimal}
 use Rattle.layout.specs.declared.config.Shape.{Shape}
 use Rattle.layout.specs.Config.{inShape, positions, shapeOn, blockBytes}
 use Rattle.machine_step.specs.View.{wordsOf, fromEnd}
@@ -22,7 +22,7 @@ blockName g pointer = cond (eqb pointer 0) (ascii ", empty") (counted ", block "
 
 -- an integer and a tag are signed
 unfoldable pub cellWords : Shape → Bool → Cell → List ℕ
-cellWords g ext c = cond ext (ascii " integer " ++ signed (c .snd)) (ascii " object, tag " ++ signed (c .snd) ++ blockName g (c .fst))
+cellWords g ext c = cond ext (ascii " integer " ++ signedDecimal (c .snd)) (ascii " object, tag " ++ signedDecimal (c .snd) ++ blockName g (c .fst))
 
 unfoldable pub cellLine : Shape → ℕ → Bool → Cell → List ℕ
 cellLine g place ext c = decimal place ++ cellWords g ext c ++ ascii "\n"
@@ -33,8 +33,8 @@ cellLines g ext place [] = []
 cellLines g ext place (c ∷ cs) = cellLine g place (ext place) c ++ cellLines g ext (suc place) cs
 
 -- variable k of a context, on the words of registers and stack
-unfoldable pub lineOf : Shape → List ℕ → List ℕ → List ℕ → ℕ → List ℕ
-lineOf g context registers stack k = cellLine g k (extAt context k) (variableIn (extAt context) (wordsOf registers) (fromEnd stack) k)
+unfoldable pub variableLine : Shape → List ℕ → List ℕ → List ℕ → ℕ → List ℕ
+variableLine g context registers stack k = cellLine g k (extAt context k) (variableIn (extAt context) (wordsOf registers) (fromEnd stack) k)
 
 -- the first k variables
 unfoldable pub firstLines : Shape → List ℕ → List ℕ → List ℕ → ℕ → List ℕ

@@ -9,7 +9,7 @@ use Rattle.records.specs.declared.order.Order.the-variants.{Put, Compute, Copy,
 use Rattle.records.specs.declared.order.OrderRead.{OrderRead}
 use Rattle.records.specs.declared.order.OrderRead.the-variants as read
 use Rattle.records.specs.Orders.{orderRead}
-use Rattle.text.specs.Text.{ascii, signed}
+use Rattle.text.specs.Text.{ascii, signedDecimal}
 use Rattle.layout.specs.declared.config.Shape.{Shape}
 use Rattle.layout.specs.Config.{inChoice, positions, frameOn}
 use Rattle.layout.specs.Positions.{location}
@@ -18,7 +18,7 @@ use Rattle.layout.specs.Frame.{heldIn}
 
 -- the integer, and a newline if asked
 unfoldable pub printedText : Bool → ℕ → List ℕ
-printedText newline integer = cond newline (signed integer ++ ascii "\n") (signed integer)
+printedText newline integer = cond newline (signedDecimal integer ++ ascii "\n") (signedDecimal integer)
 
 -- registers, and the stack's words from its end
 module _ (reg stk : ℕ → ℕ) where

@@ -4,7 +4,7 @@ ghost use mathlib.Core.List.{_++_};
 ghost use Prim.Native.Nat.{_+_, _*_, _≤_, _<_};
 ghost use lib.ListN.{length};
 ghost use Rattle.records.specs.Contexts.{extAt};
-ghost use Rattle.text.specs.Text.{ascii, signed};
+ghost use Rattle.text.specs.Text.{ascii, signedDecimal};
 ghost use Rattle.text.specs.Putting.{farthest, Puts};
 ghost use Rattle.layout.specs.Config.{Supported, larger, positions, mostVariables, stackDepth};
 ghost use Rattle.layout.specs.Positions.{location, Table, entries};
@@ -12,7 +12,7 @@ ghost use Rattle.machine_step.specs.View.{wordsOf, fromEnd};
 ghost use Rattle.machine_step.specs.Forms.{Sized};
 ghost use Rattle.heap.specs.Blocks.{cell};
 ghost use Rattle.layout.specs.Frame.{heldIn};
-ghost use Rattle.report_state.specs.Cells.{blockName, cellWords, cellLine, lineOf, firstLines, variableLines, variablesOn};
+ghost use Rattle.report_state.specs.Cells.{blockName, cellWords, cellLine, variableLine, firstLines, variableLines, variablesOn};
 use layout::config::Shape;
 use layout::config::Shaped;
 use layout::utils::ENTRIES;
@@ -33,7 +33,7 @@ fn put_block(text: &mut [u8], at: usize, g: Shape, pointer: u64) -> usize
 
 fn put_object(text: &mut [u8], at: usize, g: Shape, pointer: u64, tag: u64) -> usize
     requires { ⌜ (at + 62 ≤ farthest) × Supported g ⌝ }
-    ensures { λ r. ⌜ Puts 62 (now (text .entry)) at (now (text .exit)) r (ascii " object, tag " ++ signed tag ++ blockName g pointer) ⌝ }
+    ensures { λ r. ⌜ Puts 62 (now (text .entry)) at (now (text .exit)) r (ascii " object, tag " ++ signedDecimal tag ++ blockName g pointer) ⌝ }
 {
     let tagged = text::put_bytes(text, at, b" object, tag ");
     let next = text::put_signed(text, tagged, tag);
@@ -42,7 +42,7 @@ fn put_object(text: &mut [u8], at: usize, g: Shape, pointer: u64, tag: u64) -> u
 
 fn put_integer(text: &mut [u8], at: usize, integer: u64) -> usize
     requires { ⌜ at + 30 ≤ farthest ⌝ }
-    ensures { λ r. ⌜ Puts 30 (now (text .entry)) at (now (text .exit)) r (ascii " integer " ++ signed integer) ⌝ }
+    ensures { λ r. ⌜ Puts 30 (now (text .entry)) at (now (text .exit)) r (ascii " integer " ++ signedDecimal integer) ⌝ }
 {
     let next = text::put_bytes(text, at, b" integer ");
     text::put_signed(text, next, integer)
@@ -99,7 +99,7 @@ fn put_variable(
     k: usize,
 ) -> usize
     requires { ⌜ (8 * k + 8 ≤ length (now context)) × (2 * k + 1 < positions g) × Sized (stackDepth g) (now registers) (now stack) × Table (now table) × (at + 83 ≤ farthest) × Supported g ⌝ }
-    ensures { λ r. ⌜ Puts 83 (now (text .entry)) at (now (text .exit)) r (lineOf g (now (context .entry)) (now (registers .entry)) (now (stack .entry)) k) ⌝ }
+    ensures { λ r. ⌜ Puts 83 (now (text .entry)) at (now (text .exit)) r (variableLine g (now (context .entry)) (now (registers .entry)) (now (stack .entry)) k) ⌝ }
 {
     let place = k as u64;
     let pointer = word_at(registers, stack, table, 2 * place);

@@ -11,18 +11,18 @@ use Rattle.records.specs.declared.code.Code.the-variants.{ADD, ADDRM, ADDMR, AD
 use Rattle.word.specs.Words.{sum, difference, product, divides, less}
 use Rattle.machine_step.specs.declared.instruction.Compared.{Compared}
 use Rattle.machine_step.specs.declared.instruction.Compared.the-variants.{Absent, Of}
-use Rattle.machine_step.specs.declared.memory.Loaded.{Loaded}
-use Rattle.machine_step.specs.declared.memory.Loaded.the-variants.{Word, Nothing}
+use Rattle.machine_step.specs.declared.memory.Fetched.{Fetched}
+use Rattle.machine_step.specs.declared.memory.Fetched.the-variants.{Word, Nothing}
 use Rattle.machine_step.specs.declared.memory.Place.{Place}
 use Rattle.machine_step.specs.declared.memory.Place.the-variants.{Stack, Heap, Nowhere}
 use Rattle.machine_step.specs.View.{View, putReg}
 use Rattle.machine_step.specs.Memory.{Operand, register, memory, immediate, placeOf, putAt, load, store, valueOf, assigned}
-use Rattle.machine_step.specs.Step.{Config, Outcome, next, jump, end, fault, onWord, onState, onPair, printName, arithmetic, move, compare, divide, branch, push, pop, call, return, step}
-use Rattle.machine.specs.declared.run.Answer.the-variants.{Ended, Limit}
+use Rattle.machine_step.specs.Step.{Config, Outcome, next, jump, end, fault, onWord, onState, onPair, isPrintName, calculate, move, compare, divide, branch, push, pop, call, return, step}
+use Rattle.machine.specs.declared.run.RunAnswer.the-variants.{Ended, Limit}
 use Rattle.machine.specs.declared.run.Found.{Found}
 use Rattle.machine.specs.declared.run.Found.the-variants as found
 use Rattle.machine.specs.Run.{Done, done, onRecord, onFound, find, follow, runs}
-use Rattle.trees_proof.specs.Claims.{Reaches}
+use Rattle.trees_proof.specs.Claims.{RunsTo}
 
 abbrev Deep : ℕ → Outcome → Type 0
 Deep n (next d) = d .state .depth ≡ n
@@ -34,7 +34,7 @@ abbrev DeepView : ℕ → Option View → Type 0
 DeepView n (some s) = s .depth ≡ n
 DeepView n none = Unit {0}
 
-on-word : (c : Config) (l : Loaded) (k : ℕ → Outcome) → ((w : ℕ) → Deep (c .state .depth) (k w)) → Deep (c .state .depth) (onWord c l k)
+on-word : (c : Config) (l : Fetched) (k : ℕ → Outcome) → ((w : ℕ) → Deep (c .state .depth) (k w)) → Deep (c .state .depth) (onWord c l k)
 on-word c (Word w) k h = h w
 on-word c Nothing k h = refl
 
@@ -60,7 +60,7 @@ assigned-deep s (register a) v = refl
 assigned-deep s (memory a offset) v = put-deep s (placeOf (s .depth) (s .size) (sum (s .reg a) offset)) v
 assigned-deep s (immediate w) v = tt
 
-arithmetic-deep : (f : ℕ → ℕ → ℕ) (dest src : Operand) (c : Config) → Deep (c .state .depth) (arithmetic f dest src c)
+arithmetic-deep : (f : ℕ → ℕ → ℕ) (dest src : Operand) (c : Config) → Deep (c .state .depth) (calculate f dest src c)
 arithmetic-deep f dest src c =
     on-word c (valueOf (c .state) src) _ (λ y. on-word c (valueOf (c .state) dest) _ (λ x. on-state c (assigned (c .state) dest (f x y)) _ (assigned-deep (c .state) dest (f x y)) (λ s e. e)))
 
@@ -86,7 +86,7 @@ pop-deep : (a : ℕ) (c : Config) → Deep (c .state .depth) (pop a c)
 pop-deep a c = on-word c (load (c .state) (c .state .reg 0)) _ (λ w. refl)
 
 call-deep : (words : ℕ → ℕ) (label : ℕ) (c : Config) → Deep (c .state .depth) (call words label c)
-call-deep words label c = on-test (c .state .depth) (printName label && eqb (c .state .reg 0 % 16) 0) _ _ refl refl
+call-deep words label c = on-test (c .state .depth) (isPrintName label && eqb (c .state .reg 0 % 16) 0) _ _ refl refl
 
 return-deep : (c : Config) → Deep (c .state .depth) (return c)
 return-deep c = on-test (c .state .depth) (eqb (c .state .reg 0) 1099511627768) _ _ refl refl
@@ -173,6 +173,6 @@ module _ (words : ℕ → ℕ) (p : List Code) where
       by none = refl
       by (some x) = refl
 
-  pub reached-deep : (most from to : ℕ) (c d : Config) → Reaches words p most from to c d → d .state .depth ≡ c .state .depth
+  pub reached-deep : (most from to : ℕ) (c d : Config) → RunsTo words p most from to c d → d .state .depth ≡ c .state .depth
   reached-deep most from to c d r =
       sym (ap (λ (x : Config). x .state .depth) (last-here (0 + r .steps) to d)) ∙ sym (ap (λ (x : Done). x .last .state .depth) (r .run 0 0)) ∙ runs-deep (r .steps + 0) 0 from c

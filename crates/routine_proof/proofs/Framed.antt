@@ -19,11 +19,11 @@ use Rattle.machine_step.specs.declared.instruction.Compared.the-variants.{Absen
 use Rattle.machine_step.specs.View.{View, upd, putReg}
 use Rattle.machine_step.specs.Step.{Config, config, end, step}
 use Rattle.machine.proofs.Places.{place-1, place-2, place-3, place-4, place-5, place-6}
-use Rattle.machine.specs.declared.run.Answer.the-variants.{Ended, Limit}
+use Rattle.machine.specs.declared.run.RunAnswer.the-variants.{Ended, Limit}
 use Rattle.machine.specs.Run.{codesOf, runs, started, ran, starting}
 use Rattle.machine.specs.Run as machine
 use Rattle.trees_proof.specs.Evaluation.{done}
-use Rattle.trees_proof.specs.Claims.{Reaches}
+use Rattle.trees_proof.specs.Claims.{RunsTo}
 use Rattle.trees_proof.proofs.Steps.{at-drop, drop-part, after}
 use Rattle.routine.specs.Routine.{argument, moveArguments, head, cleanup, routineBytes}
 use Rattle.routine.proofs.Assembling.{head-length, routine-records}
@@ -220,14 +220,14 @@ module _ (G : Shape) (words : ℕ → ℕ) (n : ℕ) (body : List Code) (v : Vie
         by [] e = rw (at-drop p (16 + n) e)
         by (c ∷ cs) e = rw (at-drop p (16 + n) e)
 
-    enters : Reaches words p (16 + n) 0 (16 + n) (starting v) (x .to)
+    enters : RunsTo words p (16 + n) 0 (16 + n) (starting v) (x .to)
     enters = record { steps = 16 + n; within = omega arith; run = to-body }
 
-    module _ (most : ℕ) (b : Config) (g : Reaches words p most (16 + n) (16 + n + length body) (x .to) b) where
-      to-cleanup : Reaches words p (16 + n + most) 0 (16 + n + length body) (starting v) b
+    module _ (most : ℕ) (b : Config) (g : RunsTo words p most (16 + n) (16 + n + length body) (x .to) b) where
+      to-cleanup : RunsTo words p (16 + n + most) 0 (16 + n + length body) (starting v) b
       to-cleanup = after words p (16 + n) most 0 (16 + n) (16 + n + length body) (done b) enters g (omega arith) (16 + n + most) (omega arith)
 
-      to-return : (e : Config) → through words (front G) b ≡ some e → Reaches words p (16 + n + most + 8) 0 (16 + n + length body + 8) (starting v) e
+      to-return : (e : Config) → through words (front G) b ≡ some e → RunsTo words p (16 + n + most + 8) 0 (16 + n + length body + 8) (starting v) e
       to-return e h =
           after words p (16 + n + most) 8 0 (16 + n + length body) (16 + n + length body + 8) (done e) to-cleanup
           (reached words p (front G) (16 + n + length body) (RET ∷ []) b e cleanup-place h) (omega arith) (16 + n + most + 8) (omega arith)

@@ -8,10 +8,10 @@ use native.Mathlib.Nat.{add-zero, zero-add, add-suc, suc-add}
 use lib.ListN.{length, drop}
 use Rattle.records.specs.declared.code.Code.{Code}
 use Rattle.machine_step.specs.Step.{Config, Outcome, next, jump, end, fault, step}
-use Rattle.machine.specs.declared.run.Answer.the-variants.{Ended}
+use Rattle.machine.specs.declared.run.RunAnswer.the-variants.{Ended}
 use Rattle.machine.specs.Run.{runs}
 use Rattle.machine.specs.Run as machine
-use Rattle.trees_proof.specs.Claims.{Reaches}
+use Rattle.trees_proof.specs.Claims.{RunsTo}
 use Rattle.trees_proof.proofs.Steps.{drop-one, at-drop}
 
 abbrev onNext : Outcome → (Config → Option Config) → Option Config
@@ -46,7 +46,7 @@ module _ (words : ℕ → ℕ) (p : List Code) where
       by (end f) s h r = unlike h
       by (fault f) s h r = unlike h
 
-  pub reached : (xs : List Code) (i : ℕ) (rest : List Code) (c d : Config) → drop i p ≡ xs ++ rest → through words xs c ≡ some d → Reaches words p (length xs) i (i + length xs) c d
+  pub reached : (xs : List Code) (i : ℕ) (rest : List Code) (c d : Config) → drop i p ≡ xs ++ rest → through words xs c ≡ some d → RunsTo words p (length xs) i (i + length xs) c d
   reached xs i rest c d e h = record { steps = length xs; within = omega arith; run = passes xs i rest c d e h }
 
   -- a run that comes to a record that ends it
@@ -55,7 +55,7 @@ module _ (words : ℕ → ℕ) (p : List Code) where
     unfolding runs
     one-step left made = rw (at-drop p i e, s)
 
-    pub ended : (most limit : ℕ) → Reaches words p most 0 i c b → most < limit → (k : ℕ) × (k ≤ limit) × (runs words p limit 0 0 c ≡ machine.done (Ended k) d)
+    pub ended : (most limit : ℕ) → RunsTo words p most 0 i c b → most < limit → (k : ℕ) × (k ≤ limit) × (runs words p limit 0 0 c ≡ machine.done (Ended k) d)
     ended most limit r h =
         let left : ℕ = limit - suc (r .steps) in
         let m : limit ≡ r .steps + suc left = omega (arith, r .within) in

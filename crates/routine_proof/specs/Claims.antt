@@ -17,9 +17,9 @@ use Rattle.word.specs.Words.{sum}
 use Rattle.machine_step.specs.View.{View}
 use Rattle.machine_step.specs.Memory.{stackEnd, stackEntry, heapOk}
 use Rattle.machine_step.specs.Step.{Config}
-use Rattle.machine.specs.declared.run.Answer.the-variants.{Ended, Limit}
+use Rattle.machine.specs.declared.run.RunAnswer.the-variants.{Ended, Limit}
 use Rattle.machine.specs.Run.{done, codesOf, ran, starting}
-use Rattle.trees_proof.specs.Claims.{Reaches}
+use Rattle.trees_proof.specs.Claims.{RunsTo}
 use Rattle.routine.specs.Routine.{argument, head, cleanup, routineBytes, routineAnswer}
 
 -- the registers that a function keeps for its caller, in words 1 to 6 of the stack, from its end
@@ -83,11 +83,11 @@ pub record Returns (G : Shape) (words : ℕ → ℕ) (bytes : List ℕ) (limit :
 pub record Frames (G : Shape) (words : ℕ → ℕ) (n k : ℕ) (body : List ℕ) (v : View) : Type 0 where
   -- the configuration that the body starts from, at place 16 + n: a run of the routine's bytes comes to it in 16 + n steps
   pub entered : Config
-  pub enters : Reaches words (routine G n k body) (16 + n) 0 (16 + n) (starting v) entered
+  pub enters : RunsTo words (routine G n k body) (16 + n) 0 (16 + n) (starting v) entered
   pub starts : ran (blockWords G) words (routineBytes G n body) (16 + n) v ≡ done (Limit (16 + n)) entered
   pub state : SetUp G n v entered
   -- if the body comes to the cleanup's place, by its end or by a jump, with STACK and the saved words as they were
-  pub returns : (most : ℕ) (b : Config) → Reaches words (routine G n k body) most (16 + n) (16 + n + k) entered b
+  pub returns : (most : ℕ) (b : Config) → RunsTo words (routine G n k body) most (16 + n) (16 + n + k) entered b
       → b .state .reg STACK ≡ framePointer G → SavedIn (b .state .stk) (v .reg)
       → (limit : ℕ) → 16 + n + most + 9 ≤ limit → Returns G words (routineBytes G n body) limit v b
 

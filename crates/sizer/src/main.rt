@@ -3,15 +3,15 @@
 // for the blocks of an edition and `frame N` for a frame of so many spills, of the files after it; the edition is 1 and a frame has 256 where none is asked.
 ghost use Prim.Native.Nat.{_-_, _≤_};
 ghost use lib.ListN.{length};
+use channel_step::channel::Channel;
 use heap_chains::Fitted;
 use libc::STDERR_FILENO;
 use libc::STDIN_FILENO;
 use libc::STDOUT_FILENO;
+use order_spec::answer::OrderAnswer;
 use program_options::Heard;
 use program_options::Options;
 use program_options::Said;
-use order_spec::answer::Answer;
-use channel_step::channel::Channel;
 
 // What print calls leave in registers: nothing depends on it.
 const LEFT: u64 = 0x5A5A5A5A5A5A5A5A;
@@ -47,7 +47,7 @@ fn show(text: &[u8], size: usize) {
 }
 
 // The line of a run that did not end, and whether there is one.
-fn tell_stop(number: u64, order: &[u8], ran: machine::run::Answer) -> bool {
+fn tell_stop(number: u64, order: &[u8], ran: machine::run::RunAnswer) -> bool {
     let mut line = [0u8; 256];
     let size = report::stops::put_stop(&mut line, 0, number, order, ran);
     show(&line, size);
@@ -61,7 +61,7 @@ fn item(order: &[u8], bindings: &[u8], heap: &mut [u64], records: &mut [u8], g: 
     let answer = played.answer;
     let ran = played.ran;
     let channel = played.channel;
-    let Answer::Accepted(_, _, _) = answer else {
+    let OrderAnswer::Accepted(_, _, _) = answer else {
         return Going {
             accepted: g.accepted,
             refused: word::sum(g.refused, 1),

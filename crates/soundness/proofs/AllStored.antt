@@ -17,12 +17,12 @@ use Rattle.records.specs.Orders.{orderBytes, orderIn, orderOf, orderReaders, or
 use Rattle.trees.specs.Tree.{Tree, labels, size}
 use Rattle.layout.specs.declared.config.Shape.{Shape}
 use Rattle.layout.specs.Config.{Supported, positions, mostVariables}
-use Rattle.heap.specs.Values.{integer, Values, nil, cons, countOf, joined}
+use Rattle.heap.specs.Values.{integer, Values, nil, cons, countOf, appended}
 use Rattle.memory.specs.Objects.{snd, extIn, objectRecords, objectSizes}
 use Rattle.memory.proofs.Sizes.{immediate-size, store-object-records}
 use Rattle.order_context_proof.proofs.Bindings.{good-none, good-length}
-use Rattle.order_spec.specs.declared.answer.Answer.the-variants.{Position}
-use Rattle.order_spec.specs.Answered.{Asked, orderIs, accepted, causeOf, granted, decided, answerTo}
+use Rattle.order_spec.specs.declared.answer.OrderAnswer.the-variants.{Position}
+use Rattle.order_spec.specs.Answered.{Asked, orderIs, orderAccepted, orderAnswerCause, orderGranted, decided, answerTo}
 use Rattle.order_spec.specs.Plain.{plainly}
 use Rattle.order_spec.specs.Writes.{made, treeOf, contextAfter, present, kindsOk, asked}
 use Rattle.order_spec.proofs.Accepting.{all-passed, all-judged}
@@ -37,12 +37,12 @@ count-sevens : (n : ℕ) → countOf (sevens n) ≡ n
 count-sevens zero = refl
 count-sevens (suc n) = ap suc (count-sevens n)
 
-one-more : (n : ℕ) → joined (sevens n) (cons (integer 7) nil) ≡ sevens (suc n)
+one-more : (n : ℕ) → appended (sevens n) (cons (integer 7) nil) ≡ sevens (suc n)
 one-more zero = refl
 one-more (suc n) = ap (λ (vs : Values). cons (integer 7) vs) (one-more n)
 
 -- records and a context that fit are granted
-fitting : (q : Asked) (t : Tree) (after : List ℕ) → q .counter + labels t ≤ lastLabel → 24 * size t ≤ q .recordsRoom → length after ≤ q .contextRoom → accepted (granted q t after) ≡ true
+fitting : (q : Asked) (t : Tree) (after : List ℕ) → q .counter + labels t ≤ lastLabel → 24 * size t ≤ q .recordsRoom → length after ≤ q .contextRoom → orderAccepted (orderGranted q t after) ≡ true
 fitting q t after l r c = rw (le-ltb lastLabel (q .counter + labels t) l, le-ltb (q .recordsRoom) (24 * size t) r, le-ltb (q .contextRoom) (length after) c)
 
 made-long : (k : ℕ) → length (made Ext k) ≡ 8
@@ -55,19 +55,19 @@ module _ (g : Shape) (sup : Supported g) (context : List ℕ) (k : ℕ) (good : 
   unfolding putSeven orderBytes le number orderIn orderOf orderReaders orderOk orderOperandsOk usedByOrder orderStarts
   put-read = all-passed g context (putSeven .asked) good good-none refl refl refl
 
-  put-accepted : 2 * k + 2 ≤ positions g → accepted (answerTo g context (putSeven .asked)) ≡ true
+  put-accepted : 2 * k + 2 ≤ positions g → orderAccepted (answerTo g context (putSeven .asked)) ≡ true
   unfolding putSeven orderBytes le number orderIn orderOf orderReaders present kindsOk asked treeOf contextAfter
   put-accepted h =
       let q : Asked = putSeven .asked in
       let t : Tree = treeOf g context k [] (Put 7) in
       let z = immediate-size g (snd k) 7 in
       let w = good-length context good in
-      ap accepted (put-read ∙ all-judged g context q k refl refl refl (le-leb (2 * k + 2) (positions g) h))
+      ap orderAccepted (put-read ∙ all-judged g context q k refl refl refl (le-leb (2 * k + 2) (positions g) h))
       ∙ fitting q t (contextAfter context k [] (Put 7)) (omega (arith, z .0)) (omega (arith, z .1)) (omega (arith, length-append context (made Ext k), made-long k, w .0, sup .frame))
 
-  put-refused : positions g < 2 * k + 2 → causeOf (answerTo g context (putSeven .asked)) ≡ 8 ∷ []
+  put-refused : positions g < 2 * k + 2 → orderAnswerCause (answerTo g context (putSeven .asked)) ≡ 8 ∷ []
   unfolding putSeven orderBytes le number orderIn orderOf orderReaders present kindsOk asked
-  put-refused h = ap causeOf (put-read ∙ refusing)
+  put-refused h = ap orderAnswerCause (put-read ∙ refusing)
     where
       refusing : decided g context k (putSeven .asked) ≡ Position
       refusing = rw (lt-leb (2 * k + 2) (positions g) h)
@@ -95,7 +95,7 @@ module _ (g : Shape) (sup : Supported g) (blocks : ℕ) (two : 2 ≤ blocks) (mo
   -- each is accepted while it has positions
   put-on : (n : ℕ) (b : Bool) (vs : Values) → b ≡ true → vs ≡ sevens n → cond b (plainly (Put 7) vs) vs ≡ sevens (suc n)
   unfolding plainly
-  put-on n true vs e f = ap (λ (ws : Values). joined ws (cons (integer 7) nil)) f ∙ one-more n
+  put-on n true vs e f = ap (λ (ws : Values). appended ws (cons (integer 7) nil)) f ∙ one-more n
   put-on n false vs e f = let z : _≡_ {A = ℕ} 0 1 = cc in absurd (omega arith)
 
   good-after : (n : ℕ) → values g blocks (puts n) ≡ sevens n → checkedContext (reached g blocks (puts n) .context) ≡ Good n
@@ -108,7 +108,7 @@ module _ (g : Shape) (sup : Supported g) (blocks : ℕ) (two : 2 ≤ blocks) (mo
       let before : values g blocks (puts n) ≡ sevens n = held n (omega arith) in
       put-on n (isAccepted g (reached g blocks (puts n)) (putSeven .asked)) (values g blocks (puts n)) (put-accepted g sup (reached g blocks (puts n) .context) n (good-after n before) (omega arith)) before
 
-  pub next-refused : causeOf (answerTo g (reached g blocks (puts (mostVariables g)) .context) (putSeven .asked)) ≡ 8 ∷ []
+  pub next-refused : orderAnswerCause (answerTo g (reached g blocks (puts (mostVariables g)) .context) (putSeven .asked)) ≡ 8 ∷ []
   next-refused =
       let n : ℕ = mostVariables g in
       put-refused g sup (reached g blocks (puts n) .context) n (good-after n (held n (omega arith))) (omega arith)
@@ -137,7 +137,7 @@ module _ (g : Shape) (sup : Supported g) {n tag : ℕ} (it : Item) (w : Stores n
   unfolding contextAfter bindingBytes le
   after-small context = let z : n - n ≡ 0 = omega arith in rw z (omega arith)
 
-  store-judged : (context : List ℕ) → checkedContext context ≡ Good n → answerTo g context (it .asked) ≡ granted (it .asked) (treeOf g context n [] (Store n tag)) (contextAfter context n [] (Store n tag))
+  store-judged : (context : List ℕ) → checkedContext context ≡ Good n → answerTo g context (it .asked) ≡ orderGranted (it .asked) (treeOf g context n [] (Store n tag)) (contextAfter context n [] (Store n tag))
   unfolding present kindsOk asked
   store-judged context good =
       let q : Asked = it .asked in
@@ -146,11 +146,11 @@ module _ (g : Shape) (sup : Supported g) {n tag : ℕ} (it : Item) (w : Stores n
       (rw (w .order-is, ne-eqb n 0 (λ z. absurd (omega arith))) (le-leb (2 * n) (positions g) (omega arith)))
       ∙ rw (w .order-is, w .alone)
 
-  store-accepted : (context : List ℕ) → checkedContext context ≡ Good n → accepted (answerTo g context (it .asked)) ≡ true
+  store-accepted : (context : List ℕ) → checkedContext context ≡ Good n → orderAccepted (answerTo g context (it .asked)) ≡ true
   store-accepted context good =
       let s = store-small g sup context n n tag in
       let k = after-small context in
-      ap accepted (store-judged context good)
+      ap orderAccepted (store-judged context good)
       ∙ fitting (it .asked) (treeOf g context n [] (Store n tag)) (contextAfter context n [] (Store n tag))
       (omega (arith, s .0, w .from-0, sup .frame)) (omega (arith, s .1, w .records-room)) (omega (arith, k, w .context-room))
 

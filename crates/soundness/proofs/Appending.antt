@@ -7,8 +7,8 @@ use native.Mathlib.Nat.{zero-add}
 use native.Mathlib.Decide.{decLt}
 use native.Mathlib.Omega.{arith}
 use borrow.Author.Tests.{lt-ltb}
-use Rattle.records.specs.declared.order.Operation.{Operation}
-use Rattle.records.specs.declared.order.Operation.the-variants.{Add, Sub, Mul, Div, Rem}
+use Rattle.records.specs.declared.order.Calculation.{Calculation}
+use Rattle.records.specs.declared.order.Calculation.the-variants.{Add, Sub, Mul, Div, Rem}
 use Rattle.word.specs.Results.{result, resultDefined}
 use Rattle.layout.specs.declared.config.Shape.{Shape}
 use Rattle.layout.specs.Config.{positions}
@@ -18,7 +18,7 @@ use Rattle.machine_step.specs.Step.{Config}
 use Rattle.trees_proof.specs.Evaluation.{faulted, evaluate}
 use Rattle.code.specs.Code.{loadImmediate, arithmetic}
 use Rattle.heap.specs.Blocks.{cell}
-use Rattle.heap.specs.Orders.{Order, put, Performs, puts}
+use Rattle.heap.specs.Orders.{HeapOrder, put, Performs, puts}
 use Rattle.layout_proof.specs.Held.{held, Placed}
 use Rattle.layout_proof.proofs.HeldLemmas.{keeps-register, placed-keeps, location-low, location-high, location-grows, location-fits, location-free}
 use Rattle.layout_proof.proofs.Runs.{Does, so}
@@ -32,7 +32,7 @@ use Rattle.memory_proof.proofs.Variables.{variable, variables, variables-snoc, 
 
 module _ (G : Shape) where
   -- what an order that changes something leaves: the abstract order performed, STACK and the heap's size as they were, no call
-  pub record Performed (N : ℕ) (c : Config) (o : Order) (ext ext′ : ℕ → Bool) (k k′ : ℕ) (d : Config) : Type 0 where
+  pub record Performed (N : ℕ) (c : Config) (o : HeapOrder) (ext ext′ : ℕ → Bool) (k k′ : ℕ) (d : Config) : Type 0 where
     pub performs : Performs (objectSizes G) (L G) (heapOf G c) o (variables ext c 0 k) (heapOf G d) (variables ext′ d 0 k′)
     pub placed : Placed G N d
     pub quiet : d .calls ≡ c .calls
@@ -100,7 +100,7 @@ module _ (G : Shape) where
               by (yes l) = omega (arith, location-low p l)
               by (no l) = omega (arith, location-high p (omega arith))
 
-      apart-for : (o : Operation) → OperandsFor o T A B
+      apart-for : (o : Calculation) → OperandsFor o T A B
       apart-for Add = tt
       apart-for Sub = tt
       apart-for Mul = tt
@@ -110,13 +110,13 @@ module _ (G : Shape) where
       ok : (p : ℕ) → p < positions G → Given G (location p)
       ok p l = given G (location p) (position-ok p l)
 
-      pub compute-does : (o : Operation) → resultDefined o (held c A) (held c B) ≡ true
+      pub compute-does : (o : Calculation) → resultDefined o (held c A) (held c B) ≡ true
           → Does words (arithmetic G o T A B) c (Performed N c (put (result o (held c A) (held c B))) ext ext′ k (suc k))
       compute-does o e =
           so (arithmetic-does words c v T A B (ok (2 * k + 1) (omega arith)) (ok (2 * a + 1) (omega arith)) (ok (2 * b + 1) (omega arith)) o (apart-for o) e)
           (appended (result o (held c A) (held c B)))
 
-      pub compute-stops : (o : Operation) → resultDefined o (held c A) (held c B) ≡ false → (d : Config) × (evaluate words (arithmetic G o T A B) c ≡ faulted d)
+      pub compute-stops : (o : Calculation) → resultDefined o (held c A) (held c B) ≡ false → (d : Config) × (evaluate words (arithmetic G o T A B) c ≡ faulted d)
       compute-stops o e =
           let p = arithmetic-stops words c v T A B (ok (2 * k + 1) (omega arith)) (ok (2 * a + 1) (omega arith)) (ok (2 * b + 1) (omega arith)) o (apart-for o) e in
           (p .at, p .run)

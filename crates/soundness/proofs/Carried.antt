@@ -22,8 +22,8 @@ use Rattle.heap.proofs.OrderLemmas.{storedBy}
 use Rattle.heap.proofs.RunLemmas.{abstract-heap-stays-sound}
 use Rattle.heap.proofs.SoundLemmas.{sound, frontier-unique}
 use Rattle.heap.specs.Orders as abstract
-use Rattle.heap.specs.Orders.{State, Run, plain, Legal, listOf}
-use Rattle.heap.specs.Values.{integer, object, Value, Values, countOf, joined, firstOf, valueAt, KindsFrom}
+use Rattle.heap.specs.Orders.{HeapState, Run, plain, Legal, listOf}
+use Rattle.heap.specs.Values.{integer, object, Value, Values, countOf, appended, firstOf, valueAt, KindsFrom}
 use Rattle.layout_proof.specs.Held.{Placed}
 use Rattle.memory_proof.proofs.Acquiring.{Within}
 use Rattle.memory_proof.proofs.Shown.{L, heapOf}
@@ -39,7 +39,7 @@ use Rattle.soundness.proofs.Appending.{Performed}
 use Rattle.soundness.proofs.Rooms.{represents-within}
 
 -- the abstract heap's order; compute puts its result
-abbrev pub abstractly : Order → Values → abstract.Order
+abbrev pub abstractly : Order → Values → abstract.HeapOrder
 abstractly (Put value) vs = abstract.put value
 abstractly (Compute operation a b) vs = abstract.put (result operation (integerOf (valueAt a vs)) (integerOf (valueAt b vs)))
 abstractly (Copy a n) vs = abstract.copy a n
@@ -61,7 +61,7 @@ plain-same (Compute operation a b) vs e = refl
 plain-same (Copy a n) vs e = refl
 plain-same Drop vs e = refl
 plain-same (Store n tag) vs e = refl
-plain-same (Load n) vs e = ap (joined (firstOf (countOf vs - 1) vs)) (lists-same (valueAt (countOf vs - 1) vs))
+plain-same (Load n) vs e = ap (appended (firstOf (countOf vs - 1) vs)) (lists-same (valueAt (countOf vs - 1) vs))
 plain-same (Print newline a) vs e = let z : _≡_ {A = ℕ} 0 1 = cc in absurd (omega arith)
 
 object-is : (bindings : List ℕ) (n : ℕ) (v : Value) → AsStored bindings n v → (tag : ℕ) × (ws : Values) × (v ≡ object tag ws) × (countOf ws ≡ n)
@@ -85,7 +85,7 @@ places-are context k e = ap bindingsIn e
 
 module _ (G : Shape) where
   -- for a channel beside the plain machine's values, with the frontier below a bound, and the states before
-  pub record Carried (blocks bound : ℕ) (past : List State) (ch : Channel) (vs : Values) : Type 0 where
+  pub record Carried (blocks bound : ℕ) (past : List HeapState) (ch : Channel) (vs : Values) : Type 0 where
     pub places : checkedContext (ch .context) ≡ Good (countOf vs)
     pub kinds : KindsFrom (extAt (ch .context)) 0 vs
     pub few : 2 * countOf vs < positions G
@@ -96,7 +96,7 @@ module _ (G : Shape) where
     pub run : Run (objectSizes G) (L G) past (stateOf G ch vs)
 
   -- what is carried is what is claimed of the channel, where the bound is within the heap
-  pub heap-after : {blocks bound : ℕ} {past : List State} {ch : Channel} {vs : Values} (f : Carried blocks bound past ch vs) → (s : HeapAfter (objectSizes G) (L G) past (stateOf G ch vs)) × (s .frontier < bound)
+  pub heap-after : {blocks bound : ℕ} {past : List HeapState} {ch : Channel} {vs : Values} (f : Carried blocks bound past ch vs) → (s : HeapAfter (objectSizes G) (L G) past (stateOf G ch vs)) × (s .frontier < bound)
   unfolding AbstractHeapStaysSound
   heap-after {past} {ch} {vs} f =
       let s : HeapAfter (objectSizes G) (L G) past (stateOf G ch vs) = abstract-heap-stays-sound (objectSizes G) (L G) past (stateOf G ch vs) refl (f .run) in
@@ -104,7 +104,7 @@ module _ (G : Shape) where
       let low = f .low in
       (s, omega arith)
 
-  pub sound-at : {blocks bound : ℕ} {past : List State} {ch : Channel} {vs : Values} → Carried blocks bound past ch vs → bound ≤ blocks → SoundAt G blocks past ch vs
+  pub sound-at : {blocks bound : ℕ} {past : List HeapState} {ch : Channel} {vs : Values} → Carried blocks bound past ch vs → bound ≤ blocks → SoundAt G blocks past ch vs
   sound-at f fits =
       let s = heap-after f in
       record { places = f .places; kinds = f .kinds; heap = s .0; frontier-there = omega (arith, s .1); whole = f .placed .words; stack-there = f .placed .stack; stack-whole = f .placed .deep }
@@ -119,7 +119,7 @@ module _ (G : Shape) where
   stored-blocks (Print newline a) vs = refl
 
   state-is : (ch : Channel) (k : ℕ) (vs ws : Values) → placesIn (ch .context) ≡ k → vs ≡ ws
-      → _≡_ {A = State} (record { memory = heapOf G (starting (ch .view)); variables = variables (extAt (ch .context)) (starting (ch .view)) 0 k; values = vs }) (stateOf G ch ws)
+      → _≡_ {A = HeapState} (record { memory = heapOf G (starting (ch .view)); variables = variables (extAt (ch .context)) (starting (ch .view)) 0 k; values = vs }) (stateOf G ch ws)
   state-is ch k vs ws e f = rw (e, f)
 
   -- a bound leaves room for the blocks that the variables lead to before an order, and those that it acquires
@@ -132,7 +132,7 @@ module _ (G : Shape) where
   BoundedAfter vs o context bound d = Bounded (objectSizes G) (L G) bound (heapOf G d) (variables (extAt context) d 0 (countOf (plainly o vs))) (plain (abstractly o vs) vs)
 
   -- an order that changes something, on from a channel
-  module _ {blocks bound : ℕ} {past : List State} {ch : Channel} {vs : Values} (f : Carried blocks bound past ch vs) (bindings : List ℕ) (o : Order) (changing : changes o ≡ true) (owed : Owed bindings o vs) (context : List ℕ) where
+  module _ {blocks bound : ℕ} {past : List HeapState} {ch : Channel} {vs : Values} (f : Carried blocks bound past ch vs) (bindings : List ℕ) (o : Order) (changing : changes o ≡ true) (owed : Owed bindings o vs) (context : List ℕ) where
     abbrev Did : Config → Type 0
     Did d = Performed G blocks (starting (ch .view)) (abstractly o vs) (extAt (ch .context)) (extAt context) (countOf vs) (countOf (plainly o vs)) d
 
@@ -166,12 +166,12 @@ module _ (G : Shape) where
           frontier = b .frontier;
           low = b .below;
           represents = rw (plain-same o vs changing) at (b .represents);
-          run = subst (λ (s : State). Run (objectSizes G) (L G) (stateOf G ch vs ∷ past) s) (state-is next (countOf (plainly o vs)) (plain (abstractly o vs) vs) (plainly o vs) (places-are context (countOf (plainly o vs)) good) (plain-same o vs changing))
+          run = subst (λ (s : HeapState). Run (objectSizes G) (L G) (stateOf G ch vs ∷ past) s) (state-is next (countOf (plainly o vs)) (plain (abstractly o vs) vs) (plainly o vs) (places-are context (countOf (plainly o vs)) good) (plain-same o vs changing))
               (abstract.next (abstractly o vs) (f .run) (legal bindings o vs changing (owed .0)) (rw (places-are (ch .context) (countOf vs) (f .places)) (p .performs)));
         }
 
   -- a print, which leaves variables and heap as they were
-  module _ {blocks bound : ℕ} {past : List State} {ch : Channel} {vs : Values} (f : Carried blocks bound past ch vs) (bound′ : ℕ) (grows : bound ≤ bound′) where
+  module _ {blocks bound : ℕ} {past : List HeapState} {ch : Channel} {vs : Values} (f : Carried blocks bound past ch vs) (bound′ : ℕ) (grows : bound ≤ bound′) where
     pub state-same : (d : Config) → variables (extAt (ch .context)) d 0 (countOf vs) ≡ variables (extAt (ch .context)) (starting (ch .view)) 0 (countOf vs) → heapOf G d ≡ heapOf G (starting (ch .view))
         → stateOf G (record { context = ch .context; view = d .state }) vs ≡ stateOf G ch vs
     state-same d v h = rw (places-are (ch .context) (countOf vs) (f .places), h, v)
@@ -189,5 +189,5 @@ module _ (G : Shape) where
           frontier = f .frontier;
           low = let l = f .low in omega arith;
           represents = rw (h, v) (f .represents);
-          run = subst (λ (s : State). Run (objectSizes G) (L G) past s) (rw (e, h, v)) (f .run);
+          run = subst (λ (s : HeapState). Run (objectSizes G) (L G) past s) (rw (e, h, v)) (f .run);
         }

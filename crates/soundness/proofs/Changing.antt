@@ -11,7 +11,7 @@ use lib.Seq.{length-take-le}
 use borrow.Author.Tests.{ltb-true, leb-true, ne-eqb}
 use Rattle.records.specs.Contexts.{extAt}
 use Rattle.records.specs.declared.binding.Kind.the-variants.{Linked, Ext}
-use Rattle.records.specs.declared.order.Operation.{Operation}
+use Rattle.records.specs.declared.order.Calculation.{Calculation}
 use Rattle.records.specs.declared.order.Order.{Order}
 use Rattle.records.specs.declared.order.Order.the-variants.{Put, Compute, Copy, Drop, Store, Load, Print}
 use Rattle.records.proofs.Conditions.{and-left, and-right}
@@ -24,10 +24,10 @@ use Rattle.trees_proof.specs.Evaluation.{done, evaluate}
 use Rattle.heap.proofs.ValueLemmas.{hold-at}
 use Rattle.heap.specs.Blocks.{Cell, pointers}
 use Rattle.heap.specs.Reachability.{ReachableCount}
-use Rattle.heap.specs.Values.{Value, integer, object, Values, nil, cons, countOf, joined, firstOf, restOf, copies, valueAt, KindsFrom}
+use Rattle.heap.specs.Values.{Value, integer, object, Values, nil, cons, countOf, appended, firstOf, restOf, copies, valueAt, KindsFrom}
 use Rattle.heap.specs.Apart.{HoldsApart, HoldAllApart}
 use Rattle.heap.specs.Orders as abstract
-use Rattle.heap.specs.Orders.{State, listOf}
+use Rattle.heap.specs.Orders.{HeapState, listOf}
 use Rattle.layout_proof.specs.Held.{held, Keeps}
 use Rattle.layout_proof.proofs.Runs.{Does, so}
 use Rattle.memory_proof.proofs.Acquiring.{Within}
@@ -79,7 +79,7 @@ module _ (G : Shape) where
   loaded-most s v zero h a = omega arith
   loaded-most s v (suc n) h a = let b = rw (ne-eqb (suc n) 0 (λ z. omega arith)) at a in omega (arith, s .even)
 
-  module _ (words : ℕ → ℕ) {blocks bound : ℕ} {past : List State} {ch : Channel} {vs : Values} (f : Carried G blocks bound past ch vs) (bindings : List ℕ) where
+  module _ (words : ℕ → ℕ) {blocks bound : ℕ} {past : List HeapState} {ch : Channel} {vs : Values} (f : Carried G blocks bound past ch vs) (bindings : List ℕ) where
     abbrev K : ℕ
     K = countOf vs
 
@@ -102,7 +102,7 @@ module _ (G : Shape) where
     integer-held a h e = integer-there G (heapOf G C .fields) (f .represents .linked) E C vs (f .represents .holds) (f .kinds) a h e
 
     -- one more integer variable
-    one-more : (w : ℕ) → countOf (joined vs (cons (integer w) nil)) ≡ suc K
+    one-more : (w : ℕ) → countOf (appended vs (cons (integer w) nil)) ≡ suc K
     one-more w = count-joined vs (cons (integer w) nil) ∙ more
       where
         more : K + 1 ≡ suc K
@@ -116,7 +116,7 @@ module _ (G : Shape) where
     put-order value h =
         recounted (one-more value) (put-does G E (E′ (Put value)) C K (f .placed) (omega (arith, f .placed .shape .even)) (λ x l. ext-left (ch .context) (made Ext K) K long x l) new-integer words value)
 
-    compute-order : (o : Operation) (a b : ℕ) → a < K → b < K → E a ≡ true → E b ≡ true → 2 * K + 2 ≤ positions G → OwedResult (Compute o a b) vs → Goal (Compute o a b)
+    compute-order : (o : Calculation) (a b : ℕ) → a < K → b < K → E a ≡ true → E b ≡ true → 2 * K + 2 ≤ positions G → OwedResult (Compute o a b) vs → Goal (Compute o a b)
     unfolding treeOf contextAfter plainly
     compute-order o a b ak bk ea eb h owed =
         let x = integer-held a ak ea in
@@ -125,7 +125,7 @@ module _ (G : Shape) where
         (rw (x, y) at (compute-does G E (E′ (Compute o a b)) C K (f .placed) (omega (arith, f .placed .shape .even)) (λ x l. ext-left (ch .context) (made Ext K) K long x l) new-integer words a b ak bk o (rw (x, y) owed)))
 
     -- a compute that is done has its result
-    computed-result : (o : Operation) (a b : ℕ) → a < K → b < K → E a ≡ true → E b ≡ true → 2 * K + 2 ≤ positions G → (d : Config)
+    computed-result : (o : Calculation) (a b : ℕ) → a < K → b < K → E a ≡ true → E b ≡ true → 2 * K + 2 ≤ positions G → (d : Config)
         → evaluate words (treeOf G (ch .context) K bindings (Compute o a b)) C ≡ done d → OwedResult (Compute o a b) vs
     unfolding treeOf contextAfter
     computed-result o a b ak bk ea eb h d e = by (resultDefined o (held C (location (2 * a + 1))) (held C (location (2 * b + 1)))) refl
@@ -219,12 +219,12 @@ module _ (G : Shape) where
           whole = length-take-le (8 * e) (ch .context) (omega (arith, long))
 
           by : (v : Value) → valueAt (K - 1) vs ≡ v → AsStored bindings n v
-              → Does words (loadObject G (extIn bindings (K - 1)) (K - 1) n) C (λ d. Performed G blocks C (abstract.load n) E (extAt (take (8 * (K - 1)) (ch .context) ++ bindings)) K (countOf (joined (firstOf (K - 1) vs) (listOf (valueAt (K - 1) vs)))) d × Keeps (Below (K - 1)) C d)
+              → Does words (loadObject G (extIn bindings (K - 1)) (K - 1) n) C (λ d. Performed G blocks C (abstract.load n) E (extAt (take (8 * (K - 1)) (ch .context) ++ bindings)) K (countOf (appended (firstOf (K - 1) vs) (listOf (valueAt (K - 1) vs)))) d × Keeps (Below (K - 1)) C d)
           by (integer w) is a = absurd a
           by (object tag ws) is a =
               let few = f .few in
-              let c : countOf (joined (firstOf (K - 1) vs) (listOf (valueAt (K - 1) vs))) ≡ e + countOf ws
-              = ap (λ (v : Value). countOf (joined (firstOf (K - 1) vs) (listOf v))) is ∙ count-joined (firstOf (K - 1) vs) ws ∙ ap (λ (m : ℕ). m + countOf ws) (count-first (K - 1) vs (omega arith) ∙ z) in
+              let c : countOf (appended (firstOf (K - 1) vs) (listOf (valueAt (K - 1) vs))) ≡ e + countOf ws
+              = ap (λ (v : Value). countOf (appended (firstOf (K - 1) vs) (listOf v))) is ∙ count-joined (firstOf (K - 1) vs) ws ∙ ap (λ (m : ℕ). m + countOf ws) (count-first (K - 1) vs (omega arith) ∙ z) in
               let d = load-does G words E (extAt (front ++ bindings)) C (f .placed) (extIn bindings e) e tag ws below (omega arith) (omega (arith, a .0))
               (λ x l. ext-left front bindings e whole x l ∙ ext-take (ch .context) e x l) linked
               (λ x l h. let y : e + (x - e) ≡ x = omega arith in rw y at (ext-in bindings e (x - e) ∙ sym (ext-right front bindings e whole (x - e))))

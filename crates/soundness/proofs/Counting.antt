@@ -15,7 +15,7 @@ use Rattle.heap.proofs.BlockLemmas.{block-nonzero}
 use Rattle.heap.specs.Words.{headers, memoryOf, layout}
 use Rattle.heap.proofs.WordLemmas.{number-of-address}
 use Rattle.heap.specs.Claims.{Sound}
-use Rattle.heap_chains.specs.Blocks.{chainLength, chainEnd, counted, fitFor, fitIn}
+use Rattle.heap_chains.specs.Blocks.{chainLength, chainEnd, blocksCounted, fitFor, fitIn}
 use Rattle.heap_chains.proofs.Walks.{list-is, chain-is}
 use Rattle.soundness.specs.Claims.{reached}
 use Rattle.soundness.specs.Counts.{CountsAreTrue, fitOn, FitIsForPeak}
@@ -48,8 +48,8 @@ module _ (fieldCount : ℕ) (words : ℕ → ℕ) (linear-head lazy-head frontie
       let z = s .untouched frontier (omega arith) in
       chain-is (headers fieldCount words) (s .lazy) lazy-head (layout fieldCount .address frontier) all (s .lazy-chain) (λ b o. not-null b (omega arith)) (layout fieldCount .nonzero frontier) z (omega arith)
 
-  pub counts : counted fieldCount all words linear-head lazy-head ≡ record { linear = length (s .linear); lazy = length (s .lazy); held = length (s .held); untouched = all - frontier }
-  unfolding counted
+  pub counts : blocksCounted fieldCount all words linear-head lazy-head ≡ record { linear = length (s .linear); lazy = length (s .lazy); held = length (s .held); untouched = all - frontier }
+  unfolding blocksCounted
   counts =
       let n = in-all in
       let a = list-is (headers fieldCount words) (s .linear) linear-head all (s .linear-chain) (λ b o. not-null b (omega arith)) (omega arith) in

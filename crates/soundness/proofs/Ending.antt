@@ -12,7 +12,7 @@ use Rattle.trees.specs.Tree.{Tree, labels, size, flat}
 use Rattle.machine_step.specs.Memory.{heapOk}
 use Rattle.machine_step.specs.Step.{Config}
 use Rattle.machine_step.specs.View.{View}
-use Rattle.machine.specs.declared.run.Answer.the-variants.{Ended}
+use Rattle.machine.specs.declared.run.RunAnswer.the-variants.{Ended}
 use Rattle.machine.specs.Run.{done, ran, started, starting}
 use Rattle.trees_proof.specs.Evaluation.{evaluate}
 use Rattle.trees_proof.specs.Evaluation as evaluation

@@ -10,8 +10,8 @@ use Rattle.records.specs.Orders.{orderBytes, orderIn, orderOf, orderReaders, or
 use Rattle.layout.specs.Config.{base, stackOffset}
 use Rattle.layout.proofs.Placing.{base-supported}
 use Rattle.layout.specs.Positions.{location}
-use Rattle.machine.specs.declared.run.Answer.{Answer}
-use Rattle.machine.specs.declared.run.Answer.the-variants.{Ended, Malformed, Fault, Limit}
+use Rattle.machine.specs.declared.run.RunAnswer.{RunAnswer}
+use Rattle.machine.specs.declared.run.RunAnswer.the-variants.{Ended, Malformed, Fault, Limit}
 use Rattle.heap.specs.Blocks.{Cell, pointers}
 use Rattle.heap.proofs.CountingLemmas.{same-self, same-other, occ-length}
 use Rattle.heap.proofs.GrowthLemmas.{nothing-led}
@@ -76,7 +76,7 @@ no-fault : (blocks : ℕ) (its : List Item) → AllRan base blocks its → NoFau
 no-fault blocks [] r = tt
 no-fault blocks (it ∷ its) r = ((λ e. ended (r .0 e)), no-fault blocks its (r .1))
   where
-    kind : Answer → ℕ
+    kind : RunAnswer → ℕ
     kind (Ended k) = 0
     kind (Malformed p) = 2
     kind (Fault k p) = 1

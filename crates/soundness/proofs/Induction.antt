@@ -21,12 +21,12 @@ use Rattle.heap.specs.Orders.{Run, Fresh, Every}
 use Rattle.heap.specs.Reachability.{ReachableCount}
 use Rattle.heap.proofs.RunLemmas.{met-within, abstract-frontier-is-peak}
 use Rattle.heap.specs.Values.{nil, countOf}
-use Rattle.heap.specs.Words.{byAddress, wordAt, headers, addressOf, numberOf}
+use Rattle.heap.specs.Words.{byAddress, wordAt, headers, addressOf, blockNumber}
 use Rattle.layout.specs.declared.config.Shape.{Shape}
 use Rattle.layout.specs.Config.{Supported, frameOf, editionOf, shapeOf, stackDepth, blockWords}
 use Rattle.layout.proofs.Placing.{no-frame, no-edition, shaped-supported}
 use Rattle.machine_step.specs.Step.{Config}
-use Rattle.machine.specs.declared.run.Answer.the-variants.{Fault}
+use Rattle.machine.specs.declared.run.RunAnswer.the-variants.{Fault}
 use Rattle.trees_proof.specs.Evaluation.{done, evaluate}
 use Rattle.layout_proof.proofs.Runs.{so}
 use Rattle.memory_proof.proofs.Attempting.{surely, unless-faulted}
@@ -35,9 +35,9 @@ use Rattle.memory_proof.proofs.Shown.{L, heapOf}
 use Rattle.memory.specs.Objects.{objectSizes}
 use Rattle.memory_proof.proofs.Variables.{variables}
 use Rattle.order_context_proof.proofs.Bindings.{good-none}
-use Rattle.order_spec.specs.declared.answer.Answer.{Answer}
-use Rattle.order_spec.specs.declared.answer.Answer.the-variants as answers
-use Rattle.order_spec.specs.Answered.{accepted, orderIs, placesIn, answerTo, counterAfter}
+use Rattle.order_spec.specs.declared.answer.OrderAnswer.{OrderAnswer}
+use Rattle.order_spec.specs.declared.answer.OrderAnswer.the-variants as answers
+use Rattle.order_spec.specs.Answered.{orderAccepted, orderIs, placesIn, answerTo, orderCounterAfter}
 use Rattle.order_spec.specs.Plain.{OwedKinds}
 use Rattle.channel_step.specs.Playing.{Channel, fresh, isAccepted, runOf}
 use Rattle.soundness.specs.Claims.{Item, reached, values, acquired, changes, PeakWithin, AllOwed, stateAfter, statesBefore, SoundChannel, SoundBefore, AllRan, Refused, AllRefused, After, HeapStaysSound, HeapStaysSoundOnAcquired, acquires, Owed}
@@ -58,17 +58,17 @@ zeros (suc n) (suc i) = zeros n i
 module _ (G : Shape) (sup : Supported G) where
   zeroed : (n b : ℕ) → headers (G .fields) (wordsOf (replicate n 0)) b ≡ 0
   unfolding headers byAddress
-  zeroed n b = by (eqb (addressOf (G .fields) (numberOf (G .fields) b)) b)
+  zeroed n b = by (eqb (addressOf (G .fields) (blockNumber (G .fields) b)) b)
     where
-      by : (q : Bool) → cond q (wordsOf (replicate n 0) (wordAt (G .fields) (numberOf (G .fields) b) 0)) 0 ≡ 0
-      by true = zeros n (wordAt (G .fields) (numberOf (G .fields) b) 0)
+      by : (q : Bool) → cond q (wordsOf (replicate n 0) (wordAt (G .fields) (blockNumber (G .fields) b) 0)) 0 ≡ 0
+      by true = zeros n (wordAt (G .fields) (blockNumber (G .fields) b) 0)
       by false = refl
 
   -- a refused order
   refused : (ch : Channel) (it : Item) → isAccepted G ch (it .asked) ≡ false → Refused G ch it
   refused ch it e = record { channel-kept = rw e; records-kept = λ o. rw e; context-kept = λ o. rw e; counter-kept = by (answerTo G (ch .context) (it .asked)) e }
     where
-      by : (r : Answer) → accepted r ≡ false → counterAfter (it .asked .counter) r ≡ it .asked .counter
+      by : (r : OrderAnswer) → orderAccepted r ≡ false → orderCounterAfter (it .asked .counter) r ≡ it .asked .counter
       by (answers.Accepted records after bindings) e = let z : _≡_ {A = ℕ} 0 1 = cc in absurd (omega arith)
       by (answers.Context flaw) e = refl
       by (answers.Malformed place) e = refl

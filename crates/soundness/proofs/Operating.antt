@@ -33,13 +33,13 @@ use Rattle.heap.proofs.CountingLemmas.{occ-replicate, occ-replicate-other, occ-
 use Rattle.heap.proofs.GrowthLemmas.{reachable-below}
 use Rattle.heap.proofs.Invariant.{Consistent, Represents}
 use Rattle.heap.specs.Operations.{Share, withHeaders, withLazy}
-use Rattle.heap.specs.Orders.{State, store, load}
+use Rattle.heap.specs.Orders.{HeapState, store, load}
 use Rattle.heap.proofs.OrderLemmas.{represents-copy}
 use Rattle.heap.proofs.SoundLemmas.{sound, sound-refs}
 use Rattle.heap.proofs.ValueLemmas.{hold-joined, hold-first, hold-rest, held-plainly}
-use Rattle.heap.specs.Values.{Value, integer, object, Values, nil, cons, countOf, joined, firstOf, restOf, valueAt, copies}
+use Rattle.heap.specs.Values.{Value, integer, object, Values, nil, cons, countOf, appended, firstOf, restOf, valueAt, copies}
 use Rattle.heap.specs.Apart.{HoldAllApart}
-use Rattle.heap.specs.Words.{addressOf, numberOf, byAddress, headers}
+use Rattle.heap.specs.Words.{addressOf, blockNumber, byAddress, headers}
 use Rattle.layout_proof.specs.Held.{held, Keeps, Placed}
 use Rattle.layout_proof.proofs.HeldLemmas.{keeps-refl, placed-keeps, location-free, location-grows}
 use Rattle.layout_proof.proofs.Runs.{Does, so}
@@ -82,20 +82,20 @@ rest-of-rest (suc n) (cons v vs) = rest-of-rest n vs
 module _ (G : Shape) (sup : Supported G) where
   -- what represents values is sound for their variables
   sound-for : {M : Memory} {frontier : ℕ} {variables : List Cell} {vs : Values} (blocks : ℕ) → frontier < blocks → Represents (objectSizes G) (L G) M frontier variables vs → SoundFor G blocks M variables vs
-  sound-for {frontier} blocks h r = record {
+  sound-for {M} {frontier} {variables} {vs} blocks h r = record {
     frontier = frontier;
     frontier-there = h;
     sound = sound (r .consistent);
-    holds = held-plainly (r .holds);
+    holds = held-plainly (objectSizes G) (M .fields) (r .linked) vs variables (r .holds);
     links = record { linked = r .linked; one-pointer = λ b nz l. omega (arith, r .consistent .one-pointer b nz l, sound-refs (r .consistent) b); holds = r .holds };
   }
 
   -- no block begins at 0
   headers-null : (m : ℕ → ℕ) → headers (G .fields) m 0 ≡ 0
   unfolding headers byAddress
-  headers-null m = rw (ne-eqb (addressOf (G .fields) (numberOf (G .fields) 0)) 0 (λ e. omega arith))
+  headers-null m = rw (ne-eqb (addressOf (G .fields) (blockNumber (G .fields) 0)) 0 (λ e. omega arith))
 
-  module _ (words : ℕ → ℕ) {blocks bound : ℕ} {past : List State} {ch : Channel} {vs : Values} (f : Carried G blocks bound past ch vs) (fits : bound ≤ blocks) (two : 2 ≤ blocks) (counter : ℕ) where
+  module _ (words : ℕ → ℕ) {blocks bound : ℕ} {past : List HeapState} {ch : Channel} {vs : Values} (f : Carried G blocks bound past ch vs) (fits : bound ≤ blocks) (two : 2 ≤ blocks) (counter : ℕ) where
     abbrev K : ℕ
     K = countOf vs
 
@@ -146,7 +146,7 @@ module _ (G : Shape) (sup : Supported G) where
             elsewhere = λ b o. other b o s (ℕ-discrete b 0);
             fields-kept = same;
             others = stays C d (f .placed) k (λ l o. o);
-            sound = subst (λ (w : Value). SoundFor G blocks (heapOf G d) (variables E C 0 K ++ replicate n (variable E C a)) (joined vs (copies n w))) (ap (λ (x : ℕ). valueAt x vs) (variables-length E C 0 a))
+            sound = subst (λ (w : Value). SoundFor G blocks (heapOf G d) (variables E C 0 K ++ replicate n (variable E C a)) (appended vs (copies n w))) (ap (λ (x : ℕ). valueAt x vs) (variables-length E C 0 a))
                 (rw (h, among E C a K ak) (sound-for blocks (omega (arith, f .low)) (represents-copy X Y (variable E C a) n (headers (G .fields) (d .state .mem)) sh split-there)));
           }
         where
@@ -168,9 +168,9 @@ module _ (G : Shape) (sup : Supported G) where
           let front : HoldAllApart (objectSizes G) (heapOf G C .fields) (rep .linked) (firstOf (length X) vs) X = hold-first (objectSizes G) (heapOf G C .fields) (rep .linked) X (variable E C a ∷ Y) vs (rep .holds) in
           let back : HoldAllApart (objectSizes G) (heapOf G C .fields) (rep .linked) (restOf 1 (restOf (length X) vs)) Y
           = hold-rest (objectSizes G) (heapOf G C .fields) (rep .linked) (variable E C a ∷ []) Y (restOf (length X) vs) (hold-rest (objectSizes G) (heapOf G C .fields) (rep .linked) X (variable E C a ∷ Y) vs (rep .holds)) in
-          let all : HoldAllApart (objectSizes G) (heapOf G C .fields) (rep .linked) (joined (firstOf (length X) vs) (restOf 1 (restOf (length X) vs))) (X ++ Y)
+          let all : HoldAllApart (objectSizes G) (heapOf G C .fields) (rep .linked) (appended (firstOf (length X) vs) (restOf 1 (restOf (length X) vs))) (X ++ Y)
           = hold-joined (objectSizes G) (heapOf G C .fields) (rep .linked) (firstOf (length X) vs) (restOf 1 (restOf (length X) vs)) X Y front back in
-          let others : Represents (objectSizes G) (L G) (withLazy (heapOf G C) (headers (G .fields) (d .state .mem)) (d .state .reg 3)) (f .frontier) (X ++ Y) (joined (firstOf a vs) (restOf (suc a) vs))
+          let others : Represents (objectSizes G) (L G) (withLazy (heapOf G C) (headers (G .fields) (d .state .mem)) (d .state .reg 3)) (f .frontier) (X ++ Y) (appended (firstOf a vs) (restOf (suc a) vs))
           = record { linked = rep .linked; consistent = drop-consistent (headers (G .fields) (d .state .mem)) (d .state .reg 3) (x .0) c; holds = rw (variables-length E C 0 a, rest-of-rest a vs) at all } in
           record {
             erased = rw fst-held at (x .0);

@@ -12,7 +12,7 @@ use Rattle.records.specs.Orders.{orderRead}
 use Rattle.layout.specs.declared.config.Shape.{Shape}
 use Rattle.layout.specs.Config.{Supported, positions}
 use Rattle.print_i64.specs.Print.{printName}
-use Rattle.heap.specs.Orders.{State}
+use Rattle.heap.specs.Orders.{HeapState}
 use Rattle.heap.specs.Values.{Values, countOf, valueAt}
 use Rattle.memory_proof.proofs.Shown.{heapOf}
 use Rattle.order_spec.specs.Answered.{orderIs, placesIn}
@@ -28,7 +28,7 @@ use Rattle.soundness.proofs.Changing.{integer-there}
 use Rattle.soundness.specs.Prints.{callTexts, putFor, calledFor, putIn, calledIn, PrintedIsCalled}
 
 -- an accepted order on a sound channel
-module _ {g : Shape} (sup : Supported g) {blocks : ℕ} {past : List State} {ch : Channel} {vs : Values} (it : Item) (s : SoundAt g blocks past ch vs) (t : Taken g (ch .context) (it .asked) (countOf vs)) where
+module _ {g : Shape} (sup : Supported g) {blocks : ℕ} {past : List HeapState} {ch : Channel} {vs : Values} (it : Item) (s : SoundAt g blocks past ch vs) (t : Taken g (ch .context) (it .asked) (countOf vs)) where
   abbrev put : Order → List ℕ
   put o = printsOf g (ch .view .reg) (ch .view .stk) o
 

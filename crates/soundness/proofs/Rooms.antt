@@ -8,7 +8,7 @@ use native.Mathlib.Omega.{arith}
 use Rattle.layout.specs.declared.config.Shape.{Shape}
 use Rattle.heap.specs.Blocks.{Cell, Memory}
 use Rattle.heap.specs.Values.{Values}
-use Rattle.heap.specs.Orders.{Order, plain, Legal, Performs}
+use Rattle.heap.specs.Orders.{HeapOrder, plain, Legal, Performs}
 use Rattle.heap.proofs.Invariant.{Represents}
 use Rattle.heap.proofs.GrowthLemmas.{Bounded}
 use Rattle.heap.proofs.OrderLemmas.{storedBy, represents-same, represents-order}
@@ -18,7 +18,7 @@ use Rattle.memory.specs.Objects.{objectSizes}
 use Rattle.memory_proof.proofs.StoringObject.{frontier-within}
 
 module _ (G : Shape) where
-  pub represents-within : {M M′ : Memory} {m N : ℕ} {values : Values} {o : Order} {variables variables′ : List Cell} → m ≤ N → Performs (objectSizes G) (L G) M o variables M′ variables′ → Legal o values
+  pub represents-within : {M M′ : Memory} {m N : ℕ} {values : Values} {o : HeapOrder} {variables variables′ : List Cell} → m ≤ N → Performs (objectSizes G) (L G) M o variables M′ variables′ → Legal o values
       → Represents (objectSizes G) (L G) M m variables values → (storedBy o ≢ 0 → Within G N (M′ .lazy-head)) → Bounded (objectSizes G) (L G) (suc N) M′ variables′ (plain o values)
   represents-within {M} {M′} {m} {N} {values} {o} {variables} {variables′} le p l s free = by (ℕ-discrete (storedBy o) 0)
     where

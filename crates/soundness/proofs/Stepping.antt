@@ -18,13 +18,13 @@ use Rattle.layout.specs.Config.{positions, mostVariables, blockWords}
 use Rattle.layout.specs.Positions.{location}
 use Rattle.print_i64.specs.Print.{printName}
 use Rattle.machine_step.specs.Step.{Config}
-use Rattle.machine.specs.declared.run.Answer.the-variants.{Ended, Fault}
+use Rattle.machine.specs.declared.run.RunAnswer.the-variants.{Ended, Fault}
 use Rattle.trees_proof.specs.Evaluation.{Evaluated, done, faulted, evaluate}
-use Rattle.trees_proof.specs.Claims.{Answers, TreeRunsWhole}
+use Rattle.trees_proof.specs.Claims.{RunAnswers, TreeRunsWhole}
 use Rattle.trees_proof.proofs.Trees.{tree-runs-whole}
 use Rattle.machine.specs.Run.{Done, ran, started, starting}
 use Rattle.heap.specs.Claims.{Reaches}
-use Rattle.heap.specs.Orders.{State}
+use Rattle.heap.specs.Orders.{HeapState}
 use Rattle.heap.specs.Values.{Values, countOf}
 use Rattle.layout_proof.specs.Held.{held, Placed}
 use Rattle.layout_proof.proofs.Runs.{Does}
@@ -55,12 +55,12 @@ no-calls (Load n) vs e = refl
 no-calls (Print newline a) vs e = let z : _≡_ {A = ℕ} 0 1 = cc in absurd (omega arith)
 
 -- the states before, after an order
-abbrev pub pastOf : Order → State → List State → List State
+abbrev pub pastOf : Order → HeapState → List HeapState → List HeapState
 pastOf o s past = cond (changes o) (s ∷ past) past
 
 module _ (G : Shape) where
   -- where the context has k variables: an order's run, and what holds after it
-  module _ (blocks bound bound′ : ℕ) (past : List State) (ch : Channel) (vs : Values) (it : Item) where
+  module _ (blocks bound bound′ : ℕ) (past : List HeapState) (ch : Channel) (vs : Values) (it : Item) where
     abbrev pub O : Order
     O = orderIs (it .asked)
 
@@ -108,7 +108,7 @@ module _ (G : Shape) where
               (order-size G (f .placed .shape) (ch .context) (countOf vs) (it .asked .bindings) O (w .there) (w .placed)) (heap-ok G blocks (ch .view) (f .placed) two)
               ∙ ap (λ (m : ℕ). started (it .words) (flat (treeAt (countOf vs)) (it .asked .counter)) m (ch .view)) (sym (add-zero (size (treeAt (countOf vs)))))
 
-          by : (o : Evaluated) → Answers (size (treeAt (countOf vs))) (started (it .words) (flat (treeAt (countOf vs)) (it .asked .counter)) (size (treeAt (countOf vs)) + 0) (ch .view)) o → (d : Config) × (o ≡ done d)
+          by : (o : Evaluated) → RunAnswers (size (treeAt (countOf vs))) (started (it .words) (flat (treeAt (countOf vs)) (it .asked .counter)) (size (treeAt (countOf vs)) + 0) (ch .view)) o → (d : Config) × (o ≡ done d)
           by (done d) a = (d, refl)
           by (faulted d) a = absurd (n (a .0) (a .1) (ap (λ (d : Done). d .answer) (whole 0 ∙ a .5)))
 

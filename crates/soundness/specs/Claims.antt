@@ -16,15 +16,15 @@ use Rattle.layout.specs.declared.config.Shape.{Shape}
 use Rattle.layout.specs.Config.{Supported, stackDepth, blockWords, STACK, HEAP, FREE}
 use Rattle.print_i64.specs.Print.{printName}
 use Rattle.machine_step.specs.Step.{Call}
-use Rattle.machine.specs.declared.run.Answer.the-variants.{Ended}
+use Rattle.machine.specs.declared.run.RunAnswer.the-variants.{Ended}
 use Rattle.machine.specs.Run.{Done}
 use Rattle.heap.specs.Values.{Values, nil, countOf, valueAt, KindsFrom}
 use Rattle.heap.specs.Words.{memoryOf, layout}
-use Rattle.heap.specs.Orders.{State}
+use Rattle.heap.specs.Orders.{HeapState}
 use Rattle.heap.specs.Claims.{HeapAfter, Reaches}
 use Rattle.memory.specs.Objects.{objectSizes}
 use Rattle.layout.specs.Frame.{variablesIn}
-use Rattle.order_spec.specs.Answered.{Asked, orderIs, placesIn, answerTo, recordsOutput, contextOutput, counterAfter}
+use Rattle.order_spec.specs.Answered.{Asked, orderIs, placesIn, answerTo, recordsOutput, contextOutput, orderCounterAfter}
 use Rattle.order_spec.specs.Plain.{integerOf, plainly, OwedKinds, OwedResult}
 use Rattle.channel_step.specs.Playing.{Channel, fresh, isAccepted, recordCount, runOf, next}
 
@@ -78,7 +78,7 @@ module _ (g : Shape) where
     pub calls : runOf g ch (it .asked) (it .words) .last .calls ≡ callsOf (orderIs (it .asked)) vs
 
   -- the heap that a channel's words show, HEAP and FREE, and its variables as pairs of words, beside values
-  abbrev pub stateOf : Channel → Values → State
+  abbrev pub stateOf : Channel → Values → HeapState
   stateOf ch vs =
       record {
         memory = memoryOf (g .fields) (ch .view .mem) (ch .view .reg HEAP) (ch .view .reg FREE);
@@ -87,7 +87,7 @@ module _ (g : Shape) where
       }
 
   -- what holds of a channel beside the plain machine's values, on a heap of so many blocks, with the states before
-  pub record SoundAt (blocks : ℕ) (past : List State) (ch : Channel) (vs : Values) : Type 0 where
+  pub record SoundAt (blocks : ℕ) (past : List HeapState) (ch : Channel) (vs : Values) : Type 0 where
     -- the context has the values' kinds, in sequence
     pub places : checkedContext (ch .context) ≡ Good (countOf vs)
     pub kinds : KindsFrom (extAt (ch .context)) 0 vs
@@ -108,7 +108,7 @@ module _ (g : Shape) where
     pub channel-kept : next g ch (it .asked) (it .words) ≡ ch
     pub records-kept : (o : List ℕ) → recordsOutput g (ch .context) (it .asked) o ≡ o
     pub context-kept : (o : List ℕ) → contextOutput g (ch .context) (it .asked) o ≡ o
-    pub counter-kept : counterAfter (it .asked .counter) (answerTo g (ch .context) (it .asked)) ≡ it .asked .counter
+    pub counter-kept : orderCounterAfter (it .asked .counter) (answerTo g (ch .context) (it .asked)) ≡ it .asked .counter
 
   -- lists of items have the newest first
   module _ (blocks : ℕ) where
@@ -122,7 +122,7 @@ module _ (g : Shape) where
     values [] = nil
     values (it ∷ its) = cond (isAccepted g (reached its) (it .asked)) (plainly (orderIs (it .asked)) (values its)) (values its)
 
-    abbrev pub stateAfter : List Item → State
+    abbrev pub stateAfter : List Item → HeapState
     stateAfter its = stateOf (reached its) (values its)
 
     -- what the user owes each accepted order
@@ -143,7 +143,7 @@ module _ (g : Shape) where
     acquired (it ∷ its) = cond (isAccepted g (reached its) (it .asked)) (acquires (orderIs (it .asked))) 0 + acquired its
 
     -- the states before, newest first; refused orders and prints leave the state as it was, so it stands once
-    abbrev pub statesBefore : List Item → List State
+    abbrev pub statesBefore : List Item → List HeapState
     statesBefore [] = []
     statesBefore (it ∷ its) = cond (isAccepted g (reached its) (it .asked) && changes (orderIs (it .asked))) (stateAfter its ∷ statesBefore its) (statesBefore its)
 

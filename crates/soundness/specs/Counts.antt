@@ -8,14 +8,14 @@ use Rattle.layout.specs.Config.{Supported, blockWords, HEAP, FREE}
 use Rattle.machine_step.specs.View.{View}
 use Rattle.heap_chains.specs.declared.Blocks.{Blocks}
 use Rattle.heap_chains.specs.declared.Fit.{Fit}
-use Rattle.heap_chains.specs.Blocks.{counted, fitFor, fitIn}
+use Rattle.heap_chains.specs.Blocks.{blocksCounted, fitFor, fitIn}
 use Rattle.soundness.specs.Claims.{Item, reached, SoundChannel}
 use Rattle.soundness.specs.Peak.{PeakOf, Unfaulted}
 
 module _ (g : Shape) where
   -- what is counted on registers and heap
   abbrev pub countedIn : View → Blocks
-  countedIn v = counted (g .fields) (v .size / blockWords g) (v .mem) (v .reg HEAP) (v .reg FREE)
+  countedIn v = blocksCounted (g .fields) (v .size / blockWords g) (v .mem) (v .reg HEAP) (v .reg FREE)
 
   -- what is told to fit by registers and heap
   abbrev pub fitOn : View → Fit

@@ -8,11 +8,10 @@ use lib.Dec.{ltb}
 use borrow.Author.Tests.{ltb-true}
 use mathlib.Core.Logic.{_≢_}
 use Rattle.records.specs.declared.binding.Kind.the-variants.{Ext}
-use Rattle.records.specs.declared.order.Order.{Order}
 use Rattle.records.specs.declared.order.Order.the-variants.{Put, Copy, Drop, Store, Load, Print}
 use Rattle.records.specs.Bytes.{le}
 use Rattle.records.specs.Contexts.{bindingBytes}
-use Rattle.records.specs.Orders.{orderFieldsOf, orderBytes}
+use Rattle.records.specs.Orders.{orderBytes, recordOf}
 use Rattle.records.specs.ReadBack.{Bytes}
 use Rattle.heap.specs.Values.{integer, object, Values, nil, cons}
 use Rattle.order_spec.specs.Answered.{Asked}
@@ -37,9 +36,6 @@ bytes (b ∷ s) e = both (ltb b 256) (below s) (ltb-true b 256) (bytes s) e
     both false true first rest e = (first e, rest refl)
     both false false first rest e = (first e, rest e)
 
-abbrev pub bytesOf : Order → List ℕ
-bytesOf o = orderBytes (orderFieldsOf o)
-
 abbrev pub ask : List ℕ → List ℕ → Asked
 ask order bindings = record { order = order; bindings = bindings; counter = 0; recordsRoom = 24 * 65536; contextRoom = 8 * 4096 }
 
@@ -48,39 +44,39 @@ item order bindings p q = record { asked = ask order bindings; order-bytes = byt
 
 unfoldable pub putSeven : Item
 unfolding below orderBytes bindingBytes le
-putSeven = item (bytesOf (Put 7)) ([]) refl refl
+putSeven = item (recordOf (Put 7)) ([]) refl refl
 
 unfoldable pub storeOne : Item
 unfolding below orderBytes bindingBytes le
-storeOne = item (bytesOf (Store 1 5)) ([]) refl refl
+storeOne = item (recordOf (Store 1 5)) ([]) refl refl
 
 unfoldable pub copyIt : Item
 unfolding below orderBytes bindingBytes le
-copyIt = item (bytesOf (Copy 0 1)) ([]) refl refl
+copyIt = item (recordOf (Copy 0 1)) ([]) refl refl
 
 unfoldable pub loadShared : Item
 unfolding below orderBytes bindingBytes le
-loadShared = item (bytesOf (Load 1)) (made Ext 0) refl refl
+loadShared = item (recordOf (Load 1)) (made Ext 0) refl refl
 
 unfoldable pub dropIt : Item
 unfolding below orderBytes bindingBytes le
-dropIt = item (bytesOf (Drop)) ([]) refl refl
+dropIt = item (recordOf (Drop)) ([]) refl refl
 
 unfoldable pub loadReleased : Item
 unfolding below orderBytes bindingBytes le
-loadReleased = item (bytesOf (Load 1)) (made Ext 0) refl refl
+loadReleased = item (recordOf (Load 1)) (made Ext 0) refl refl
 
 unfoldable pub printIt : Item
 unfolding below orderBytes bindingBytes le
-printIt = item (bytesOf (Print true 0)) ([]) refl refl
+printIt = item (recordOf (Print true 0)) ([]) refl refl
 
 unfoldable pub putMore : Item
 unfolding below orderBytes bindingBytes le
-putMore = item (bytesOf (Put 120)) ([]) refl refl
+putMore = item (recordOf (Put 120)) ([]) refl refl
 
 unfoldable pub storeTwo : Item
 unfolding below orderBytes bindingBytes le
-storeTwo = item (bytesOf (Store 2 9)) ([]) refl refl
+storeTwo = item (recordOf (Store 2 9)) ([]) refl refl
 
 -- refused: it has no bytes
 unfoldable pub nothing : Item

@@ -10,7 +10,7 @@ use Rattle.memory.specs.Answered.{storeTree}
 use Rattle.memory.specs.Blocks.{eraseBlock, shareBlock}
 use Rattle.memory.specs.LoadAnswered.{loadTree}
 use Rattle.machine_step.specs.View.{View}
-use Rattle.heap.specs.Orders.{State}
+use Rattle.heap.specs.Orders.{HeapState}
 use Rattle.heap.specs.Values.{Values, integer, object, nil, cons}
 use Rattle.order_spec.specs.Writes.{made}
 use Rattle.channel_step.specs.Playing.{Channel}
@@ -27,13 +27,13 @@ abbrev pub channel : Channel
 channel = reached base 4 oneStored
 
 -- what the run of an operation's bytes leaves on it, from counter 0
-abbrev pub Leaves : (ℕ → ℕ) → Tree → ((past : List State) (vs : Values) → View → Type 0) → Type 0
-Leaves words t Left = RunLeaves base words channel t 0 (Left (statesBefore base 4 oneStored) (values base 4 oneStored))
+abbrev pub WorkedLeaves : (ℕ → ℕ) → Tree → ((past : List HeapState) (vs : Values) → View → Type 0) → Type 0
+WorkedLeaves words t Left = RunLeaves base words channel t 0 (Left (statesBefore base 4 oneStored) (values base 4 oneStored))
 
 pub record WorkedOperations : Type 0 where
   pub plain-values : values base 4 oneStored ≡ cons (object 5 (cons (integer 7) nil)) nil
-  pub stored : (words : ℕ → ℕ) → Leaves words (storeTree base (channel .context) 1) (λ past vs. Stored base 4 past channel vs 1)
-  pub loaded : (words : ℕ → ℕ) → Leaves words (loadTree base (made Ext 0) []) (λ past vs. Loaded base 4 past channel vs (made Ext 0))
+  pub stored : (words : ℕ → ℕ) → WorkedLeaves words (storeTree base (channel .context) 1) (λ past vs. Stored base 4 past channel vs 1)
+  pub loaded : (words : ℕ → ℕ) → WorkedLeaves words (loadTree base (made Ext 0) []) (λ past vs. Loaded base 4 past channel vs (made Ext 0))
   -- by the most that share_block_n takes
-  pub shared : (words : ℕ → ℕ) → Leaves words (shareBlock base (location 0) mostCount) (λ past vs. Shared base 4 past channel vs 0 mostCount)
-  pub erased : (words : ℕ → ℕ) → Leaves words (eraseBlock base (location 0)) (λ past vs. Erased base 4 past channel vs 0)
+  pub shared : (words : ℕ → ℕ) → WorkedLeaves words (shareBlock base (location 0) mostCount) (λ past vs. Shared base 4 past channel vs 0 mostCount)
+  pub erased : (words : ℕ → ℕ) → WorkedLeaves words (eraseBlock base (location 0)) (λ past vs. Erased base 4 past channel vs 0)

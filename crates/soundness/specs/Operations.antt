@@ -20,13 +20,13 @@ use Rattle.memory.specs.Answered.{eraseAnswer, shareAnswer, storeTree, storeAns
 use Rattle.memory.specs.Blocks.{eraseBlock, shareBlock}
 use Rattle.memory.specs.LoadAnswered.{loadTree, loadAnswer}
 use Rattle.machine_step.specs.View.{View}
-use Rattle.machine.specs.declared.run.Answer.the-variants.{Ended}
+use Rattle.machine.specs.declared.run.RunAnswer.the-variants.{Ended}
 use Rattle.machine.specs.Run.{Done, ran}
 use Rattle.heap.specs.Blocks.{Cell, pointers, children, Memory}
 use Rattle.heap.specs.Claims.{Sound, Reaches}
 use Rattle.heap.specs.Counting.{occ, refs}
 use Rattle.heap.specs.Operations.{Elsewhere, Erase}
-use Rattle.heap.specs.Orders.{State}
+use Rattle.heap.specs.Orders.{HeapState}
 use Rattle.heap.specs.Values as values
 use Rattle.heap.specs.Values.{Values, countOf, firstOf, restOf, valueAt, copies, HoldAll}
 use Rattle.heap.specs.Apart.{LinksApart}
@@ -86,7 +86,7 @@ module _ (g : Shape) where
     pub links : LinksApart (objectSizes g) M variables vs (sound .lazy) (sound .held)
 
   -- what each leaves, from a channel with the plain machine's values beside it; the states before are `past`
-  module _ (blocks : ℕ) (past : List State) (ch : Channel) (vs : Values) where
+  module _ (blocks : ℕ) (past : List HeapState) (ch : Channel) (vs : Values) where
     -- variables v to v + n - 1 as pairs of words
     abbrev pub cells : ℕ → ℕ → List Cell
     cells v n = variablesIn (extAt (ch .context)) (ch .view .reg) (ch .view .stk) v n
@@ -111,7 +111,7 @@ module _ (g : Shape) where
       pub fields-kept : FieldsStay (ch .view) v
       pub others : Stay g (λ l. l ≢ TEMP) (ch .view) v
       -- the heap is sound for n copies of that variable beside all variables
-      pub sound : SoundFor blocks (heapIn v) (cells 0 (countOf vs) ++ replicate n (variableIn (extAt (ch .context)) (ch .view .reg) (ch .view .stk) a)) (values.joined vs (copies n (valueAt a vs)))
+      pub sound : SoundFor blocks (heapIn v) (cells 0 (countOf vs) ++ replicate n (variableIn (extAt (ch .context)) (ch .view .reg) (ch .view .stk) a)) (values.appended vs (copies n (valueAt a vs)))
 
     -- variable a's pointer erased, as in a drop of it: its block's count is one less, or the block goes onto FREE's list; nothing else is other, but TEMP
     pub record Erased (a : ℕ) (v : View) : Type 0 where
@@ -119,7 +119,7 @@ module _ (g : Shape) where
       pub fields-kept : FieldsStay (ch .view) v
       pub others : Stay g (λ l. (l ≢ TEMP) × (l ≢ FREE)) (ch .view) v
       -- the heap is sound for the other variables
-      pub sound : SoundFor blocks (heapIn v) (cells 0 a ++ cells (suc a) (countOf vs - suc a)) (values.joined (firstOf a vs) (restOf (suc a) vs))
+      pub sound : SoundFor blocks (heapIn v) (cells 0 a ++ cells (suc a) (countOf vs - suc a)) (values.appended (firstOf a vs) (restOf (suc a) vs))
 
   -- On a channel that a list has reached: each operation that its function accepts, at any counter and any room of its output. `Roomy n` says that the heap has room for
   -- a store of n variables.
@@ -130,21 +130,21 @@ module _ (g : Shape) where
     abbrev Vs : Values
     Vs = values g blocks its
 
-    abbrev Leaves : Tree → ((blocks : ℕ) (past : List State) (ch : Channel) (vs : Values) → View → Type 0) → Type 0
-    Leaves t Left = RunLeaves words Ch t counter (Left blocks (statesBefore g blocks its) Ch Vs)
+    abbrev LeavesOn : Tree → ((blocks : ℕ) (past : List HeapState) (ch : Channel) (vs : Values) → View → Type 0) → Type 0
+    LeavesOn t Left = RunLeaves words Ch t counter (Left blocks (statesBefore g blocks its) Ch Vs)
 
     pub record MemoryDoes : Type 0 where
       -- the last n variables
-      pub stores : (n : ℕ) → Roomy n → accepted (storeAnswer g counter room (Ch .context) n) ≡ true → Leaves (storeTree g (Ch .context) n) (λ b p c vs. Stored b p c vs n)
+      pub stores : (n : ℕ) → Roomy n → accepted (storeAnswer g counter room (Ch .context) n) ≡ true → LeavesOn (storeTree g (Ch .context) n) (λ b p c vs. Stored b p c vs n)
       -- the last variable, with the kinds that its object was stored with
       pub loads : (loaded : List ℕ) → AsStored loaded (placesIn loaded) (valueAt (countOf Vs - 1) Vs) → accepted (loadAnswer g counter room loaded (take (8 * (countOf Vs - 1)) (Ch .context))) ≡ true
-          → Leaves (loadTree g loaded (take (8 * (countOf Vs - 1)) (Ch .context))) (λ b p c vs. Loaded b p c vs loaded)
+          → LeavesOn (loadTree g loaded (take (8 * (countOf Vs - 1)) (Ch .context))) (λ b p c vs. Loaded b p c vs loaded)
       -- any linked variable, by any n that is accepted
       pub shares : (a n : ℕ) → a < countOf Vs → extAt (Ch .context) a ≡ false → accepted (shareAnswer g counter room (location (2 * a)) n) ≡ true
-          → Leaves (shareBlock g (location (2 * a)) n) (λ b p c vs. Shared b p c vs a n)
+          → LeavesOn (shareBlock g (location (2 * a)) n) (λ b p c vs. Shared b p c vs a n)
       -- any linked variable
       pub erases : (a : ℕ) → a < countOf Vs → extAt (Ch .context) a ≡ false → accepted (eraseAnswer g counter room (location (2 * a))) ≡ true
-          → Leaves (eraseBlock g (location (2 * a))) (λ b p c vs. Erased b p c vs a)
+          → LeavesOn (eraseBlock g (location (2 * a))) (λ b p c vs. Erased b p c vs a)
 
 -- demand 3's premises, a store's own blocks counted in: a store of some counts the blocks that the variables lead to and those that it acquires
 unfoldable pub OperationsDoWhatTheyName : Type 0

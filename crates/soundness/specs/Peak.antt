@@ -7,7 +7,7 @@ use mathlib.Core.Bool.{true}
 use mathlib.Core.List.{List, [], _∷_}
 use Rattle.layout.specs.declared.config.Shape.{Shape}
 use Rattle.layout.specs.Config.{Supported, base}
-use Rattle.machine.specs.declared.run.Answer.the-variants.{Fault}
+use Rattle.machine.specs.declared.run.RunAnswer.the-variants.{Fault}
 use Rattle.heap.specs.Words.{layout}
 use Rattle.heap.specs.Claims.{HeapAfter, ReachesAtMost, Peak}
 use Rattle.memory.specs.Objects.{objectSizes}

@@ -5,17 +5,17 @@ use lib.ListN.{length}
 use Rattle.records.specs.declared.order.Order.the-variants.{Store}
 use Rattle.records.specs.Bytes.{le}
 use Rattle.records.specs.Contexts.{bindingBytes}
-use Rattle.records.specs.Orders.{orderBytes}
+use Rattle.records.specs.Orders.{orderBytes, recordOf}
 use Rattle.layout.specs.Config.{base, second}
 use Rattle.heap.specs.Values.{object, nil, cons}
 use Rattle.memory.specs.Objects.{objectSizes}
 use Rattle.soundness.specs.Claims.{Item, values, After}
-use Rattle.soundness.specs.Example.{below, bytesOf, item}
+use Rattle.soundness.specs.Example.{below, item}
 use Rattle.soundness.specs.Puts.{puts, sevens}
 
 unfoldable pub storeForty : Item
 unfolding below orderBytes bindingBytes le
-storeForty = item (bytesOf (Store 40 9)) ([]) refl refl
+storeForty = item (recordOf (Store 40 9)) ([]) refl refl
 
 pub record FortyAreSoundInBoth : Type 0 where
   -- the blocks that the store acquires

@@ -57,13 +57,13 @@ fn condition(kind: u8) -> Condition {
     }
 }
 
-fn arithmetic(kind: u8) -> order::Operation {
+fn arithmetic(kind: u8) -> order::Calculation {
     match kind {
-        0 => order::Operation::Add,
-        1 => order::Operation::Sub,
-        2 => order::Operation::Mul,
-        3 => order::Operation::Div,
-        _ => order::Operation::Rem,
+        0 => order::Calculation::Add,
+        1 => order::Calculation::Sub,
+        2 => order::Calculation::Mul,
+        3 => order::Calculation::Div,
+        _ => order::Calculation::Rem,
     }
 }
 

@@ -2,12 +2,12 @@
 // demand 3 says of the words: on a large heap, which gives the list's peak; on two blocks more than the peak, where all is sound; on one more, where the frontier
 // is no block of the heap; and on no more, where a run meets a fault.
 ghost use Prim.Native.Nat.{_≤_};
-use libc::STDIN_FILENO;
-use libc::STDOUT_FILENO;
-use order_spec::answer::Answer;
 use channel_step::channel::Channel;
 use channel_step::channel::Played;
 use channel_step::channel::RECORDS;
+use libc::STDIN_FILENO;
+use libc::STDOUT_FILENO;
+use order_spec::answer::OrderAnswer;
 use records::bytes;
 
 // How many orders there were, and what came of them.
@@ -117,12 +117,12 @@ fn played(
     )
 }
 
-fn is_ended(ran: machine::run::Answer, limit: u64) -> bool {
+fn is_ended(ran: machine::run::RunAnswer, limit: u64) -> bool {
     match ran {
-        machine::run::Answer::Ended(steps) => steps <= limit,
-        machine::run::Answer::Malformed(_) => false,
-        machine::run::Answer::Fault(_, _) => false,
-        machine::run::Answer::Limit(_) => false,
+        machine::run::RunAnswer::Ended(steps) => steps <= limit,
+        machine::run::RunAnswer::Malformed(_) => false,
+        machine::run::RunAnswer::Fault(_, _) => false,
+        machine::run::RunAnswer::Limit(_) => false,
     }
 }
 
@@ -172,7 +172,7 @@ fn is_channel_sound(channel: Channel, heap: &[u64], memory: &mut [u64]) -> bool 
 // What came of an order: whether its run, of so many records, ended, and whether the words after it are as demand 3 says, beside the plain machine.
 fn outcome(order: &[u8], heap: &[u64], memory: &mut [u64], done: Played) -> Counts {
     let answer = done.answer;
-    let Answer::Accepted(count, _, _) = answer else {
+    let OrderAnswer::Accepted(count, _, _) = answer else {
         return one(0, 0, 0);
     };
     let ran = done.ran;

@@ -4,7 +4,7 @@ use mathlib.Core.Path.{_≡_, refl}
 use mathlib.Core.List.{List, [], _∷_, _++_}
 use native.Mathlib.Omega.{arith}
 use borrow.Author.Tests.{lt-ltb, le-ltb}
-use Rattle.text.specs.Text.{ascii, digit, digits, decimal, signed}
+use Rattle.text.specs.Text.{ascii, digit, digits, decimal, signedDecimal}
 use Rattle.text.specs.Putting.{Puts}
 use Rattle.text.proofs.Putting.{nothing, at-most, _⨟_}
 
@@ -33,13 +33,13 @@ module _ (k v : ℕ) {o : List ℕ} {i : ℕ} where
 
 -- an integer without and with its sign
 module _ (v : ℕ) {o o′ : List ℕ} {i j : ℕ} where
-  pub puts-positive : v < 0x8000_0000_0000_0000 → Puts 20 o i o′ j (decimal v) → Puts 21 o i o′ j (signed v)
-  unfolding signed
+  pub puts-positive : v < 0x8000_0000_0000_0000 → Puts 20 o i o′ j (decimal v) → Puts 21 o i o′ j (signedDecimal v)
+  unfolding signedDecimal
   puts-positive h p = rw (lt-ltb v 0x8000_0000_0000_0000 h) (at-most p (omega arith))
 
   pub puts-negative : {o″ : List ℕ} {n : ℕ} → 0x8000_0000_0000_0000 ≤ v → v < 0x1_0000_0000_0000_0000
-      → Puts 1 o i o′ j (ascii "-") → Puts 20 o′ j o″ n (decimal (0xFFFF_FFFF_FFFF_FFFF - v + 1)) → Puts 21 o i o″ n (signed v)
-  unfolding signed
+      → Puts 1 o i o′ j (ascii "-") → Puts 20 o′ j o″ n (decimal (0xFFFF_FFFF_FFFF_FFFF - v + 1)) → Puts 21 o i o″ n (signedDecimal v)
+  unfolding signedDecimal
   puts-negative h g p q =
       let e : 0xFFFF_FFFF_FFFF_FFFF - v + 1 ≡ 0x1_0000_0000_0000_0000 - v = omega arith in
       rw (le-ltb v 0x8000_0000_0000_0000 h) (p ⨟ rw e at q)

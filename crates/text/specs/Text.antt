@@ -29,5 +29,5 @@ abbrev pub decimal : ℕ → List ℕ
 decimal v = digits 20 v
 
 -- the integer whose 64-bit two's complement is v
-unfoldable pub signed : ℕ → List ℕ
-signed v = cond (ltb v 0x8000_0000_0000_0000) (decimal v) (ascii "-" ++ decimal (0x1_0000_0000_0000_0000 - v))
+unfoldable pub signedDecimal : ℕ → List ℕ
+signedDecimal v = cond (ltb v 0x8000_0000_0000_0000) (decimal v) (ascii "-" ++ decimal (0x1_0000_0000_0000_0000 - v))

@@ -3,7 +3,7 @@
 ghost use mathlib.Core.List.{[], _∷_};
 ghost use Prim.Native.Nat.{_+_, _≤_};
 ghost use lib.ListN.{length};
-ghost use Rattle.text.specs.Text.{digits, decimal, signed, spaced};
+ghost use Rattle.text.specs.Text.{digits, decimal, signedDecimal, spaced};
 ghost use Rattle.text.specs.Putting.{farthest, Puts};
 
 pub fn put_byte(text: &mut [u8], at: usize, b: u8) -> usize
@@ -54,7 +54,7 @@ pub fn put_decimal(text: &mut [u8], at: usize, v: u64) -> usize
 // The integer whose two's complement is v.
 pub fn put_signed(text: &mut [u8], at: usize, v: u64) -> usize
     requires { ⌜ at + 21 ≤ farthest ⌝ }
-    ensures { λ r. ⌜ Puts 21 (now (text .entry)) at (now (text .exit)) r (signed v) ⌝ }
+    ensures { λ r. ⌜ Puts 21 (now (text .entry)) at (now (text .exit)) r (signedDecimal v) ⌝ }
 {
     if v < 0x8000000000000000 {
         return put_decimal(text, at, v);
@@ -75,7 +75,7 @@ pub fn put_spaced(text: &mut [u8], at: usize, v: u64) -> usize
 // A space, then the integer whose two's complement is v.
 pub fn put_spaced_signed(text: &mut [u8], at: usize, v: u64) -> usize
     requires { ⌜ at + 22 ≤ farthest ⌝ }
-    ensures { λ r. ⌜ Puts 22 (now (text .entry)) at (now (text .exit)) r (spaced (signed v)) ⌝ }
+    ensures { λ r. ⌜ Puts 22 (now (text .entry)) at (now (text .exit)) r (spaced (signedDecimal v)) ⌝ }
 {
     let next = put_byte(text, at, b' ');
     put_signed(text, next, v)

@@ -3,57 +3,19 @@
 -- From memory.rs, skip_if_zero and if_zero_then_else, and document 01, 'Instruction record', on labels.
 use Prim.Native.Nat.{ℕ, _+_}
 use mathlib.Core.Path.{_≡_}
-use mathlib.Core.Bool.{Bool, true, false}
+use lib.Dec.{leb}
+use mathlib.Core.Bool.{Bool, true, not, _&&_, _||_}
 use mathlib.Core.List.{List, [], _∷_, _++_}
 use Rattle.records.specs.declared.code.Code.{Code}
-use Rattle.records.specs.declared.code.Code.the-variants.{ADD, ADDRM, ADDMR, ADDI, ADDIM, SUB, SUBRM, SUBMR, SUBI, IMUL, IMULRM, IMULMR, IDIV, IDIVM, CQO, JMP, JMPL, JMPLN, LEAL, MOV, MOVS, MOVL, MOVI, MOVIM, CMP, CMPRM, CMPMR, CMPI, CMPIM, JEL, JNEL, JLL, JLEL, JGL, JGEL, PUSH, POP, CALL, RET, LAB, NOEXECSTACK, TEXT, GLOBAL, EXTERN}
+use Rattle.records.specs.declared.code.Code.the-variants.{JMPL, JEL, LAB}
+use Rattle.records.specs.Codes.{fieldsOf}
 
--- whether a record goes on to the next one: no jump, no label, no return
+abbrev among : ℕ → ℕ → ℕ → Bool
+among first last n = leb first n && leb n last
+
+-- whether a record goes on to the next one: no jump (JMP, JMPL and JMPLN have the codes 16 to 18, JEL to JGEL 30 to 35), no return (39) and no label (40)
 abbrev pub straight : Code → Bool
-straight (ADD a b) = true
-straight (ADDRM a b offset) = true
-straight (ADDMR a offset b) = true
-straight (ADDI a value) = true
-straight (ADDIM a offset value) = true
-straight (SUB a b) = true
-straight (SUBRM a b offset) = true
-straight (SUBMR a offset b) = true
-straight (SUBI a value) = true
-straight (IMUL a b) = true
-straight (IMULRM a b offset) = true
-straight (IMULMR a offset b) = true
-straight (IDIV a) = true
-straight (IDIVM a offset) = true
-straight CQO = true
-straight (JMP a) = false
-straight (JMPL label) = false
-straight (JMPLN label) = false
-straight (LEAL a label) = true
-straight (MOV a b) = true
-straight (MOVS a b offset) = true
-straight (MOVL a b offset) = true
-straight (MOVI a value) = true
-straight (MOVIM a offset value) = true
-straight (CMP a b) = true
-straight (CMPRM a b offset) = true
-straight (CMPMR a offset b) = true
-straight (CMPI a value) = true
-straight (CMPIM a offset value) = true
-straight (JEL label) = false
-straight (JNEL label) = false
-straight (JLL label) = false
-straight (JLEL label) = false
-straight (JGL label) = false
-straight (JGEL label) = false
-straight (PUSH a) = true
-straight (POP a) = true
-straight (CALL label) = true
-straight RET = false
-straight (LAB label) = false
-straight NOEXECSTACK = true
-straight TEXT = true
-straight (GLOBAL label) = true
-straight (EXTERN label) = true
+straight x = not (among 16 18 (fieldsOf x .code) || (among 30 35 (fieldsOf x .code) || among 39 40 (fieldsOf x .code)))
 
 pub data Tree : Type 0 where
   nop : Tree

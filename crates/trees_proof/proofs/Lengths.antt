@@ -15,8 +15,8 @@ use Rattle.machine_step.specs.declared.memory.Place.the-variants.{Stack, Heap, 
 use Rattle.machine_step.specs.declared.instruction.Compared.{Compared}
 use Rattle.machine_step.specs.declared.instruction.Compared.the-variants.{Absent, Of}
 use Rattle.machine_step.specs.View.{View, putReg, putStk, putMem}
-use Rattle.machine_step.specs.Memory.{stackEnd, heapStart, placeOf, wordAt, putAt, Operand, register, memory, immediate, valueOf, assigned}
-use Rattle.machine_step.specs.Step.{Config, config, dropped, Outcome, onWord, onState, onPair, arithmetic, move, compare, divide, branch, printName, step}
+use Rattle.machine_step.specs.Memory.{stackEnd, heapStart, placeOf, wordIn, putAt, Operand, register, memory, immediate, valueOf, assigned}
+use Rattle.machine_step.specs.Step.{Config, config, dropped, Outcome, onWord, onState, onPair, calculate, move, compare, divide, branch, isPrintName, step}
 use Rattle.trees_proof.specs.Evaluation.{Evaluated, done, faulted, andThen, evaluated, onEqual, evaluate}
 
 -- a state beside a heap of so many words, all else the same
@@ -64,7 +64,7 @@ module _ (m n : ℕ) (h : m ≤ n) where
 
     -- a word read from a place or an operand, and what goes on with it
     module _ (k k′ : ℕ → Outcome) (g : (w : ℕ) → Follows (k w) (k′ w)) where
-      loads : {p q : Place} → Kept p q → Follows (onWord c (wordAt (c .state .stk) (c .state .mem) p) k) (onWord (resized n c) (wordAt (c .state .stk) (c .state .mem) q) k′)
+      loads : {p q : Place} → Kept p q → Follows (onWord c (wordIn (c .state .stk) (c .state .mem) p) k) (onWord (resized n c) (wordIn (c .state .stk) (c .state .mem) q) k′)
       loads (on-stack {i = i}) = g (c .state .stk i)
       loads (on-heap {i = i}) = g (c .state .mem i)
       loads outside = fails
@@ -90,7 +90,7 @@ module _ (m n : ℕ) (h : m ≤ n) where
     pairs (Of x y) k k′ g = g x y
     pairs Absent k k′ g = fails
 
-    arithmetic-follows : (f : ℕ → ℕ → ℕ) (dest src : Operand) → Follows (arithmetic f dest src c) (arithmetic f dest src (resized n c))
+    arithmetic-follows : (f : ℕ → ℕ → ℕ) (dest src : Operand) → Follows (calculate f dest src c) (calculate f dest src (resized n c))
     arithmetic-follows f dest src = reads _ _ (λ y. reads _ _ (λ x. writes _ _ (λ s r. both-done r) dest (f x y)) dest) src
 
     move-follows : (dest src : Operand) → Follows (move dest src c) (move dest src (resized n c))
@@ -144,7 +144,7 @@ module _ (m n : ℕ) (h : m ≤ n) where
     step-follows words (JGEL label) = branch-follows (λ x y. not (less x y)) label
     step-follows words (PUSH a) = stores _ _ (λ s r. both-done r) _ e (place-kept _) _
     step-follows words (POP a) = loads _ _ (λ w. both-done e) (place-kept _)
-    step-follows words (CALL label) = either Follows (printName label && eqb (c .state .reg 0 % 16) 0) (both-done e) fails
+    step-follows words (CALL label) = either Follows (isPrintName label && eqb (c .state .reg 0 % 16) 0) (both-done e) fails
     step-follows words RET = either Follows (eqb (c .state .reg 0) 1099511627768) fails fails
     step-follows words (LAB label) = both-done e
     step-follows words NOEXECSTACK = both-done e

@@ -16,12 +16,12 @@ use Rattle.trees.specs.Tree.{straight}
 use Rattle.machine_step.specs.declared.instruction.Compared.{Compared}
 use Rattle.machine_step.specs.declared.instruction.Compared.the-variants.{Absent, Of}
 use Rattle.machine_step.specs.Step.{Config, dropped, Outcome, next, jump, end, fault, step}
-use Rattle.machine.specs.declared.run.Answer.the-variants.{Fault}
+use Rattle.machine.specs.declared.run.RunAnswer.the-variants.{Fault}
 use Rattle.machine.specs.declared.run.Found.the-variants.{At}
 use Rattle.machine.specs.Run.{find, follow, runs}
 use Rattle.machine.specs.Run as machine
 use Rattle.trees_proof.specs.Evaluation.{Evaluated, done, faulted, andThen, evaluated, onEqual}
-use Rattle.trees_proof.specs.Claims.{Reaches, Faults, RunsAs}
+use Rattle.trees_proof.specs.Claims.{RunsTo, Faults, RunsAs}
 use Rattle.trees_proof.proofs.Straight.{Onward, straight-onward}
 use Rattle.trees_proof.proofs.Labels.{nil-cons}
 
@@ -44,7 +44,7 @@ drop-part p i n xs ys e h = sym (drop-drop n i p) ∙ ap (drop n) e ∙ drop-at 
 
 module _ (words : ℕ → ℕ) (p : List Code) where
   -- what runs one after the other
-  pub after : (m k i j l : ℕ) {c d : Config} (o : Evaluated) → Reaches words p m i j c d → RunsAs words p k j l d o → i ≤ j → (most : ℕ) → m + k ≤ most → RunsAs words p most i l c o
+  pub after : (m k i j l : ℕ) {c d : Config} (o : Evaluated) → RunsTo words p m i j c d → RunsAs words p k j l d o → i ≤ j → (most : ℕ) → m + k ≤ most → RunsAs words p most i l c o
   after m k i j l (done e) r g h most b =
       record {
         steps = r .steps + g .steps;
@@ -72,10 +72,10 @@ module _ (words : ℕ → ℕ) (p : List Code) where
     one-step left made = rw (at-drop p i e)
 
     -- one record: on to the next one, to a label, or a fault
-    pub stepped : {d : Config} → step words x c ≡ next d → Reaches words p 1 i (suc i) c d
+    pub stepped : {d : Config} → step words x c ≡ next d → RunsTo words p 1 i (suc i) c d
     stepped {d} s = record { steps = 1; within = omega arith; run = λ left made. rw (one-add, add-one) (one-step left made ∙ rw s) }
 
-    pub jumped : {label j : ℕ} {d : Config} → step words x c ≡ jump label d → find label p ≡ At j → Reaches words p 1 i j c d
+    pub jumped : {label j : ℕ} {d : Config} → step words x c ≡ jump label d → find label p ≡ At j → RunsTo words p 1 i j c d
     jumped s f = record { steps = 1; within = omega arith; run = λ left made. rw (one-add, add-one) (one-step left made ∙ rw (s, f)) }
 
     pub stopped : (to : ℕ) {d : Config} → step words x c ≡ fault d → i < to → (most : ℕ) → 0 < most → Faults words p most i to c d
@@ -91,11 +91,11 @@ module _ (words : ℕ → ℕ) (p : List Code) where
         at (fault d) s w = stopped (suc i) s (omega arith) 1 (omega arith)
 
   -- a mark drops the compare
-  pub mark-does : (i : ℕ) {label : ℕ} {xs : List Code} → drop i p ≡ LAB label ∷ xs → (c : Config) → Reaches words p 1 i (suc i) c (dropped c)
+  pub mark-does : (i : ℕ) {label : ℕ} {xs : List Code} → drop i p ≡ LAB label ∷ xs → (c : Config) → RunsTo words p 1 i (suc i) c (dropped c)
   unfolding step
   mark-does i e c = stepped i e c refl
 
-  pub jump-does : (i : ℕ) {label j : ℕ} {xs : List Code} → drop i p ≡ JMPL label ∷ xs → find label p ≡ At j → (c : Config) → Reaches words p 1 i j c (dropped c)
+  pub jump-does : (i : ℕ) {label j : ℕ} {xs : List Code} → drop i p ≡ JMPL label ∷ xs → find label p ≡ At j → (c : Config) → RunsTo words p 1 i j c (dropped c)
   unfolding step
   jump-does i e f c = jumped i e c refl f
 

@@ -7,7 +7,7 @@ use lib.Dec.{eqb}
 use Rattle.records.specs.declared.code.Code.{Code}
 use Rattle.records.specs.declared.code.Code.the-variants.{ADD, ADDRM, ADDMR, ADDI, ADDIM, SUB, SUBRM, SUBMR, SUBI, IMUL, IMULRM, IMULMR, IDIV, IDIVM, CQO, JMP, JMPL, JMPLN, LEAL, MOV, MOVS, MOVL, MOVI, MOVIM, CMP, CMPRM, CMPMR, CMPI, CMPIM, JEL, JNEL, JLL, JLEL, JGL, JGEL, PUSH, POP, CALL, RET, LAB, NOEXECSTACK, TEXT, GLOBAL, EXTERN}
 use Rattle.trees.specs.Tree.{straight}
-use Rattle.machine_step.specs.Step.{Config, Outcome, next, jump, end, fault, printName, step}
+use Rattle.machine_step.specs.Step.{Config, Outcome, next, jump, end, fault, isPrintName, step}
 use Rattle.machine.specs.Run.{isLab}
 use Rattle.machine_step.proofs.Flow.{Flow, plain, jumps, branches, mark, calling, returning, stops, flow, plainly, byFlow, step-by-flow}
 
@@ -97,7 +97,7 @@ flow-onward words plain c o e = plainly-onward c o
 flow-onward words (jumps label) c o e = unlike e
 flow-onward words (branches holds label) c o e = unlike e
 flow-onward words (mark label) c o e = unlike e
-flow-onward words (calling label) c o e = test-onward (printName label && eqb (c .state .reg 0 % 16) 0) c _
+flow-onward words (calling label) c o e = test-onward (isPrintName label && eqb (c .state .reg 0 % 16) 0) c _
 flow-onward words returning c o e = unlike e
 flow-onward words stops c o e = tt
 

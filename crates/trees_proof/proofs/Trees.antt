@@ -14,12 +14,12 @@ use Rattle.trees.specs.Tree.{Tree, nop, leaf, seq, skip-if-zero, if-zero, label
 use Rattle.trees.proofs.Flat.{length-flat}
 use Rattle.machine_step.specs.View.{View}
 use Rattle.machine_step.specs.Step.{Config, dropped, step}
-use Rattle.machine.specs.declared.run.Answer.the-variants.{Ended}
+use Rattle.machine.specs.declared.run.RunAnswer.the-variants.{Ended}
 use Rattle.machine.specs.declared.run.Found.the-variants.{At}
 use Rattle.machine.specs.Run.{find, runs, started, starting}
 use Rattle.machine.specs.Run as machine
 use Rattle.trees_proof.specs.Evaluation.{Evaluated, done, faulted, evaluated, andThen, evaluate}
-use Rattle.trees_proof.specs.Claims.{RunsAs, TreeRunsWithin, Answers, TreeRunsWhole}
+use Rattle.trees_proof.specs.Claims.{RunsAs, TreeRunsWithin, RunAnswers, TreeRunsWhole}
 use Rattle.trees_proof.proofs.Labels.{Once, once, found}
 use Rattle.trees_proof.proofs.Steps.{drop-one, drop-part, after, joined, straight-does, mark-does, jump-does, choice-does}
 
@@ -106,7 +106,7 @@ ended words p zero made c = rw (at-end p)
 ended words p (suc left) made c = rw (at-end p)
 
 -- a part that is the whole
-answers : (words : ℕ → ℕ) (p : List Code) (more : ℕ) (z : Config) (o : Evaluated) → RunsAs words p (length p) 0 (length p) z o → Answers (length p) (runs words p (length p + more) 0 0 z) o
+answers : (words : ℕ → ℕ) (p : List Code) (more : ℕ) (z : Config) (o : Evaluated) → RunsAs words p (length p) 0 (length p) z o → RunAnswers (length p) (runs words p (length p + more) 0 0 z) o
 answers words p more z (done d) r =
     let k : length p + more ≡ r .steps + (length p - r .steps + more) = omega arith in
     (r .steps, r .within, rw k (rw zero-add at (r .run (length p - r .steps + more) 0) ∙ ended words p (length p - r .steps + more) (r .steps) d))
@@ -130,4 +130,4 @@ tree-runs-whole words t c more v =
 pub tree-ends : (words : ℕ → ℕ) (t : Tree) (c more : ℕ) (v : View) (d : Config) → evaluate words t (starting v) ≡ done d
     → (k : ℕ) × (k ≤ size t) × (started words (flat t c) (size t + more) v ≡ machine.done (Ended k) d)
 unfolding TreeRunsWhole
-tree-ends words t c more v d e = subst (Answers (size t) (started words (flat t c) (size t + more) v)) e (tree-runs-whole words t c more v)
+tree-ends words t c more v d e = subst (RunAnswers (size t) (started words (flat t c) (size t + more) v)) e (tree-runs-whole words t c more v)

@@ -9,13 +9,13 @@ use Rattle.records.specs.declared.code.Code.{Code}
 use Rattle.trees.specs.Tree.{Tree, labels, size, flatAt, flat}
 use Rattle.machine_step.specs.View.{View}
 use Rattle.machine_step.specs.Step.{Config}
-use Rattle.machine.specs.declared.run.Answer.the-variants.{Ended, Fault}
+use Rattle.machine.specs.declared.run.RunAnswer.the-variants.{Ended, Fault}
 use Rattle.machine.specs.Run.{Done, placesOf, runs, started, starting}
 use Rattle.machine.specs.Run as machine
 use Rattle.trees_proof.specs.Evaluation.{Evaluated, done, faulted, evaluate}
 
 -- at most `most` steps lead from place `from` with the configuration c to place `to` with d, whatever number of steps is left then and was made before
-pub record Reaches (words : ℕ → ℕ) (p : List Code) (most from to : ℕ) (c d : Config) : Type 0 where
+pub record RunsTo (words : ℕ → ℕ) (p : List Code) (most from to : ℕ) (c d : Config) : Type 0 where
   pub steps : ℕ
   pub within : steps ≤ most
   pub run : (left made : ℕ) → runs words p (steps + left) made from c ≡ runs words p left (made + steps) to d
@@ -31,7 +31,7 @@ pub record Faults (words : ℕ → ℕ) (p : List Code) (most from to : ℕ) (c 
 
 -- a run as the tree evaluates: to the end of its records, or to a fault among them
 abbrev pub RunsAs : (ℕ → ℕ) → List Code → ℕ → ℕ → ℕ → Config → Evaluated → Type 0
-RunsAs words p most from to c (done d) = Reaches words p most from to c d
+RunsAs words p most from to c (done d) = RunsTo words p most from to c d
 RunsAs words p most from to c (faulted d) = Faults words p most from to c d
 
 -- no LAB record of p has a label above low and up to high
@@ -45,11 +45,11 @@ TreeRunsWithin =
     → RunsAs words (before ++ (flatAt t c n ++ after)) (size t) (length before) (length before + size t) z (evaluate words t z)
 
 -- a whole run of `most` records: it ends where the tree is done and faults where the tree does, and leaves the tree's configuration: state, pair and calls
-abbrev pub Answers : ℕ → Done → Evaluated → Type 0
-Answers most r (done d) = (k : ℕ) × (k ≤ most) × (r ≡ machine.done (Ended k) d)
-Answers most r (faulted d) = (k : ℕ) × (place : ℕ) × (k < most) × (0 < place) × (place ≤ most) × (r ≡ machine.done (Fault k place) d)
+abbrev pub RunAnswers : ℕ → Done → Evaluated → Type 0
+RunAnswers most r (done d) = (k : ℕ) × (k ≤ most) × (r ≡ machine.done (Ended k) d)
+RunAnswers most r (faulted d) = (k : ℕ) × (place : ℕ) × (k < most) × (0 < place) × (place ≤ most) × (r ≡ machine.done (Fault k place) d)
 
 -- a tree's records alone, from the first, with no compare made and no call, and a step limit of their number or more
 unfoldable pub TreeRunsWhole : Type 0
 TreeRunsWhole =
-    (words : ℕ → ℕ) (t : Tree) (c more : ℕ) (v : View) → Answers (size t) (started words (flat t c) (size t + more) v) (evaluate words t (starting v))
+    (words : ℕ → ℕ) (t : Tree) (c more : ℕ) (v : View) → RunAnswers (size t) (started words (flat t c) (size t + more) v) (evaluate words t (starting v))

@@ -37,31 +37,19 @@ pub fn product(x: u64, y: u64) -> u64
 pub fn signs(x: u64) -> u64
     ensures { λ r. ⌜ r ≡ is.signs x ⌝ }
 {
-    if x < SIGN {
-        0
-    } else {
-        LARGEST
-    }
+    if x < SIGN { 0 } else { LARGEST }
 }
 
 fn magnitude(x: u64) -> u64
     ensures { λ r. ⌜ r ≡ is.magnitude x ⌝ }
 {
-    if x < SIGN {
-        x
-    } else {
-        LARGEST - x + 1
-    }
+    if x < SIGN { x } else { LARGEST - x + 1 }
 }
 
 fn negated(x: u64) -> u64
     ensures { λ r. ⌜ r ≡ is.negated x ⌝ }
 {
-    if x == 0 {
-        0
-    } else {
-        LARGEST - x + 1
-    }
+    if x == 0 { 0 } else { LARGEST - x + 1 }
 }
 
 pub fn quotient(x: u64, d: u64) -> u64
@@ -72,17 +60,9 @@ pub fn quotient(x: u64, d: u64) -> u64
     let n = magnitude(d);
     let q = m / n;
     if x < SIGN {
-        if d < SIGN {
-            q
-        } else {
-            negated(q)
-        }
+        if d < SIGN { q } else { negated(q) }
     } else {
-        if d < SIGN {
-            negated(q)
-        } else {
-            q
-        }
+        if d < SIGN { negated(q) } else { q }
     }
 }
 
@@ -93,11 +73,7 @@ pub fn remainder(x: u64, d: u64) -> u64
     let m = magnitude(x);
     let n = magnitude(d);
     let q = m % n;
-    if x < SIGN {
-        q
-    } else {
-        negated(q)
-    }
+    if x < SIGN { q } else { negated(q) }
 }
 
 // Whether IDIV does not fault.

@@ -10,7 +10,7 @@ use Rattle.records.specs.declared.code.Code.the-variants.{MOVI, MOVIM}
 use Rattle.records.specs.declared.order.Order.{Order}
 use Rattle.records.specs.declared.order.Order.the-variants.{Put, Store}
 use Rattle.records.specs.Contexts.{bindingBytes}
-use Rattle.records.specs.Orders.{orderFieldsOf, orderBytes}
+use Rattle.records.specs.Orders.{recordOf}
 use Rattle.records.specs.ReadBack.{joined}
 use Rattle.trees.specs.Tree.{Tree, flat}
 use Rattle.emit.specs.declared.answer.Answer.{Answer}
@@ -29,7 +29,7 @@ use Rattle.memory.specs.Blocks.{eraseBlock}
 use Rattle.memory.specs.Answered.{storeIn, eraseAnswer, storeTree, storeAnswer}
 use Rattle.memory.specs.LoadAnswered.{loadTree, loadAnswer}
 use Rattle.order_spec.specs.Answered as order
-use Rattle.order_spec.specs.declared.answer.Answer.the-variants.{Accepted}
+use Rattle.order_spec.specs.declared.answer.OrderAnswer.the-variants.{Accepted}
 use Rattle.order_spec.specs.Answered.{Asked, answerTo, orderTree}
 
 abbrev pub ample : ℕ
@@ -40,15 +40,15 @@ abbrev pub integers : ℕ → List ℕ
 integers n = joined bindingBytes (replicate n (record { kind = Ext; id = 0 }))
 
 -- an order alone
-abbrev pub ordering : Order → Asked
-ordering order = record { order = orderBytes (orderFieldsOf order); bindings = []; counter = 0; recordsRoom = ample; contextRoom = ample }
+abbrev pub askedAmply : Order → Asked
+askedAmply order = record { order = recordOf order; bindings = []; counter = 0; recordsRoom = ample; contextRoom = ample }
 
 -- the order to store no variable, and one that makes a variable
 abbrev pub storeNone : Asked
-storeNone = ordering (Store 0 0)
+storeNone = askedAmply (Store 0 0)
 
-abbrev pub putSeven : Asked
-putSeven = ordering (Put 7)
+abbrev pub putSevenAsked : Asked
+putSevenAsked = askedAmply (Put 7)
 
 -- an operation answers with so many records and labels, and the records of its tree are so many
 pub record Writes (answer : Answer) (tree : Tree) (records labels : ℕ) : Type 0 where
@@ -85,7 +85,7 @@ pub record WorkedNumbers : Type 0 where
   pub record-after-133 : flat (storeTree base (integers 133) 0) 0 ≡ MOVIM STACK 0 0 ∷ []
   pub none-after-134 : causeOf (storeAnswer base 0 ample (integers 134) 0) ≡ 8 ∷ []
   -- '(as an order: 8, for the tag)'
-  pub order-after-133 : order.causeOf (answerTo base (integers 133) storeNone) ≡ 8 ∷ []
+  pub order-after-133 : order.orderAnswerCause (answerTo base (integers 133) storeNone) ≡ 8 ∷ []
   -- 'Store one after 132 works; after 133: 8.' (k variables in all: those before, and the one stored)
   pub one-after-132 : StoreWrites base 1 133 60 13
   pub one-after-133 : causeOf (storeAnswer base 0 ample (integers 134) 1) ≡ 8 ∷ []
@@ -120,7 +120,7 @@ pub record WorkedNumbersOfLarger : Type 0 where
   pub none-after-262 : causeOf (storeAnswer larger 0 ample (integers 262) 0) ≡ 8 ∷ []
   -- as an order after 260: the object's word and the tag; after 261: 8, for the tag
   pub order-after-260 : answerTo larger (integers 260) storeNone ≡ Accepted 2 0 261
-  pub order-after-261 : order.causeOf (answerTo larger (integers 261) storeNone) ≡ 8 ∷ []
+  pub order-after-261 : order.orderAnswerCause (answerTo larger (integers 261) storeNone) ≡ 8 ∷ []
   -- 'a store or load of some variables needs at most 261 in all' (a store: those before, and the one stored)
   pub one-after-260 : StoreWrites larger 1 261 60 13
   pub one-after-261 : causeOf (storeAnswer larger 0 ample (integers 262) 1) ≡ 8 ∷ []
@@ -133,9 +133,9 @@ pub record WorkedNumbersOfLarger : Type 0 where
   pub erase-512 : causeOf (eraseAnswer larger 0 ample (spill 512)) ≡ 3 ∷ []
   pub erase-256 : causeOf (eraseAnswer base 0 ample (spill 256)) ≡ 3 ∷ []
   -- a put on 200 variables is 8 in the smaller frame, and is written in this one: position 401 is spill 390
-  pub put-in-smaller : order.causeOf (answerTo base (integers 200) putSeven) ≡ 8 ∷ []
-  pub put-after-200 : answerTo larger (integers 200) putSeven ≡ Accepted 1 0 201
-  pub record-after-200 : flat (orderTree larger (integers 200) putSeven) 0 ≡ MOVIM STACK 968 7 ∷ []
+  pub put-in-smaller : order.orderAnswerCause (answerTo base (integers 200) putSevenAsked) ≡ 8 ∷ []
+  pub put-after-200 : answerTo larger (integers 200) putSevenAsked ≡ Accepted 1 0 201
+  pub record-after-200 : flat (orderTree larger (integers 200) putSevenAsked) 0 ≡ MOVIM STACK 968 7 ∷ []
   -- variables in registers are stored and loaded as in the smaller frame
   pub store-one : StoreWrites larger 1 1 58 13
   pub store-four : StoreWrites larger 4 4 118 26

@@ -1,11 +1,11 @@
 use borrow.Author.Needs.{needs}
-use Rattle.listing.specs.Listing.{operands}
+use Rattle.listing.specs.Listing.{operandsText}
 use Rattle.text.proofs.Putting.{_⨟_}
 use Rattle.listing.proofs.lines.put_operands.Statement.{statement}
 use Rattle.listing.proofs.lines.put_operands.Tie as tie
 
 pub put-operands-spec : {M : Type 1} → statement M
-unfolding operands
+unfolding operandsText
 put-operands-spec =
     tie.close
     (tie.spec

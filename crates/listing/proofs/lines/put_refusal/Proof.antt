@@ -1,12 +1,12 @@
 use borrow.Author.Needs.{needs}
 use Rattle.text.specs.Text.{digits}
-use Rattle.listing.specs.Listing.{refusal}
+use Rattle.listing.specs.Listing.{listingRefusal}
 use Rattle.text.proofs.Putting.{_⨟_}
 use Rattle.listing.proofs.lines.put_refusal.Statement.{statement}
 use Rattle.listing.proofs.lines.put_refusal.Tie as tie
 
 pub put-refusal-spec : {M : Type 1} → statement M
-unfolding refusal digits
+unfolding listingRefusal digits
 put-refusal-spec =
     tie.close
     (tie.spec

@@ -1,6 +1,6 @@
 use borrow.Author.Needs.{needs}
 use Rattle.records.proofs.Conditions.{and-left}
-use Rattle.operations.specs.Operations.{recordsOf, operandsOk}
+use Rattle.operations.specs.Operations.{operationRecords, operandsAllowed}
 use Rattle.code.proofs.Sizes.{plain-arithmetic, plain-compare, plain-compare-immediate, plain-load-immediate, plain-load-label, plain-mov}
 use Rattle.code.proofs.Listed.{plain-list}
 use Rattle.operations.proofs.Ranges.{one-below, two-below, below-and}
@@ -9,7 +9,7 @@ use Rattle.operations.proofs.operation.emit_operation.Statement.{statem
 use Rattle.operations.proofs.operation.emit_operation.Tie as tie
 
 pub emit-operation-spec : {M : Type 1} → statement M
-unfolding recordsOf operandsOk
+unfolding operationRecords operandsAllowed
 emit-operation-spec =
     tie.close
     (tie.spec

@@ -1,10 +1,10 @@
 use borrow.Author.Needs.{needs}
-use Rattle.operations.specs.Operations.{operandsOk}
+use Rattle.operations.specs.Operations.{operandsAllowed}
 use Rattle.operations.proofs.operation.operands_ok.Statement.{statement}
 use Rattle.operations.proofs.operation.operands_ok.Tie as tie
 
 pub operands-ok-spec : {M : Type 1} → statement M
-unfolding operandsOk
+unfolding operandsAllowed
 operands-ok-spec =
     tie.close
     (tie.spec

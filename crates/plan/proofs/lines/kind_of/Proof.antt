@@ -1,10 +1,10 @@
 use borrow.Author.Needs.{needs}
-use Rattle.plan.specs.Plan.{kindOf}
+use Rattle.plan.specs.Plan.{kindOfWord}
 use Rattle.plan.proofs.lines.kind_of.Statement.{statement}
 use Rattle.plan.proofs.lines.kind_of.Tie as tie
 
 pub kind-of-spec : {M : Type 1} → statement M
-unfolding kindOf
+unfolding kindOfWord
 kind-of-spec =
     tie.close
     (tie.spec

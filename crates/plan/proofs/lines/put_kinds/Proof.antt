@@ -1,7 +1,7 @@
 use borrow.Author.Needs.{needs}
 use Prim.Native.Nat.{_*_, _-_, _≤_}
 use lib.ListN.{length, take, drop}
-use Rattle.plan_line.specs.Words.{wordsOf}
+use Rattle.plan_line.specs.Words.{wordsIn}
 use Rattle.plan.specs.Plan.{bindings}
 use Rattle.text.proofs.Putting.{same-length}
 use Rattle.plan_line.proofs.Finding.{starts, no-word}
@@ -13,7 +13,7 @@ use Rattle.plan.proofs.lines.put_kinds.Tie as tie
 abbrev Inv-loop : tie.InvT-loop
 Inv-loop out₀ at line from n next₀ i₀ id₀ out next i id =
     (id ≤ n) × (i ≤ length line)
-    × Begun (8 * id) out₀ at out next (bindings 0 (take n (wordsOf (drop from line)))) (bindings id (take (n - id) (wordsOf (drop i line))))
+    × Begun (8 * id) out₀ at out next (bindings 0 (take n (wordsIn (drop from line)))) (bindings id (take (n - id) (wordsIn (drop i line))))
 
 abbrev μ-loop : tie.MeasureT-loop
 μ-loop out₀ at line from n next₀ i₀ id₀ out next i id = n - id
@@ -24,7 +24,7 @@ put-kinds-spec =
     (tie.spec
     Inv-loop
     μ-loop
-    (λ c. (omega arith, c .before .before .pre .0, no-kind _ _ (c .before .before .args .n) (wordsOf (drop (c .before .before .args .from) (c .before .before .args .line .now)))))
+    (λ c. (omega arith, c .before .before .pre .0, no-kind _ _ (c .before .before .args .n) (wordsIn (drop (c .before .before .args .from) (c .before .before .args .line .now)))))
     (λ c κs. c .before .loop .inv .1)
     (λ c. search needs)
     (λ c. let w = (starts (c .before .before .before .before .next-word .ensures) (c .before .before .start .given .1)) in omega arith)

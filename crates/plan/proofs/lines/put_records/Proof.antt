@@ -1,12 +1,12 @@
 use borrow.Author.Needs.{needs}
-use Rattle.plan.specs.Plan.{recordsOf}
+use Rattle.plan.specs.Plan.{planRecords}
 use Rattle.text.proofs.Putting.{_⨟_}
 use native.Mathlib.Omega.{arith}
 use Rattle.plan.proofs.lines.put_records.Statement.{statement}
 use Rattle.plan.proofs.lines.put_records.Tie as tie
 
 pub put-records-spec : {M : Type 1} → statement M
-unfolding recordsOf
+unfolding planRecords
 put-records-spec =
     tie.close
     (tie.spec

@@ -2,14 +2,14 @@ use borrow.Author.Needs.{needs}
 use Prim.Native.Nat.{_+_, _*_, _-_, _/_, _≤_}
 use lib.ListN.{length, drop}
 use mathlib.Core.Path.{_≡_, refl, _∙_}
-use Rattle.plan_line.specs.Numbers.{valueOf}
+use Rattle.plan_line.specs.Numbers.{digitsValue}
 use Rattle.plan_line.proofs.Digits.{value-on, too-large, in-range, out-of-range}
 use native.Mathlib.Omega.{arith}
 use Rattle.plan_line.proofs.numbers.value_within.Statement.{statement}
 use Rattle.plan_line.proofs.numbers.value_within.Tie as tie
 
 abbrev Inv-loop : tie.InvT-loop
-Inv-loop w limit value₀ i₀ value i = (i ≤ length w) × (value ≤ 10 * (limit / 10) + 207) × (valueOf 0 w ≡ valueOf value (drop i w))
+Inv-loop w limit value₀ i₀ value i = (i ≤ length w) × (value ≤ 10 * (limit / 10) + 207) × (digitsValue 0 w ≡ digitsValue value (drop i w))
 
 abbrev μ-loop : tie.MeasureT-loop
 μ-loop w limit value₀ i₀ value i = length w - i

@@ -2,7 +2,7 @@ use borrow.Author.Needs.{needs}
 use Prim.Native.Nat.{_-_, _≤_}
 use lib.ListN.{length, drop}
 use mathlib.Core.Path.{_≡_, refl, sym, _∙_}
-use Rattle.plan_line.specs.Words.{wordsOf}
+use Rattle.plan_line.specs.Words.{wordsIn}
 use Rattle.plan_line.specs.Orders.{loadLine}
 use Rattle.plan_line.proofs.Finding.{starts, no-word}
 use Rattle.plan_line.proofs.Loads.{load-ends, other-kind, kind-on, all-counted}
@@ -11,7 +11,7 @@ use Rattle.plan_line.proofs.orders.read_load.Statement.{statement}
 use Rattle.plan_line.proofs.orders.read_load.Tie as tie
 
 abbrev Inv-loop : tie.InvT-loop
-Inv-loop line from at₀ n₀ at n = (n ≤ 4096) × (at ≤ length line) × (loadLine 0 (wordsOf (drop from line)) ≡ loadLine n (wordsOf (drop at line)))
+Inv-loop line from at₀ n₀ at n = (n ≤ 4096) × (at ≤ length line) × (loadLine 0 (wordsIn (drop from line)) ≡ loadLine n (wordsIn (drop at line)))
 
 abbrev μ-loop : tie.MeasureT-loop
 μ-loop line from at₀ n₀ at n = 4096 - n

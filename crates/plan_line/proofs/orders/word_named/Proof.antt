@@ -1,12 +1,12 @@
 use borrow.Author.Needs.{needs}
-use Rattle.plan_line.specs.Orders.{named}
+use Rattle.plan_line.specs.Orders.{namedFirst}
 use Rattle.plan_line.proofs.Finding.{starts, no-word}
 use native.Mathlib.Omega.{arith}
 use Rattle.plan_line.proofs.orders.word_named.Statement.{statement}
 use Rattle.plan_line.proofs.orders.word_named.Tie as tie
 
 pub word-named-spec : {M : Type 1} → statement M
-unfolding named
+unfolding namedFirst
 word-named-spec =
     tie.close
     (tie.spec
