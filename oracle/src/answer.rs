@@ -28,7 +28,7 @@ pub enum Answer {
     Played(usize, u64, Ran, Vec<u8>),
     /// A channel's context, state and heap.
     Shown(Vec<u8>, Box<State>, Vec<u64>),
-    /// The Rust panicked, at what document 01 gives this number.
+    /// The Rust panicked, at what the scope gives this number.
     Panic(u64),
     /// The labels that the Rust drew lead above the last fresh label.
     Exceeded(u64),

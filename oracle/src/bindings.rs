@@ -1,4 +1,4 @@
-//! Holds every function of the port that reads a context against the reading of document 02's rules
+//! Holds every function of the port that reads a context against the reading of the scope's rules
 //! for a bad one: alone, and with bindings or variables to load after it.
 
 use crate::hex;

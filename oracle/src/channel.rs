@@ -90,7 +90,7 @@ pub fn ask(
 #[derive(Debug, Clone, Copy, PartialEq, Eq)]
 pub enum Side {
     Port,
-    /// The reading of document 01's machine.
+    /// The reading of the scope's machine.
     Reading,
 }
 

@@ -126,7 +126,7 @@ mod tests {
             .collect()
     }
 
-    /// How document 01 puts a variant's fields into a record: a lone immediate beside one register
+    /// How the scope puts a variant's fields into a record: a lone immediate beside one register
     /// is the value, but for IDIVM, which reads memory; any other first immediate is an offset.
     fn uses(name: &str, fields: &str) -> String {
         let types: Vec<&str> = fields.split(", ").collect();

@@ -1,4 +1,4 @@
-//! A reading of document 01's machine, made from the document, the Intel manual and the text that
+//! A reading of the scope's machine, made from the document, the Intel manual and the text that
 //! the published Rust prints for each instruction, and not from the port, to be held against it.
 //! It is plain Rust on mutable words, so it also serves to time the port's machine.
 

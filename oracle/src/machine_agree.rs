@@ -1,4 +1,4 @@
-//! Holds the port's run of records against the reading of document 01's machine: the answer, the
+//! Holds the port's run of records against the reading of the scope's machine: the answer, the
 //! steps, the place, every register, every word of the stack and of the heap.
 
 use crate::codes::FORMS;
@@ -129,7 +129,7 @@ impl Tally {
     }
 
     fn report(&self, seed: u64, made: u64) {
-        println!("how the runs came out, by document 01:");
+        println!("how the runs came out, by the scope:");
         for (name, count) in &self.outcomes {
             println!("{count:>9} {name}");
         }
@@ -199,7 +199,7 @@ fn show(
         program.chosen, program.limit
     );
     println!("    registers {:?}", program.state.registers);
-    println!("    document 01: {outcome:?}, port: {ran}");
+    println!("    the scope: {outcome:?}, port: {ran}");
     let parts = [
         (
             "register",
@@ -212,7 +212,7 @@ fn show(
     for (part, expected, found) in parts {
         let words = expected.iter().zip(found).enumerate();
         for (index, (expected, found)) in words.filter(|(_, (x, y))| x != y) {
-            println!("    {part} {index}: document 01 {expected}, port {found}");
+            println!("    {part} {index}: the scope {expected}, port {found}");
         }
     }
 }

@@ -42,16 +42,16 @@ oracle differ                                      puts them to both and counts 
 oracle generate emission|sample|checks [OPTIONS]   writes requests (--count 1000, --seed 1)
 oracle generate larger                             writes some at the limits of 512 spills
 oracle generate second                             writes some of the second edition
-oracle replay-file                                 writes requests with the Rust's answers for the program replay
-oracle agree [OPTIONS]                             holds the port against document 01
+oracle replay-file                                 writes requests with the Rust's answers for the program test_replay
+oracle agree [OPTIONS]                             holds the port against the scope
                                                    (--count 100000, --seed 1)
-oracle machine-agree [OPTIONS]                     holds the port's machine against document 01
+oracle machine-agree [OPTIONS]                     holds the port's machine against the scope
                                                    (--count 200000, --seed 1)
 oracle native [OPTIONS]                            holds it against this processor
                                                    (--count 400, --seed 1)
 oracle soak [rust] [OPTIONS]                       plays lists of orders on the port and checks
                                                    (--orders 1000000, --seed 1, --blocks 2000)
-oracle soak list SEED FOLDER                       writes the lists that the program soak plays
+oracle soak list SEED FOLDER                       writes the lists that the program test_soak plays
 oracle bench machine                               times it beside plain Rust
 oracle bench emission                              times emission beside the published Rust";
 

@@ -1,5 +1,5 @@
 //! Holds the port's machine against the processor. Random programs are assembled by GNU as, put
-//! into memory where document 01's machine has its stack and heap, run, and their registers, stack
+//! into memory where the scope's machine has its stack and heap, run, and their registers, stack
 //! and heap compared with what the port's run leaves.
 
 use crate::codes::Code::{self, *};

@@ -1,4 +1,4 @@
-//! A reading of document 01's orders, made from the document and not from the port: an order's
+//! A reading of the scope's orders, made from the document and not from the port: an order's
 //! record, the plain machine's values, the answer that an order gets, and a check of the state
 //! and the heap that a list of orders leaves.
 

@@ -141,7 +141,7 @@ exported! {
     ) -> u64;
 }
 
-/// What the port returned: 0 or document 01's number, and the word beside it.
+/// What the port returned: 0 or the scope's number, and the word beside it.
 #[derive(Debug, Clone, Copy, PartialEq, Eq)]
 pub struct Returned {
     pub number: u64,
@@ -337,7 +337,7 @@ pub fn query(chosen: Chosen, query: &Query) -> Returned {
     Returned { number, value }
 }
 
-/// What an order returned: 0 or document 01's number, the records' number, a place or the bytes
+/// What an order returned: 0 or the scope's number, the records' number, a place or the bytes
 /// needed, and how many bindings the context after it has.
 #[derive(Debug, Clone, Copy, PartialEq, Eq)]
 pub struct Ordered {
@@ -383,7 +383,7 @@ pub fn order(
     }
 }
 
-/// What a run returned: 0 or document 01's number, the steps and the record's place.
+/// What a run returned: 0 or the scope's number, the steps and the record's place.
 #[derive(Debug, Clone, Copy, PartialEq, Eq)]
 pub struct Ran {
     pub number: u64,

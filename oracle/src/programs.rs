@@ -71,7 +71,7 @@ fn entered(shape: Shape, records: &[Record]) -> Program {
     }
 }
 
-/// Each fault of document 01's list, with the place and the cause that it must have.
+/// Each fault of the scope's list, with the place and the cause that it must have.
 pub fn faults(shape: Shape) -> Vec<(Program, u64, Fault)> {
     let mut list = Vec::new();
     let mut fault = |why: Fault, place: u64, records: &[Record]| {

@@ -1,10 +1,10 @@
-//! A reading of document 01's rules for well-formed records and orders and for the lister, and of
-//! document 02's for contexts, made from the documents and not from the port, to be held against it.
+//! A reading of the scope's rules for well-formed records and orders and for the lister, and of
+//! the scope's for contexts, made from the documents and not from the port, to be held against it.
 
 use crate::codes::{self, Form};
 use crate::record::{self, Record};
 
-/// Document 01's number, and the place or the bytes needed where it returns one.
+/// The scope's number, and the place or the bytes needed where it returns one.
 #[derive(Debug, Clone, Copy, PartialEq, Eq)]
 pub struct Refusal {
     pub number: u64,
@@ -183,7 +183,7 @@ mod tests {
         }
     }
 
-    /// Document 01's example: share register 4, count 1, counter 0.
+    /// The scope's example: share register 4, count 1, counter 0.
     #[test]
     fn the_listers_example() {
         let record = |code, a, label, value| Record {

@@ -1,4 +1,4 @@
-//! Writes what the program `replay` reads: each operation and each query of a list of requests by
+//! Writes what the program `test_replay` reads: each operation and each query of a list of requests by
 //! itself, with the Rust's answer (docs/FORMATS.md, 'Replayed requests').
 
 use crate::answer::Answer;
@@ -12,7 +12,7 @@ use std::io::{Result, Write};
 /// The longest context and the most bytes of a body that the port is asked about.
 const LONGEST: u64 = 4096;
 const LONGEST_BODY: usize = 65536;
-/// The highest count that document 01 lets be shared.
+/// The highest count that the scope lets be shared.
 const MOST_SHARED: u64 = (1 << 31) - 1;
 
 /// What stands for labels that lead above the last.

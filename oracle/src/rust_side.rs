@@ -123,7 +123,7 @@ fn malformed<T>(reason: impl Into<String>) -> Result<T> {
     Err(Failure::Malformed(reason.into()))
 }
 
-/// How the messages of the Rust's panics begin, and document 01's number for what each is about.
+/// How the messages of the Rust's panics begin, and the scope's number for what each is about.
 const PANICS: [(&str, u64); 4] = [
     ("Variable ", 4),
     ("too many arguments for main", 6),

@@ -1,4 +1,4 @@
-//! Plays random lists of orders on the port, and checks after each what document 01 says: the
+//! Plays random lists of orders on the port, and checks after each what the scope says: the
 //! answer, the records, the context, the run, the state and the heap.
 
 mod lists;
@@ -478,7 +478,7 @@ fn at_times_another(random: &mut Random, shape: Shape) -> Chosen {
     chosen
 }
 
-/// Whether the port answers as document 01 says.
+/// Whether the port answers as the scope says.
 fn compare(
     chosen: Chosen,
     context: &[u8],
@@ -492,7 +492,7 @@ fn compare(
         return Ok(());
     }
     let (expected, found) = (brief(expected), brief(&found));
-    Err(format!("document 01: {expected}; port: {found}"))
+    Err(format!("the scope: {expected}; port: {found}"))
 }
 
 fn refused(refusal: Refusal) -> Answered {

@@ -1,4 +1,4 @@
-//! The stored answers are the Rust's, in the vectors and in the input of the program `replay`.
+//! The stored answers are the Rust's, in the vectors and in the input of the program `test_replay`.
 
 mod side;
 

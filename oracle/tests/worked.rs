@@ -1,4 +1,4 @@
-//! Document 01's worked numbers, as far as the Rust decides them: `compare rust` gives each.
+//! The scope's worked numbers, as far as the Rust decides them: `compare rust` gives each.
 
 mod side;
 

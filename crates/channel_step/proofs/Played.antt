@@ -26,13 +26,13 @@ use Rattle.machine.specs.State.{freshRegisters}
 use Rattle.machine.specs.Run.{Done, ran, Leaves}
 use Rattle.order_spec.specs.declared.answer.OrderAnswer.{OrderAnswer}
 use Rattle.order_spec.specs.declared.answer.OrderAnswer.the-variants.{Accepted, Context, Malformed, Frame, Missing, Kind, Count, Position, Labels, Room, Edition}
-use Rattle.order_spec.proofs.answer.Answer.{the-type}
+use Rattle.order_spec.proofs.answer.OrderAnswer.{the-type}
 use Rattle.order_spec.specs.Writes.{treeOf, contextAfter}
 use Rattle.order_spec.specs.Answered.{Asked, orderAccepted, orderIs, orderTree, orderContext, answerTo, unframedOrder, orderRecords}
 use Rattle.records.proofs.ContextsRead.{context-long}
 use Rattle.order_check.proofs.Leaving.{after-long}
 use Rattle.order.specs.Answers.{AnswersOrder}
-use Rattle.order.specs.Answers as answering
+use Rattle.order.specs.Answers as orders
 use Rattle.channel_step.specs.declared.channel.Channel as code
 use Rattle.channel_step.specs.Playing.{Channel, fresh, isAccepted, channelOf, shapeIn, askingOn, Plays, Stays, unframedOn, SameShape, PlaysIn}
 use Rattle.order_spec.proofs.Accepting.{good-context, taken}
@@ -175,7 +175,7 @@ module _ {g : Shape} (ch : Channel) (q : Asked) (words : ℕ → ℕ) {r : Order
 
 -- the room of a frame
 pub in-shape : {f : Shaped} {g : Shape} {context order bindings : List ℕ} {counter : ℕ} {r : OrderAnswer} {o o′ a a′ : List ℕ} → f ≡ In g → length a ≡ 8 * mostVariables g
-    → AnswersOrder f context (answering.asking order bindings counter o a) r o o′ a a′ → AnswersOrder (In g) context (askingOn g order bindings counter o) r o o′ a a′
+    → AnswersOrder f context (orders.asking order bindings counter o a) r o o′ a a′ → AnswersOrder (In g) context (askingOn g order bindings counter o) r o o′ a a′
 in-shape e l w = rw (e, l) at w
 
 -- an edition and a frame are kept
@@ -185,8 +185,8 @@ same-channel e = record { edition = ap (λ (z : code.Channel). z .edition) e; fr
 -- by the channel's edition and frame
 module _ {c : code.Channel} {order bindings : List ℕ} {counter : ℕ} {r : OrderAnswer} {o o′ : List ℕ} where
   -- what the answer leaves where there is no such frame, whatever room is lent for the context
-  pub refused-stays : {a a′ : List ℕ} → shapeIn c ≡ NoFrame → AnswersOrder (shapeIn c) (take (c .used) (c .context)) (answering.asking order bindings counter o a) r o o′ a a′
-      → (heap : List ℕ) → Stays c (unframedOn c (answering.asking order bindings counter o [])) c heap heap r (Ended 0) o o′
+  pub refused-stays : {a a′ : List ℕ} → shapeIn c ≡ NoFrame → AnswersOrder (shapeIn c) (take (c .used) (c .context)) (orders.asking order bindings counter o a) r o o′ a a′
+      → (heap : List ℕ) → Stays c (unframedOn c (orders.asking order bindings counter o [])) c heap heap r (Ended 0) o o′
   unfolding unframedOrder
   refused-stays e w heap =
       let s = rw e at w in
@@ -197,7 +197,7 @@ module _ {c : code.Channel} {order bindings : List ℕ} {counter : ℕ} {r : Ord
         → PlaysIn c order bindings counter words c′ heap heap′ r x o o′
     plays-known e k p = record { same-shape = k; known = λ h f. rw (same-shape e f) at p; no-frame = λ f. framed f e; no-edition = λ f. known f e }
 
-    pub plays-unframed : shapeIn c ≡ NoFrame → Stays c (unframedOn c (answering.asking order bindings counter o [])) c′ heap heap′ r x o o′
+    pub plays-unframed : shapeIn c ≡ NoFrame → Stays c (unframedOn c (orders.asking order bindings counter o [])) c′ heap heap′ r x o o′
         → PlaysIn c order bindings counter words c′ heap heap′ r x o o′
     plays-unframed e s = record { same-shape = same-channel (s .channel); known = λ h f. framed e f; no-frame = λ f. s; no-edition = λ f. one-cause e f }
 

@@ -1,4 +1,4 @@
--- A list of orders as bytes: each order's 24 bytes, and after a load the bytes of its n bindings. From document 01, 'Order record'.
+-- A list of orders as bytes: each order's 24 bytes, and after a load the bytes of its n bindings. From the scope, 'Order record'.
 use Prim.Native.Nat.{ℕ, _+_, _*_, _≤_, _<_}
 use mathlib.Core.Path.{_≡_}
 use mathlib.Core.List.{List}

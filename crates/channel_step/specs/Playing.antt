@@ -1,4 +1,4 @@
--- One order played on a channel: what it is answered, the run of its records, and the channel after it. From document 01, 'Order record' and 'Machine'.
+-- One order played on a channel: what it is answered, the run of its records, and the channel after it. From the scope, 'Order record' and 'Machine'.
 -- `answerTo`, `orderRecords` and `orderContext` are what the contract of the order function cites, and `ran` is what the contract of the machine's run cites.
 use Prim.Native.Nat.{ℕ, _*_}
 use mathlib.Core.Path.{_≡_}
@@ -20,7 +20,7 @@ use Rattle.machine.specs.Run as machine
 use Rattle.order_spec.specs.declared.answer.OrderAnswer.{OrderAnswer}
 use Rattle.order_spec.specs.declared.answer.OrderAnswer.the-variants.{Edition}
 use Rattle.order_spec.specs.Answered.{Asked, orderAnswerCause, orderAccepted, orderTree, orderContext, answerTo, unframedOrder, orderRecords, recordsOutput}
-use Rattle.order.specs.Answers as answering
+use Rattle.order.specs.Answers as orders
 use Rattle.channel_step.specs.declared.channel.Channel as code
 
 -- the context that was answered last, and the registers, stack and heap that the last run left
@@ -100,5 +100,5 @@ pub record SameShape (c c′ : code.Channel) : Type 0 where
 pub record PlaysIn (c : code.Channel) (order bindings : List ℕ) (counter : ℕ) (words : ℕ → ℕ) (c′ : code.Channel) (heap heap′ : List ℕ) (r : OrderAnswer) (a : RunAnswer) (o o′ : List ℕ) : Type 0 where
   pub same-shape : SameShape c c′
   pub known : (g : Shape) → shapeIn c ≡ In g → Plays g (channelOf g c heap) (askingOn g order bindings counter o) words (channelOf g c′ heap′) r a o o′
-  pub no-frame : shapeIn c ≡ NoFrame → Stays c (unframedOn c (answering.asking order bindings counter o [])) c′ heap heap′ r a o o′
+  pub no-frame : shapeIn c ≡ NoFrame → Stays c (unframedOn c (orders.asking order bindings counter o [])) c′ heap heap′ r a o o′
   pub no-edition : shapeIn c ≡ NoEdition → Stays c Edition c′ heap heap′ r a o o′

@@ -9,7 +9,7 @@ ghost use Rattle.layout.specs.Config.{Supported, shapeOf, inFrame, stackDepth, 
 ghost use Rattle.machine_step.specs.View.{view, wordsOf};
 ghost use Rattle.machine.specs.State.{freshRegisters};
 ghost use Rattle.machine.specs.Run.{ran, Leaves};
-ghost use Rattle.order.specs.Answers as answering;
+ghost use Rattle.order.specs.Answers as orders;
 ghost use Rattle.channel_step.specs.Playing as is;
 use layout::config;
 use layout::config::Choice;
@@ -90,7 +90,7 @@ fn ask(
     order: &[u8],
     bindings: &[u8],
 ) -> OrderAnswer
-    ensures { λ r. ⌜ answering.AnswersOrder (shapeOf edition frame) (take used (now (context .entry))) (answering.asking (now (order .entry)) (now (bindings .entry)) counter (now («records_out» .entry)) (now («context_out» .entry))) r (now («records_out» .entry)) (now («records_out» .exit)) (now («context_out» .entry)) (now («context_out» .exit)) ⌝ }
+    ensures { λ r. ⌜ orders.AnswersOrder (shapeOf edition frame) (take used (now (context .entry))) (orders.asking (now (order .entry)) (now (bindings .entry)) counter (now («records_out» .entry)) (now («context_out» .entry))) r (now («records_out» .entry)) (now («records_out» .exit)) (now («context_out» .entry)) (now («context_out» .exit)) ⌝ }
 {
     if used <= context.len() {
         return order::order::order(
@@ -212,7 +212,7 @@ fn refuse(
     bindings: &[u8],
 ) -> Played
     requires { ⌜ is.shapeIn channel ≡ NoFrame ⌝ }
-    ensures { λ r. ⌜ ((heap : List ℕ) → is.Stays channel (is.unframedOn channel (answering.asking (now (order .entry)) (now (bindings .entry)) counter (now («records_out» .entry)) [])) (r .channel) heap heap (r .answer) (r .ran) (now («records_out» .entry)) (now («records_out» .exit))) ⌝ }
+    ensures { λ r. ⌜ ((heap : List ℕ) → is.Stays channel (is.unframedOn channel (orders.asking (now (order .entry)) (now (bindings .entry)) counter (now («records_out» .entry)) [])) (r .channel) heap heap (r .answer) (r .ran) (now («records_out» .entry)) (now («records_out» .exit))) ⌝ }
 {
     let context = channel.context;
     let mut none = [0u8; 1];

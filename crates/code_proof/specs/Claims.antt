@@ -1,4 +1,4 @@
--- What the crate promises, for every supported shape: the bytes that code.rs's operations write do on document 01's machine what they name, for every operand that a caller
+-- What the crate promises, for every supported shape: the bytes that code.rs's operations write do on the scope's machine what they name, for every operand that a caller
 -- may give (registers 4..15 and the frame's spills from 1, the target equal to a source included), with STACK where the routine's setup leaves it; and jumps go where they name
 -- in every list of records. An operand is a word, register r is r and spill p is 16 + p; `held c l` is the word at operand l. Words are any numbers: sums, differences and
 -- products are taken modulo 2^64 whatever the operands hold.

@@ -1,4 +1,4 @@
-// What the records of code.rs's operations do on document 01's machine.
+// What the records of code.rs's operations do on the scope's machine.
 // Each promise is the claim of a function that does nothing: its statement is in specs/Claims.antt, and its proof cites the theorem.
 ghost use Rattle.code_proof.specs.Claims.{JumpsWhereItNames, LabelDoesNothing, RunsAsItNames};
 

@@ -1,5 +1,5 @@
 -- What an operation answers and leaves in its output, where nothing but the labels or the room can refuse it, and where there is no such frame.
--- From document 01, 'Causes and numbers', and document 02, Job 2: 15 to 17 before 3, 9 before 10, a refusal writes nothing, output bytes past the records stay.
+-- From the scope, 'Causes and numbers', and the scope, 'Job 2': 15 to 17 before 3, 9 before 10, a refusal writes nothing, output bytes past the records stay.
 use Prim.Native.Nat.{ℕ, _+_, _/_}
 use mathlib.Core.Bool.{Bool, true, false, cond}
 use mathlib.Core.Path.{_≡_}
@@ -15,7 +15,7 @@ use Rattle.emit.specs.declared.answer.Answer.{Answer}
 use Rattle.emit.specs.declared.answer.Answer.the-variants.{Written, Context, Body, Operand, Missing, Arguments, Count, Position, Labels, Room, Edition}
 use Rattle.records.specs.Names.{lastLabel}
 
--- document 01's number and values for each answer: 0, with the records and the counter after them, where they are written
+-- the scope's number and values for each answer: 0, with the records and the counter after them, where they are written
 abbrev pub causeOf : Answer → List ℕ
 causeOf (Written n counter) = ACCEPTED ∷ n ∷ counter ∷ []
 causeOf (Context flaw) = flawCause flaw
@@ -55,7 +55,7 @@ accepted Edition = false
 abbrev pub output : Answer → List ℕ → List Code → List ℕ
 output r o cs = cond (accepted r) (sets o 0 (joined codeBytes cs)) o
 
--- what a public operation ensures: its answer r is the one expected, with document 01's number and values, and the output holds the records cs if it is written
+-- what a public operation ensures: its answer r is the one expected, with the scope's number and values, and the output holds the records cs if it is written
 pub record Answers (o o′ : List ℕ) (r expected : Answer) (cs : List Code) : Type 0 where
   pub answer : r ≡ expected
   pub cause : causeOf r ≡ causeOf expected

@@ -1,3 +1,3 @@
 // Emission: records written into a lent output, and what an operation that writes them answers.
 pub mod cursor; // records in a row
-pub mod answer; // the answer, by document 01's numbers
+pub mod answer; // the answer, by the scope's numbers

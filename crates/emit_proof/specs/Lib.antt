@@ -1,2 +1,2 @@
--- What the port writes is read back the same. No lemma stands here.
+-- What the port writes is read back the same.
 pub mod Claims  -- what is promised

@@ -1,4 +1,4 @@
--- Values held with the blocks that links name told apart from those that values name: `linked` is 1 at the former. This is more than document 01 asks of a value that is held;
+-- Values held with the blocks that links name told apart from those that values name: `linked` is 1 at the former. This is more than the scope asks of a value that is held;
 -- which blocks `linked` marks is the proof's to say, and to say more would only ask for more.
 use mathlib.Core.Path.{_≡_}
 use mathlib.Core.Logic.{_≢_}

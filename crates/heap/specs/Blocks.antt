@@ -1,5 +1,5 @@
 -- Blocks, their two words of a field, and the heap as an abstract memory with the heads of its two free lists.
--- From document 01, 'A block is 64 bytes'; where blocks lie and how many fields they have stay open.
+-- From the scope, 'Blocks and objects'; where blocks lie and how many fields they have stay open.
 use mathlib.Core.Path.{_≡_}
 use mathlib.Core.Logic.{_≢_}
 use mathlib.Core.List.{List, [], _∷_}

@@ -1,4 +1,4 @@
--- What the crate promises: after every list of orders from the fresh heap, the heap is sound in document 01's sense, each variable holds its value,
+-- What the crate promises: after every list of orders from the fresh heap, the heap is sound in the scope's sense, each variable holds its value,
 -- and the frontier is one past the most blocks that the variables led to at once.
 -- The number of fields in a block, the blocks' addresses and the chunk sizes of an object are any.
 use mathlib.Core.Path.{_≡_}
@@ -45,7 +45,7 @@ pub record FirstNeverUsed (L : Layout) (states : List HeapState) (frontier : ℕ
   pub below : (i : ℕ) → i < frontier → Some (Used L (L .address i)) states
   pub above : (i : ℕ) → frontier ≤ i → Every (Unused L (L .address i)) states
 
--- Beyond what document 01 asks: extras, on which nothing else of a claim rests. The blocks that links name are told apart; the variables lead to one number of blocks; no count
+-- Beyond what the scope asks: extras, on which nothing else of a claim rests. The blocks that links name are told apart; the variables lead to one number of blocks; no count
 -- is larger than the variables and all fields could name.
 pub record HeapBeyond (sizes : ℕ → List ℕ) (L : Layout) (now : HeapState) (frontier : ℕ) (sound : SoundState L frontier now) : Type 0 where
   pub links : LinksApart sizes (now .memory) (now .variables) (now .values) (sound .lazy) (sound .held)
@@ -54,7 +54,7 @@ pub record HeapBeyond (sizes : ℕ → List ℕ) (L : Layout) (now : HeapState) 
   pub reachable-unique : (count : ℕ) → ReachableCount (now .memory .fields) (pointers (now .variables)) count → count ≡ reachable
   pub count-bounded : (most b : ℕ) → ((x : ℕ) → length (now .memory .fields x) ≤ most) → occ b (sound .held) ≢ 0 → now .memory .header b < length (now .variables) + most * frontier
 
--- what holds after a list of orders: what document 01 asks, and what is proved beyond it
+-- what holds after a list of orders: what the scope asks, and what is proved beyond it
 pub record HeapAfter (sizes : ℕ → List ℕ) (L : Layout) (past : List HeapState) (now : HeapState) : Type 0 where
   pub frontier : ℕ
   pub sound : SoundState L frontier now

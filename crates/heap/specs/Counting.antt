@@ -1,5 +1,5 @@
 -- How often an address stands in a list of addresses, and how often the fields of a list of blocks name it.
--- The sets of document 01 (linear list, lazy list, held blocks) and its reference counts are stated by these numbers, so that each proof is arithmetic.
+-- The sets of the scope (linear list, lazy list, held blocks) and its reference counts are stated by these numbers, so that each proof is arithmetic.
 use mathlib.Core.List.{List, [], _∷_}
 use Prim.Native.Nat.{ℕ, _+_}
 use mathlib.Core.Bool.{cond}

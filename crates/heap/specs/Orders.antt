@@ -1,5 +1,5 @@
 -- The orders' effect on variables and heap, the plain machine beside it, and runs of orders from the fresh heap.
--- From document 01, 'Order record' and 'Plain machine of demand 3'. A compute appends an integer as put does; print and refused orders change nothing.
+-- From the scope, 'Order record' and 'Plain machine of demand 3'. A compute appends an integer as put does; print and refused orders change nothing.
 use mathlib.Core.Path.{_≡_}
 use mathlib.Core.Logic.{_⊎_}
 use mathlib.Core.List.{List, [], _∷_, _++_}

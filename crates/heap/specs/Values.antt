@@ -1,5 +1,5 @@
 -- The plain machine's values, and what it means that a variable or a field holds one.
--- From document 01, 'Plain machine of demand 3': linked holds its tag in Snd and its list by Fst, 0 if empty, else the object.
+-- From the scope, 'Plain machine of demand 3': linked holds its tag in Snd and its list by Fst, 0 if empty, else the object.
 use mathlib.Core.Bool.{Bool, true, false}
 use mathlib.Core.Path.{_≡_}
 use mathlib.Core.Logic.{_≢_}

@@ -1,5 +1,5 @@
 -- The abstract memory that the lent heap's words show: blocks of some number of fields, from address 65,536.
--- From document 01, 'A block is 64 bytes': count or next pointer first, one word unused, then Fst and Snd of each field. Words are numbered from the heap's first.
+-- From the scope, 'Blocks and objects': count or next pointer first, one word unused, then Fst and Snd of each field. Words are numbered from the heap's first.
 use mathlib.Core.List.{List, [], _∷_}
 use Prim.Native.Nat.{ℕ, zero, suc, _+_, _-_, _*_, _/_}
 use mathlib.Core.Bool.{cond}

@@ -1,4 +1,4 @@
-// The heap of document 01 as a theory: blocks, free lists, reference counts, reachability and values held, with no machine in it.
+// The heap of the scope as a theory: blocks, free lists, reference counts, reachability and values held, with no machine in it.
 // Each promise is the claim of a function that does nothing: its statement is in specs/Claims.antt, and its proof cites the theorem.
 ghost use Rattle.heap.specs.Claims.{AbstractHeapStaysSound, AbstractFrontierIsPeak, RunsExist};
 

@@ -1,4 +1,4 @@
--- The blocks of the lent heap, counted by their first words, and the heap to fit for the peak that they show. From document 01, the lines on the heap in 'Instruction record'; a block has as many fields as its edition says.
+-- The blocks of the lent heap, counted by their first words, and the heap to fit for the peak that they show. From the scope, 'Blocks and objects'; a block has as many fields as its edition says.
 -- What does not end within as many steps as there are blocks is cut off there; in a sound heap everything ends before.
 use Prim.Native.Nat.{ℕ, zero, suc, _+_, _*_, _-_, _/_}
 use mathlib.Core.Bool.{cond}

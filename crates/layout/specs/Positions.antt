@@ -1,4 +1,4 @@
--- The operand of each position. From document 01, 'Binding record': variable i has positions 2i (Fst) and 2i+1 (Snd);
+-- The operand of each position. From the scope, 'Binding record': variable i has positions 2i (Fst) and 2i+1 (Snd);
 -- positions 0..11 are registers 4..15, 12 and up are spills 1 and up, and past the last spill there is none.
 use Prim.Native.Nat.{ℕ, _+_, _<_}
 use mathlib.Core.Path.{_≡_}
@@ -33,7 +33,7 @@ operandOk g w = leb 4 w && ltb w (operands g) && (ltb w 16 || ltb 16 w)
 unfoldable pub positionAnswer : Shape → ℕ → Temporary
 positionAnswer g p = cond (ltb p (positions g)) (Operand (location p)) OutOfTemporaries
 
--- document 01's number for each answer: 0, with the operand, where there is one
+-- the scope's number for each answer: 0, with the operand, where there is one
 abbrev pub temporaryCause : Temporary → List ℕ
 temporaryCause (Operand w) = ACCEPTED ∷ w ∷ []
 temporaryCause (Context flaw) = flawCause flaw

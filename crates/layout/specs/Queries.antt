@@ -1,4 +1,4 @@
--- The temporaries of a variable, and where spills and fields stand, as callers ask for them. From document 01: equal ids, `variable_temporary` takes the
+-- The temporaries of a variable, and where spills and fields stand, as callers ask for them. From the scope: equal ids, `variable_temporary` takes the
 -- first; `fresh_temporary` is past the last; a spill that the frame lacks, and spill 0, is 3.
 use Prim.Native.Nat.{ℕ, zero, suc, _+_, _*_}
 use mathlib.Core.Bool.{_&&_, cond}
@@ -50,7 +50,7 @@ wordOffset Snd i = sndOffset i
 unfoldable pub fieldOffset : Shape → TemporaryNumber → ℕ → Offset
 fieldOffset g number i = cond (ltb i (g .fields)) (At (wordOffset number i)) Operand
 
--- document 01's number for each answer: 0, with the offset, where there is one
+-- the scope's number for each answer: 0, with the offset, where there is one
 abbrev pub offsetCause : Offset → List ℕ
 offsetCause (At bytes) = ACCEPTED ∷ bytes ∷ []
 offsetCause Operand = OPERAND ∷ []

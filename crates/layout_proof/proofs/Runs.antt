@@ -30,7 +30,7 @@ module _ {words : ℕ → ℕ} where
   weaken f r = record { to = r .to; run = r .run; post = f (r .to) (r .post) }
 
   pub so : {t : Tree} {c : Config} {Q R : Config → Type 0} → Does words t c Q → ((d : Config) → Q d → R d) → Does words t c R
-  so r f = record { to = r .to; run = r .run; post = f (r .to) (r .post) }
+  so r f = weaken f r
 
   -- after a compare of x and y
   module _ {code : Code} {p : straight code ≡ true} {c : Config} {x y : ℕ} {Q : Config → Type 0} (w : step words code c ≡ next (withPair c x y)) where

@@ -1,4 +1,4 @@
--- The listing of a list of instruction records, and what the lister prints. From document 01, 'Worked numbers' (the lister) and
+-- The listing of a list of instruction records, and what the lister prints. From the scope, 'Worked numbers' (the lister) and
 -- 'Causes and numbers'. The names of the codes are a parameter; those of the Rust stand in `Names`.
 use Prim.Native.Nat.{ℕ, zero, suc, _*_, _-_}
 use mathlib.Core.Bool.{cond}
@@ -56,7 +56,7 @@ listedText names s = textOf names s (checkedList s)
 abbrev pub listed : List (List ℕ) → List ℕ → ℕ → Listed
 listed names s room = listingAnswer names s room (checkedList s)
 
--- document 01's number and values for each answer: 0, with the bytes of the listing, where it is written
+-- the scope's number and values for each answer: 0, with the bytes of the listing, where it is written
 abbrev pub listingCause : Listed → List ℕ
 listingCause (Text size) = ACCEPTED ∷ size ∷ []
 listingCause (Malformed place) = MALFORMED ∷ place ∷ []

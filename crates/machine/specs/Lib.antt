@@ -1,4 +1,4 @@
--- What the contracts of `machine` cite, from document 01, 'Machine'. No lemma stands here.
+-- What the contracts of `machine` cite, from the scope, 'Machine'.
 pub mod State  -- the state, at entry and where the body of a routine starts
 pub mod Trial  -- one instruction tried alone
 pub mod Run  -- a list of records, run with a step limit

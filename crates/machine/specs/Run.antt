@@ -1,4 +1,4 @@
--- A list of records, run from the first to its end, a fault or the step limit. From document 01, 'Machine' and rows 2, 11 and 12 of 'Causes and numbers'.
+-- A list of records, run from the first to its end, a fault or the step limit. From the scope, 'Machine' and rows 2, 11 and 12 of 'Causes and numbers'.
 use Prim.Native.Nat.{ℕ, zero, suc}
 use mathlib.Core.Path.{_≡_}
 use mathlib.Core.Bool.{Bool, cond}
@@ -87,7 +87,7 @@ ran block words s limit v =
     (onChecked (checkedCodes 65536 s) (λ n. started words (codesOf n s) limit v) (λ place. done (Malformed place) (starting v)))
     (done (Malformed 0) (starting v))
 
--- document 01's number and values for each answer: 0, with the steps, where the run ended
+-- the scope's number and values for each answer: 0, with the steps, where the run ended
 abbrev pub runCause : RunAnswer → List ℕ
 runCause (Ended steps) = ACCEPTED ∷ steps ∷ []
 runCause (Malformed place) = MALFORMED ∷ place ∷ []

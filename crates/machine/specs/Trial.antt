@@ -1,4 +1,4 @@
--- One instruction tried alone, on a heap of any size and with operands that no record may hold. From document 01, 'Causes and numbers', rows 2 and 11.
+-- One instruction tried alone, on a heap of any size and with operands that no record may hold. From the scope, 'Causes and numbers', rows 2 and 11.
 use Prim.Native.Nat.{ℕ}
 use mathlib.Core.Bool.{cond}
 use mathlib.Core.List.{List, [], _∷_}
@@ -13,7 +13,7 @@ use Rattle.machine_step.specs.Step.{Call, Config, config, Outcome, next, jump, 
 use Rattle.machine.specs.declared.step.Tried.{Tried}
 use Rattle.machine.specs.declared.step.Tried.the-variants.{Took, Malformed}
 
--- document 01's 2, with place 0 for a heap that may not be lent and place 1 for an instruction that no record may hold
+-- the scope's 2, with place 0 for a heap that may not be lent and place 1 for an instruction that no record may hold
 pub data Trial : Type 0 where
   took : Outcome → Trial
   refused : ℕ → Config → Trial
@@ -25,7 +25,7 @@ abbrev pub trialOf : Tried → View → Compared → List Call → Trial
 trialOf (Took w) s q calls = took (outcomeOf w s q calls)
 trialOf (Malformed place) s q calls = refused place (config s q calls)
 
--- document 01's number and values: 0 where the instruction is performed; a fault comes after no step, at place 1
+-- the scope's number and values: 0 where the instruction is performed; a fault comes after no step, at place 1
 abbrev pub stepCause : Trial → List ℕ
 stepCause (took (next c)) = ACCEPTED ∷ []
 stepCause (took (jump label c)) = ACCEPTED ∷ []

@@ -19,7 +19,7 @@ use records::check::Checked;
 use records::code;
 use records::code::CodeRead;
 
-// The steps of a run that ended; document 01's 2 with the place; 11 with the steps before the fault and the record's place; 12 with the limit.
+// The steps of a run that ended; the scope's 2 with the place; 11 with the steps before the fault and the record's place; 12 with the limit.
 pub enum RunAnswer {
     Ended(u64),
     Malformed(usize),
@@ -230,7 +230,7 @@ fn steps(
     RunAnswer::Ended(done)
 }
 
-// Document 01's run, where a block has so many words. Each step takes the state and returns it, `words` are what print calls leave, and the answer stands
+// The scope's run, where a block has so many words. Each step takes the state and returns it, `words` are what print calls leave, and the answer stands
 // beside the last state.
 pub fn run(
     block: usize,

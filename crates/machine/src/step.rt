@@ -25,7 +25,7 @@ use machine_step::memory;
 use records::code::Code;
 use records::code::Fields;
 
-// An instruction tried alone. Malformed is document 01's 2: place 0 for the heap, 1 for the instruction.
+// An instruction tried alone. Malformed is the scope's 2: place 0 for the heap, 1 for the instruction.
 pub enum Tried {
     Took(Went),
     Malformed(usize),

@@ -1,4 +1,4 @@
--- What the contracts of `instructions` cite, from document 01, 'Machine'. No lemma stands here.
+-- What the contracts of `machine_step` cite, from the scope, 'Machine'.
 pub mod View  -- registers, stack and heap as functions from a number to a word
 pub mod Memory  -- where an address lies, and what is read and written there
 pub mod Step  -- one instruction, name by name

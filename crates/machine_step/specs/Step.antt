@@ -1,4 +1,4 @@
--- One instruction: what each of the 44 does, name by name, in the Intel manual's words. From document 01, 'Machine'.
+-- One instruction: what each of the 44 does, name by name, in the Intel manual's words. From the scope, 'Machine'.
 -- An instruction either changes the configuration whole or faults and leaves it as it was.
 use Prim.Native.Nat.{ℕ, _%_}
 use mathlib.Core.Bool.{Bool, not, _&&_, _||_, cond}

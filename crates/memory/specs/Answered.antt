@@ -1,4 +1,4 @@
--- What the operations of memory.rs answer. From document 01, 'Causes and numbers', in rising order.
+-- What the operations of memory.rs answer. From the scope, 'Causes and numbers', in rising order.
 use Prim.Native.Nat.{ℕ, _*_, _-_}
 use mathlib.Core.Bool.{cond}
 use mathlib.Core.List.{List, []}

@@ -1,4 +1,4 @@
--- What each operation writes and answers. From document 01, 'Causes and numbers': 3 for an operand, a label or a frame, then 10 for the room.
+-- What each operation writes and answers. From the scope, 'Causes and numbers': 3 for an operand, a label or a frame, then 10 for the room.
 use Prim.Native.Nat.{ℕ, _*_}
 use mathlib.Core.Bool.{Bool, _&&_, cond}
 use mathlib.Core.List.{List, [], _∷_}

@@ -1,4 +1,4 @@
--- The causes of document 01 from 4 on, by an order that is read: what `decided` of the orders says, with the order in place of its bytes.
+-- The causes of the scope from 4 on, by an order that is read: what `decided` of the orders says, with the order in place of its bytes.
 use Prim.Native.Nat.{ℕ, _+_, _*_, _/_}
 use mathlib.Core.Path.{_≡_}
 use mathlib.Core.Bool.{cond}

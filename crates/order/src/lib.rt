@@ -1,2 +1,2 @@
-// The seven orders of document 01 answered: an order's bytes go in with a context, a label counter and bindings; its records and the context after it come out.
+// The seven orders of the scope answered: an order's bytes go in with a context, a label counter and bindings; its records and the context after it come out.
 pub mod order; // the order as its bytes, answered

@@ -1,4 +1,4 @@
-// What an order asks, by the causes of document 01: the bindings that follow it, its places, their kinds, its count, its positions.
+// What an order asks, by the causes of the scope: the bindings that follow it, its places, their kinds, its count, its positions.
 ghost use mathlib.Core.Path.{_≡_};
 ghost use mathlib.Core.Bool.{true, not, _&&_, cond};
 ghost use mathlib.Core.List.{List};

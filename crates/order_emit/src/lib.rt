@@ -1,2 +1,2 @@
-// The seven orders of document 01 written: the records of each.
+// The seven orders of the scope written: the records of each.
 pub mod emitters; // the records

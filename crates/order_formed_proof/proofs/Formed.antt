@@ -1,5 +1,5 @@
 -- Trees whose records are well formed: each straight record and each compare. The labels are drawn only when the tree is flattened.
--- From document 01, 'Instruction record': registers 0 to 15, labels that are held, offsets and values of 64 bits.
+-- From the scope, 'Instruction record': registers 0 to 15, labels that are held, offsets and values of 64 bits.
 use mathlib.Core.Path.{_≡_}
 use mathlib.Core.Bool.{true}
 use Rattle.records.specs.declared.code.Code.{Code}

@@ -1,4 +1,4 @@
--- Lemmas.
+-- The records of operations, prints and orders are well formed, so that their bytes run as they do.
 pub mod Formed  -- which trees have well-formed records
 pub mod Codes  -- an instruction is well formed by the bounds of its operands
 pub mod Records  -- the records of a tree, with its labels, are well formed

@@ -1,4 +1,4 @@
--- What an order is answered with, on every input. From document 01, 'Causes and numbers', in rising order, and document 02, Job 2: 15 to 17, for the context and then for
+-- What an order is answered with, on every input. From the scope, 'Causes and numbers', in rising order, and the scope, 'Job 2': 15 to 17, for the context and then for
 -- the bindings, come before 2.
 use Prim.Native.Nat.{ℕ, _+_, _*_, _/_}
 use mathlib.Core.Bool.{Bool, true, false, cond}
@@ -20,7 +20,7 @@ use Rattle.order_spec.specs.declared.answer.OrderAnswer.the-variants.{Ac
 use Rattle.order_spec.specs.Writes.{countOk, treeOf, contextAfter, present, kindsOk, asked}
 use Rattle.records.specs.Names.{lastLabel}
 
--- document 01's number and values for each answer: 0, with the records, the bindings and the counter after them, where the order is accepted
+-- the scope's number and values for each answer: 0, with the records, the bindings and the counter after them, where the order is accepted
 abbrev pub orderAnswerCause : OrderAnswer → List ℕ
 orderAnswerCause (Accepted records counter bindings) = ACCEPTED ∷ records ∷ bindings ∷ counter ∷ []
 orderAnswerCause (Context flaw) = flawCause flaw

@@ -1,4 +1,4 @@
--- The plain machine that never frees, fed the orders that were accepted. From document 01, 'Plain machine of demand 3'.
+-- The plain machine that never frees, fed the orders that were accepted. From the scope, 'Plain machine of demand 3'.
 use Prim.Native.Nat.{ℕ, _-_}
 use mathlib.Core.Path.{_≡_}
 use mathlib.Core.Bool.{true}

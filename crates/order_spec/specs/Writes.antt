@@ -1,4 +1,4 @@
--- What each order writes, which context it leaves, and what it asks of the context before. From document 01, 'Order record'.
+-- What each order writes, which context it leaves, and what it asks of the context before. From the scope, 'Order record'.
 -- `context` is the bytes of k bindings, `bindings` those that follow a load; variables go by place, from 0, and a made variable's id is its place.
 use Prim.Native.Nat.{ℕ, zero, suc, _+_, _*_, _-_}
 use mathlib.Core.Bool.{Bool, true, not, _&&_, cond}

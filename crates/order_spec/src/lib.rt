@@ -1,2 +1,2 @@
-// The seven orders of document 01: what each writes and answers, and the claim that the heap stays sound for every list of them.
+// The seven orders: what each writes, asks for and answers, and the plain machine beside them.
 pub mod answer; // what an order is answered with

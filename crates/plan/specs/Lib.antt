@@ -1,4 +1,4 @@
--- What the contracts of `planning` cite, in reading order, after `wording`'s.
+-- What the contracts of `plan` cite, in reading order, after `plan_line`'s.
 pub mod Plan  -- the records of a text, and the answer
 pub mod Messages  -- what is wrong with a line, in words
 pub mod Reading  -- the claim that plans are read back

@@ -1,4 +1,4 @@
--- What the contracts of `wording` cite, in reading order.
+-- What the contracts of `plan_line` cite, in reading order.
 pub mod Words  -- the lines of a text, the words of a line
 pub mod Numbers  -- the number of a word
 pub mod Orders  -- the order of a line's words

@@ -1,4 +1,4 @@
-// The operations of code.rs, memory.rs and into_routine.rs for C and Rust. Each answers document 01's number, 0 where its records are written;
+// The operations of code.rs, memory.rs and into_routine.rs for C and Rust. Each answers the scope's number, 0 where its records are written;
 // the value beside it is how many they are, the place of a bad record, or the bytes needed. An operation goes by a number.
 ghost use mathlib.Core.Path.{_≡_};
 ghost use lib.ListN.{length};

@@ -1,4 +1,4 @@
-// The library for C and Rust. A function answers document 01's number, 0 where its input is accepted; a value goes out beside it.
+// The library for C and Rust. A function answers the scope's number, 0 where its input is accepted; a value goes out beside it.
 ghost use mathlib.Core.Path.{_≡_};
 ghost use mathlib.Core.List.{[], _∷_};
 ghost use lib.ListN.{length, replicate};
@@ -15,7 +15,7 @@ ghost use Rattle.port.specs.Run.{startState, StartsRun, unrun, Gives};
 pub mod check; // bytes checked: a context, instruction records, an order
 pub mod emission; // the operations of code.rs, memory.rs and into_routine.rs
 pub mod query; // the queries of utils.rs and config.rs
-pub mod order; // the seven orders
+pub mod orders; // the seven orders
 
 use layout::config;
 use layout::config::Choice;
@@ -98,7 +98,7 @@ fn unrun(block: usize, records: &[u8], heap: usize, steps: &mut u64, place: &mut
     }
 }
 
-// Document 01's run on a lent state, a heap of the edition's blocks and print words: the answer's number, with the steps and the record's place that go with it.
+// The scope's run on a lent state, a heap of the edition's blocks and print words: the answer's number, with the steps and the record's place that go with it.
 #[no_mangle]
 pub extern "C" fn axcut_run(
     edition: u64,

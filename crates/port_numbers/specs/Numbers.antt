@@ -1,4 +1,4 @@
--- An answer as two numbers: document 01's number, 0 where the input is accepted, and the value that goes with it.
+-- An answer as two numbers: the scope's number, 0 where the input is accepted, and the value that goes with it.
 use Prim.Native.Nat.{ℕ}
 use mathlib.Core.List.{List, [], _∷_}
 use lib.ListN.{getD}

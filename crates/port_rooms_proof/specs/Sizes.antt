@@ -1,5 +1,5 @@
 -- How many records an order has at most, by the number of variables that it stores, loads or makes, and the sizes of buffers that include/axcut.h
--- recommends for each frame. From document 01, 'Binding record' and 'Instruction record', and memory.rs.
+-- recommends for each frame. From the scope, 'Binding record' and 'Instruction record', and memory.rs.
 use Prim.Native.Nat.{ℕ, _+_, _*_, _-_}
 use mathlib.Core.List.{List, []}
 use lib.ListN.{replicate}

@@ -1,4 +1,4 @@
--- Document 01's worked numbers on print, and records that the Rust gives.
+-- The scope's worked numbers on print, and records that the Rust gives.
 use mathlib.Core.Path.{_≡_, refl}
 use mathlib.Core.Bool.{true, false}
 use mathlib.Core.List.{[], _∷_}

@@ -1,4 +1,4 @@
--- What print_i64 writes and answers. From code.rs, print_i64, save_caller_save_registers and restore_caller_save_registers, and document 01:
+-- What print_i64 writes and answers. From code.rs, print_i64, save_caller_save_registers and restore_caller_save_registers, and the scope:
 -- 'An even count of pushes, zero included, subtracts 8 from STACK'. Causes: 15 to 17 the context, then 3 the frame or the source, 10 the room; no labels are drawn.
 use Prim.Native.Nat.{ℕ, _+_, _*_, _-_, _%_}
 use mathlib.Core.Path.{_≡_, refl}

@@ -1,4 +1,4 @@
-// What print_i64's records do on document 01's machine.
+// What print_i64's records do on the scope's machine.
 // The promise is the claim of a function that does nothing: its statement is in specs/Claims.antt, and its proof cites the theorem.
 ghost use Rattle.print_i64_proof.specs.Claims.{PrintKeepsAllVariables};
 

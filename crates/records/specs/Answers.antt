@@ -1,4 +1,4 @@
--- What a function ensures whose answer is an enum. From document 01, 'The shape of some places': a definition gives the paper's number and values for each case.
+-- What a function ensures whose answer is an enum. From the scope, 'Forms': a definition gives the paper's number and values for each case.
 use Prim.Native.Nat.{ℕ}
 use mathlib.Core.Path.{_≡_}
 use mathlib.Core.List.{List}

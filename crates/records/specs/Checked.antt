@@ -1,5 +1,5 @@
 -- The first bad or surplus record of a list of bytes, for records of any kind and size.
--- From document 01: 'The place is the first bad or surplus record's', 'record places count from 1'.
+-- From the scope: 'The place is the first bad or surplus record's', 'record places count from 1'.
 use Prim.Native.Nat.{ℕ, zero, suc, _+_, _*_, _-_, _/_}
 use mathlib.Core.Bool.{Bool, _&&_, cond}
 use mathlib.Core.List.{List, [], _∷_}
@@ -28,7 +28,7 @@ abbrev pub onChecked : {A : Type 0} → Checked → (ℕ → A) → (ℕ → A) 
 onChecked (Good n) good bad = good n
 onChecked (Malformed place) good bad = bad place
 
--- document 01's number and values for each answer: 0 where the list is accepted
+-- the scope's number and values for each answer: 0 where the list is accepted
 abbrev pub checkedCause : Checked → List ℕ
 checkedCause (Good n) = ACCEPTED ∷ []
 checkedCause (Malformed place) = MALFORMED ∷ place ∷ []

@@ -1,5 +1,5 @@
 -- What each instruction's record holds: the codes' numbers, and where an operand stands, name by name.
--- From document 01, 'Instruction record': code is the place in enum Code, registers a and b stand in the enum's sequence, an unused field is zero.
+-- From the scope, 'Instruction record': code is the place in enum Code, registers a and b stand in the enum's sequence, an unused field is zero.
 use Prim.Native.Nat.{ℕ, _-_}
 use mathlib.Core.List.{List, [], _∷_}
 use lib.ListN.{getD}

@@ -1,4 +1,4 @@
--- Binding records: their 8 bytes, which are well formed, and contexts of them. From document 01, 'Binding record', and document 02, Job 2: what is bad in a context, and where.
+-- Binding records: their 8 bytes, which are well formed, and contexts of them. From the scope, 'Binding record', and the scope, 'Job 2': what is bad in a context, and where.
 use Prim.Native.Nat.{ℕ, zero, suc, _+_, _*_, _/_, _%_}
 use mathlib.Core.Bool.{Bool, _&&_, cond}
 use mathlib.Core.List.{List, [], _∷_}
@@ -75,7 +75,7 @@ countedOn k (Bad flaw.Length) = Bad flaw.Length
 countedOn k (Bad (flaw.Mark place)) = Bad (flaw.Mark (k + place))
 countedOn k (Bad (flaw.Kind place)) = Bad (flaw.Kind (k + place))
 
--- document 02's number for what is bad, and its place: 0 for the length
+-- the scope's number for what is bad, and its place: 0 for the length
 abbrev pub flawNumber : Flaw → ℕ
 flawNumber flaw.Length = CONTEXT-LENGTH
 flawNumber (flaw.Mark place) = BINDING-MARK

@@ -1,4 +1,4 @@
--- What is told of a context is the earliest that is bad in it: document 02, Job 2, for every list of bytes.
+-- What is told of a context is the earliest that is bad in it: the scope, 'Job 2', for every list of bytes.
 use Prim.Native.Nat.{ℕ, suc, _*_, _/_, _<_}
 use mathlib.Core.Path.{_≡_}
 use mathlib.Core.Bool.{true, false}

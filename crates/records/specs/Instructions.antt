@@ -1,4 +1,4 @@
--- Instruction records: their 24 bytes, which are well formed, and what is read from them. From document 01, 'Instruction record'.
+-- Instruction records: their 24 bytes, which are well formed, and what is read from them. From the scope, 'Instruction record'.
 use Prim.Native.Nat.{ℕ, suc, _*_, _/_, _%_, min}
 use mathlib.Core.Bool.{Bool, true, not, _&&_, _||_, cond}
 use mathlib.Core.List.{List, [], _∷_, _++_}
@@ -73,7 +73,7 @@ checkedCodes most s = checked codeStarts 24 (min most 65536) s
 unfoldable pub codeAt : List ℕ → ℕ → CodeRead
 codeAt s k = cond (codeStarts (drop (24 * k) s)) (Record (codeOf (fieldsIn (drop (24 * k) s)))) Malformed
 
--- document 01's number and place for the answer on record k, 0 where it is read
+-- the scope's number and place for the answer on record k, 0 where it is read
 abbrev pub codeCause : ℕ → CodeRead → List ℕ
 codeCause k (Record c) = ACCEPTED ∷ []
 codeCause k Malformed = MALFORMED ∷ suc k ∷ []

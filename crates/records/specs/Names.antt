@@ -1,4 +1,4 @@
--- Labels and names, by their numbers. From document 01, 'Instruction record': fresh labels are 1 to 2^31−1; a name is 2^31 plus 0 `asm_main`, 1 `cleanup`, 2 PRINT_I64,
+-- Labels and names, by their numbers. From the scope, 'Instruction record': fresh labels are 1 to 2^31−1; a name is 2^31 plus 0 `asm_main`, 1 `cleanup`, 2 PRINT_I64,
 -- 3 PRINTLN_I64, or 16 and up for a caller's; and from 'Causes and numbers': the largest count of a share or a copy.
 use Prim.Native.Nat.{ℕ}
 

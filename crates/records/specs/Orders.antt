@@ -1,4 +1,4 @@
--- Order records: what each order's record holds, its 24 bytes, and which are well formed. From document 01, 'Order record'.
+-- Order records: what each order's record holds, its 24 bytes, and which are well formed. From the scope, 'Order record'.
 use Prim.Native.Nat.{ℕ, _-_, _/_, _%_}
 use mathlib.Core.Bool.{Bool, true, false, _&&_, cond}
 use mathlib.Core.List.{List, [], _∷_, _++_}
@@ -105,7 +105,7 @@ unfoldable pub orderRead : List ℕ → OrderRead
 orderRead s =
     cond (orderStarts s) (cond (eqb (length s) 24) (Whole (orderOf (orderIn s))) (Malformed 2)) (Malformed 1)
 
--- document 01's number and values for each answer: 0 where the order is whole
+-- the scope's number and values for each answer: 0 where the order is whole
 abbrev pub orderCause : OrderRead → List ℕ
 orderCause (Whole order) = ACCEPTED ∷ []
 orderCause (Malformed place) = MALFORMED ∷ place ∷ []

@@ -1,4 +1,4 @@
-// The records of document 01 as bytes: bindings, instructions and orders, read, written, and refused by place.
+// The records of the scope as bytes: bindings, instructions and orders, read, written, and refused by place.
 ghost use Rattle.records.specs.Flaws.{BadBindingsAreTold};
 ghost use Rattle.records.specs.ReadBack.{RecordsReadBack};
 

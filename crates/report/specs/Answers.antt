@@ -1,4 +1,4 @@
--- The line of an order's answer: `3 load: refused 5, a variable of the wrong kind for the order`. A refusal's number and values are document 01's, 'Causes and numbers', by
+-- The line of an order's answer: `3 load: refused 5, a variable of the wrong kind for the order`. A refusal's number and values are the scope's, 'Causes and numbers', by
 -- the `orderAnswerCause` that the order function's contract cites.
 use Prim.Native.Nat.{ℕ, _-_}
 use mathlib.Core.Bool.{Bool, _||_, cond}

@@ -1,4 +1,4 @@
--- The line of a run that did not end: `5 compute: machine fault 11 after 3 steps at record 4, the channel stops here`. Numbers and values are document 01's,
+-- The line of a run that did not end: `5 compute: machine fault 11 after 3 steps at record 4, the channel stops here`. Numbers and values are the scope's,
 -- 'Causes and numbers', by the `runCause` that the contract of the machine's run cites.
 use Prim.Native.Nat.{ℕ}
 use mathlib.Core.Bool.{cond}

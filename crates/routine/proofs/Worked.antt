@@ -1,4 +1,4 @@
--- Document 01's worked numbers on routines: 'Routine of no body: 25 records with 0 arguments, 30 with 5; 6 refused'.
+-- The scope's worked numbers on routines: 'Routine of no body: 25 records with 0 arguments, 30 with 5; 6 refused'.
 use mathlib.Core.Path.{_≡_, refl}
 use mathlib.Core.List.{[], _∷_}
 use Rattle.records.specs.declared.code.Code.the-variants.{MOV}

@@ -1,4 +1,4 @@
--- A whole routine around a body of records. From into_routine.rs, function by function, and document 01, 'Causes and numbers': 2 for a record of the body
+-- A whole routine around a body of records. From into_routine.rs, function by function, and the scope, 'Causes and numbers': 2 for a record of the body
 -- or one past 65,506, 3 for the frame, 6 for more than 5 arguments, 10 for the room. The body stands in the output as it was given.
 use Prim.Native.Nat.{ℕ, zero, suc, _+_, _*_}
 use mathlib.Core.Path.{_≡_}

@@ -1,6 +1,6 @@
 -- What the crate promises of the bytes of an accepted routine: entered with STACK at 2^40 − 8 they set up the frame, the free lists and the arguments for the body; and
 -- where the body comes to the cleanup with STACK and the six saved words as they were, they return to the caller with its registers and what the body left in the others.
--- From into_routine.rs, document 01, 'Machine', and the System V AMD64 ABI: rbx, rbp and r12..r15 are registers 2, 3 and 12..15.
+-- From into_routine.rs, the scope, 'Machine', and the System V AMD64 ABI: rbx, rbp and r12..r15 are registers 2, 3 and 12..15.
 use Prim.Native.Nat.{ℕ, suc, _+_, _*_, _≤_, _<_}
 use mathlib.Core.Path.{_≡_}
 use mathlib.Core.Logic.{_≢_}

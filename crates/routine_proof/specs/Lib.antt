@@ -1,2 +1,2 @@
--- What the records around a routine's body do on document 01's machine.
+-- What the records around a routine's body do on the scope's machine.
 pub mod Claims  -- what is promised: a routine sets up, and returns to its caller

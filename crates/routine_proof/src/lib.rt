@@ -1,4 +1,4 @@
-// What the records around a routine's body do on document 01's machine.
+// What the records around a routine's body do on the scope's machine.
 // The promise is the claim of a function that does nothing: its statement is in specs/Claims.antt, and its proof cites the theorem.
 ghost use Rattle.routine_proof.specs.Claims.{RoutineReturns};
 

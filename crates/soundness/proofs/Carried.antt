@@ -22,8 +22,8 @@ use Rattle.heap.proofs.OrderLemmas.{storedBy}
 use Rattle.heap.proofs.RunLemmas.{abstract-heap-stays-sound}
 use Rattle.heap.proofs.SoundLemmas.{sound, frontier-unique}
 use Rattle.heap.specs.Orders as abstract
-use Rattle.heap.specs.Orders.{HeapState, Run, plain, Legal, listOf}
-use Rattle.heap.specs.Values.{integer, object, Value, Values, countOf, appended, firstOf, valueAt, KindsFrom}
+use Rattle.heap.specs.Orders.{HeapState, Run, plain, Legal}
+use Rattle.heap.specs.Values.{integer, object, Value, Values, countOf, valueAt, KindsFrom}
 use Rattle.layout_proof.specs.Held.{Placed}
 use Rattle.memory_proof.proofs.Acquiring.{Within}
 use Rattle.memory_proof.proofs.Shown.{L, heapOf}
@@ -48,11 +48,6 @@ abstractly (Store n tag) vs = abstract.store n tag
 abstractly (Load n) vs = abstract.load n
 abstractly (Print newline a) vs = abstract.drop
 
--- both machines list an object's values
-lists-same : (v : Value) → abstract.listOf v ≡ listOf v
-lists-same (integer w) = refl
-lists-same (object tag vs) = refl
-
 -- both take the same step
 pub plain-same : (o : Order) (vs : Values) → changes o ≡ true → plain (abstractly o vs) vs ≡ plainly o vs
 unfolding plain plainly
@@ -61,7 +56,7 @@ plain-same (Compute operation a b) vs e = refl
 plain-same (Copy a n) vs e = refl
 plain-same Drop vs e = refl
 plain-same (Store n tag) vs e = refl
-plain-same (Load n) vs e = ap (appended (firstOf (countOf vs - 1) vs)) (lists-same (valueAt (countOf vs - 1) vs))
+plain-same (Load n) vs e = refl
 plain-same (Print newline a) vs e = let z : _≡_ {A = ℕ} 0 1 = cc in absurd (omega arith)
 
 object-is : (bindings : List ℕ) (n : ℕ) (v : Value) → AsStored bindings n v → (tag : ℕ) × (ws : Values) × (v ≡ object tag ws) × (countOf ws ≡ n)

@@ -1,6 +1,6 @@
 -- Demand 3: the heap stays sound for every list of orders, in every supported shape of blocks and frame. One claim on the whole list; this file and the definitions it cites are all that it says.
 -- `fresh` and what an item does to a channel are what the contracts of `channel_step::channel` cite.
--- From document 01, 'Order record', 'Plain machine of demand 3' and the lines on the heap in 'Instruction record'.
+-- From the scope, 'Order record', 'Plain machine of demand 3' and 'Blocks and objects'.
 use Prim.Native.Nat.{ℕ, _+_, _*_, _≤_, _<_}
 use mathlib.Core.Path.{_≡_}
 use mathlib.Core.Logic.{_≢_}

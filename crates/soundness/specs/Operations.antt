@@ -1,5 +1,5 @@
 -- Store, load, share_block_n and erase_block on the context of a channel that a list of orders has reached: what the run of the bytes that each function writes leaves.
--- From document 01, 'Operations': they "do what they name on the context of a state that orders reach under demand 3's premises, a store's own blocks and a load's own kinds counted in".
+-- From the scope, 'Operations': they "do what they name on the context of a state that orders reach under demand 3's premises, a store's own blocks and a load's own kinds counted in".
 -- `storeTree`, `loadTree`, `shareBlock`, `eraseBlock` and the answers are what the contracts of the functions cite.
 use Prim.Native.Nat.{ℕ, suc, _+_, _*_, _-_, _≤_, _<_}
 use mathlib.Core.Path.{_≡_}
@@ -77,7 +77,7 @@ module _ (g : Shape) where
   FieldsStay v v′ =
       (block word : ℕ) → 0 < word → word < stride (g .fields) → v′ .mem (wordAt (g .fields) block word) ≡ v .mem (wordAt (g .fields) block word)
 
-  -- a heap that is sound for these variables, which hold their values; its frontier is a block of the heap. Beyond what document 01 asks: links are told apart
+  -- a heap that is sound for these variables, which hold their values; its frontier is a block of the heap. Beyond what the scope asks: links are told apart
   pub record SoundFor (blocks : ℕ) (M : Memory) (variables : List Cell) (vs : Values) : Type 0 where
     pub frontier : ℕ
     pub frontier-there : frontier < blocks

@@ -1,5 +1,5 @@
 -- Demand 3 and the peak bound by the numbers that a user gives: in each edition, 1 of three-field blocks and 2 of seven-field blocks, and in each frame, 256 or 512
--- spills. From document 02, jobs 7, 8 and 11. What is claimed is over the shape, by one proof; here stands which shapes there are.
+-- spills. From the scope, 'Job 7', 'Job 8' and 'Job 11'. What is claimed is over the shape, by one proof; here stands which shapes there are.
 use Prim.Native.Nat.{ℕ}
 use mathlib.Core.Path.{_≡_}
 use mathlib.Core.Logic.{_≢_}

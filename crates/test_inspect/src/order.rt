@@ -1,4 +1,4 @@
-// The fields of a well-formed order in its 24 bytes, as document 01 lays them out.
+// The fields of a well-formed order in its 24 bytes, as the scope lays them out.
 use crate::arithmetic;
 use crate::table;
 

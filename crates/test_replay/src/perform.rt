@@ -8,7 +8,7 @@ use layout::utils::TemporaryNumber;
 use operations::operation::Operation;
 use records::order;
 
-// What the port answers: document 01's number, 0 where it is not refused; records or another number; the counter after.
+// What the port answers: the scope's number, 0 where it is not refused; records or another number; the counter after.
 pub struct Answered {
     pub number: u64,
     pub value: u64,

@@ -1,6 +1,6 @@
 -- Structured code: records in sequence, a part that is skipped if a word is zero, and a choice between two parts.
 -- A tree's records are the tree flattened from a label counter; inner labels are drawn first, "then" before "else".
--- From memory.rs, skip_if_zero and if_zero_then_else, and document 01, 'Instruction record', on labels.
+-- From memory.rs, skip_if_zero and if_zero_then_else, and the scope, 'Instruction record', on labels.
 use Prim.Native.Nat.{ℕ, _+_}
 use mathlib.Core.Path.{_≡_}
 use lib.Dec.{leb}

@@ -1,4 +1,4 @@
--- What the crate promises: the records of a tree, run by document 01's machine, do what the tree does. Alone, from the first record with any step limit from
+-- What the crate promises: the records of a tree, run by the scope's machine, do what the tree does. Alone, from the first record with any step limit from
 -- their number up; and as a part of a longer list, with any configuration before them and any records around them that hold none of their labels.
 -- Places in a list of records are counted from 0; the place in a fault is that of the record that faults, counted from 1.
 use Prim.Native.Nat.{ℕ, suc, _+_, _≤_, _<_}

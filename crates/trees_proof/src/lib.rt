@@ -1,4 +1,4 @@
-// Structured code: a tree's records, run by document 01's machine, do what the tree does.
+// Structured code: a tree's records, run by the scope's machine, do what the tree does.
 // Each promise is the claim of a function that does nothing: its statement is in specs/Claims.antt, and its proof cites the theorem.
 ghost use Rattle.trees_proof.specs.Claims.{TreeRunsWhole, TreeRunsWithin};
 

@@ -1,4 +1,4 @@
--- The result of each of the five operations on two words, and where it is defined. From document 01, 'Plain machine of demand 3': wrapped at 2^64; div and rem are
+-- The result of each of the five operations on two words, and where it is defined. From the scope, 'Plain machine of demand 3': wrapped at 2^64; div and rem are
 -- signed and truncate toward zero, with a division fault on a zero divisor or −2^63 and −1.
 use Prim.Native.Nat.{ℕ}
 use mathlib.Core.Bool.{Bool, true}

@@ -1,2 +1,2 @@
--- Document 01's worked numbers on operations.
+-- The scope's worked numbers on operations.
 pub mod Worked  -- the table

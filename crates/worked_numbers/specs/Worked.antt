@@ -1,4 +1,4 @@
--- Document 01, 'Worked numbers': the starred ones, line by line, by the definitions that the contracts cite; and from document 02
+-- The scope, 'Worked numbers': the starred ones, line by line, by the definitions that the contracts cite; and from the scope
 -- the same lines in the frame of 512 spills, job 8, and in blocks of seven fields, job 11.
 -- Outputs hold 65,536 records, counters start at 0, and contexts are of integers.
 use Prim.Native.Nat.{ℕ, _*_, _≤_, _<_}
@@ -32,8 +32,8 @@ use Rattle.order_spec.specs.Answered as order
 use Rattle.order_spec.specs.declared.answer.OrderAnswer.the-variants.{Accepted}
 use Rattle.order_spec.specs.Answered.{Asked, answerTo, orderTree}
 
-abbrev pub ample : ℕ
-ample = 1572864
+abbrev pub roomEnough : ℕ
+roomEnough = 1572864
 
 -- the bytes of a context of n integers
 abbrev pub integers : ℕ → List ℕ
@@ -41,7 +41,7 @@ integers n = joined bindingBytes (replicate n (record { kind = Ext; id = 0 }))
 
 -- an order alone
 abbrev pub askedAmply : Order → Asked
-askedAmply order = record { order = recordOf order; bindings = []; counter = 0; recordsRoom = ample; contextRoom = ample }
+askedAmply order = record { order = recordOf order; bindings = []; counter = 0; recordsRoom = roomEnough; contextRoom = roomEnough }
 
 -- the order to store no variable, and one that makes a variable
 abbrev pub storeNone : Asked
@@ -57,18 +57,18 @@ pub record Writes (answer : Answer) (tree : Tree) (records labels : ℕ) : Type 
 
 -- a store of the last n of k integers; a load of n after v
 abbrev pub StoreWrites : Shape → ℕ → ℕ → ℕ → ℕ → Type 0
-StoreWrites g n k records labels = Writes (storeAnswer g 0 ample (integers k) n) (storeTree g (integers k) n) records labels
+StoreWrites g n k records labels = Writes (storeAnswer g 0 roomEnough (integers k) n) (storeTree g (integers k) n) records labels
 
 abbrev pub LoadWrites : Shape → ℕ → ℕ → ℕ → ℕ → Type 0
 LoadWrites g n v records labels =
-    Writes (loadAnswer g 0 ample (integers n) (integers v)) (loadTree g (integers n) (integers v)) records labels
+    Writes (loadAnswer g 0 roomEnough (integers n) (integers v)) (loadTree g (integers n) (integers v)) records labels
 
 -- erase_block of each register that a caller may name, and of each such spill
 abbrev pub EraseRegisterWrites : Shape → ℕ → ℕ → Type 0
-EraseRegisterWrites g records labels = (r : ℕ) → 4 ≤ r → r < 16 → Writes (eraseAnswer g 0 ample r) (eraseBlock g r) records labels
+EraseRegisterWrites g records labels = (r : ℕ) → 4 ≤ r → r < 16 → Writes (eraseAnswer g 0 roomEnough r) (eraseBlock g r) records labels
 
 abbrev pub EraseSpillWrites : Shape → ℕ → ℕ → Type 0
-EraseSpillWrites g records labels = (p : ℕ) → 1 ≤ p → p < g .spills → Writes (eraseAnswer g 0 ample (spill p)) (eraseBlock g (spill p)) records labels
+EraseSpillWrites g records labels = (p : ℕ) → 1 ≤ p → p < g .spills → Writes (eraseAnswer g 0 roomEnough (spill p)) (eraseBlock g (spill p)) records labels
 
 pub record WorkedNumbers : Type 0 where
   -- 'position 11: register 15. 12: spill 1, offset 2032. 266: spill 255, offset 0. 267: 8.'
@@ -79,16 +79,16 @@ pub record WorkedNumbers : Type 0 where
   pub offset-266 : stackOffset base (spill 255) ≡ 0
   pub position-267 : temporaryCause (positionAnswer base 267) ≡ 8 ∷ []
   -- 'store none after 0 variables: MOVI 4, 0. After 133: MOVIM at offset 0. 134: 8.'
-  pub none-after-0 : storeAnswer base 0 ample (integers 0) 0 ≡ Written 1 0
+  pub none-after-0 : storeAnswer base 0 roomEnough (integers 0) 0 ≡ Written 1 0
   pub record-after-0 : flat (storeTree base (integers 0) 0) 0 ≡ MOVI 4 0 ∷ []
-  pub none-after-133 : storeAnswer base 0 ample (integers 133) 0 ≡ Written 1 0
+  pub none-after-133 : storeAnswer base 0 roomEnough (integers 133) 0 ≡ Written 1 0
   pub record-after-133 : flat (storeTree base (integers 133) 0) 0 ≡ MOVIM STACK 0 0 ∷ []
-  pub none-after-134 : causeOf (storeAnswer base 0 ample (integers 134) 0) ≡ 8 ∷ []
+  pub none-after-134 : causeOf (storeAnswer base 0 roomEnough (integers 134) 0) ≡ 8 ∷ []
   -- '(as an order: 8, for the tag)'
   pub order-after-133 : order.orderAnswerCause (answerTo base (integers 133) storeNone) ≡ 8 ∷ []
   -- 'Store one after 132 works; after 133: 8.' (k variables in all: those before, and the one stored)
   pub one-after-132 : StoreWrites base 1 133 60 13
-  pub one-after-133 : causeOf (storeAnswer base 0 ample (integers 134) 1) ≡ 8 ∷ []
+  pub one-after-133 : causeOf (storeAnswer base 0 roomEnough (integers 134) 1) ≡ 8 ∷ []
   -- 'erase register: 11 records, 3 labels; spill: 12.'
   pub erase-register : EraseRegisterWrites base 11 3
   pub erase-spill : EraseSpillWrites base 12 3
@@ -111,27 +111,27 @@ pub record WorkedNumbersOfLarger : Type 0 where
   pub offset-522 : stackOffset larger (spill 511) ≡ 0
   pub position-523 : temporaryCause (positionAnswer larger 523) ≡ 8 ∷ []
   -- 'a store of none works after 261'
-  pub none-after-0 : storeAnswer larger 0 ample (integers 0) 0 ≡ Written 1 0
+  pub none-after-0 : storeAnswer larger 0 roomEnough (integers 0) 0 ≡ Written 1 0
   pub record-after-0 : flat (storeTree larger (integers 0) 0) 0 ≡ MOVI 4 0 ∷ []
-  pub none-after-260 : storeAnswer larger 0 ample (integers 260) 0 ≡ Written 1 0
+  pub none-after-260 : storeAnswer larger 0 roomEnough (integers 260) 0 ≡ Written 1 0
   pub record-after-260 : flat (storeTree larger (integers 260) 0) 0 ≡ MOVIM STACK 16 0 ∷ []
-  pub none-after-261 : storeAnswer larger 0 ample (integers 261) 0 ≡ Written 1 0
+  pub none-after-261 : storeAnswer larger 0 roomEnough (integers 261) 0 ≡ Written 1 0
   pub record-after-261 : flat (storeTree larger (integers 261) 0) 0 ≡ MOVIM STACK 0 0 ∷ []
-  pub none-after-262 : causeOf (storeAnswer larger 0 ample (integers 262) 0) ≡ 8 ∷ []
+  pub none-after-262 : causeOf (storeAnswer larger 0 roomEnough (integers 262) 0) ≡ 8 ∷ []
   -- as an order after 260: the object's word and the tag; after 261: 8, for the tag
   pub order-after-260 : answerTo larger (integers 260) storeNone ≡ Accepted 2 0 261
   pub order-after-261 : order.orderAnswerCause (answerTo larger (integers 261) storeNone) ≡ 8 ∷ []
   -- 'a store or load of some variables needs at most 261 in all' (a store: those before, and the one stored)
   pub one-after-260 : StoreWrites larger 1 261 60 13
-  pub one-after-261 : causeOf (storeAnswer larger 0 ample (integers 262) 1) ≡ 8 ∷ []
+  pub one-after-261 : causeOf (storeAnswer larger 0 roomEnough (integers 262) 1) ≡ 8 ∷ []
   pub loaded-after-260 : LoadWrites larger 1 260 19 2
-  pub loaded-after-261 : causeOf (loadAnswer larger 0 ample (integers 1) (integers 261)) ≡ 8 ∷ []
+  pub loaded-after-261 : causeOf (loadAnswer larger 0 roomEnough (integers 1) (integers 261)) ≡ 8 ∷ []
   -- 'The limits behind 3 and 8 move with the frame': spill 511 is erased, and 512 is 3, as 256 is in the smaller frame
   pub erase-register : EraseRegisterWrites larger 11 3
   pub erase-spill : EraseSpillWrites larger 12 3
-  pub erase-511 : Writes (eraseAnswer larger 0 ample (spill 511)) (eraseBlock larger (spill 511)) 12 3
-  pub erase-512 : causeOf (eraseAnswer larger 0 ample (spill 512)) ≡ 3 ∷ []
-  pub erase-256 : causeOf (eraseAnswer base 0 ample (spill 256)) ≡ 3 ∷ []
+  pub erase-511 : Writes (eraseAnswer larger 0 roomEnough (spill 511)) (eraseBlock larger (spill 511)) 12 3
+  pub erase-512 : causeOf (eraseAnswer larger 0 roomEnough (spill 512)) ≡ 3 ∷ []
+  pub erase-256 : causeOf (eraseAnswer base 0 roomEnough (spill 256)) ≡ 3 ∷ []
   -- a put on 200 variables is 8 in the smaller frame, and is written in this one: position 401 is spill 390
   pub put-in-smaller : order.orderAnswerCause (answerTo base (integers 200) putSevenAsked) ≡ 8 ∷ []
   pub put-after-200 : answerTo larger (integers 200) putSevenAsked ≡ Accepted 1 0 201
@@ -169,7 +169,7 @@ pub record WorkedNumbersOfSecond : Type 0 where
   pub load-8 : LoadWrites second 8 0 32 2
   pub load-13 : LoadWrites second 13 0 60 2
   pub load-14 : LoadWrites second 14 0 68 2
-  pub none-after-0 : storeAnswer second 0 ample (integers 0) 0 ≡ Written 1 0
+  pub none-after-0 : storeAnswer second 0 roomEnough (integers 0) 0 ≡ Written 1 0
   -- blocks are erased as in the first edition
   pub erase-register : EraseRegisterWrites second 11 3
   pub erase-spill : EraseSpillWrites second 12 3

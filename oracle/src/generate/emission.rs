@@ -30,7 +30,7 @@ fn at_once(edition: Edition, n: usize) -> u64 {
     (SIZE * (each * blocks + 4)) as u64
 }
 
-/// Document 01's worked numbers.
+/// The scope's worked numbers.
 pub const WORKED: [&str; 27] = [
     "position 11",
     "position 12",

@@ -1,4 +1,4 @@
-//! What an order is answered with. The causes are read from document 01; which records an order
+//! What an order is answered with. The causes are read from the scope; which records an order
 //! writes, how many labels they draw and whether a position is past the last are the published
 //! Rust's: an order is put together from its operations.
 

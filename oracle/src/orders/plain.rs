@@ -1,4 +1,4 @@
-//! Document 01's plain machine: "a list of values, empty at first; a value is a 64-bit integer,
+//! The scope's plain machine: "a list of values, empty at first; a value is a 64-bit integer,
 //! or a tag with a list of values".
 
 use super::Order;

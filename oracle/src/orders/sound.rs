@@ -1,4 +1,4 @@
-//! Whether a state, a heap and a context are what document 01 says of them after a list of
+//! Whether a state, a heap and a context are what the scope says of them after a list of
 //! orders, beside the plain machine's values. It looks at the words alone.
 
 use super::plain::Value;

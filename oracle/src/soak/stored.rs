@@ -1,4 +1,4 @@
-//! The lists of orders that the program `soak` of the port's gate plays, one for each shape: bytes
+//! The lists of orders that the program `test_soak` of the port's gate plays, one for each shape: bytes
 //! for its standard input, and the lines that it must print.
 
 use super::lists::{self, Plan};

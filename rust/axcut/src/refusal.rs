@@ -2,7 +2,7 @@
 
 use std::fmt;
 
-/// The causes, by document 01's numbers.
+/// The causes, by the scope's numbers.
 #[derive(Debug, Clone, Copy, PartialEq, Eq)]
 #[repr(u64)]
 pub enum Cause {

@@ -67,6 +67,7 @@ begin-spec =
     a-whole-record
     a-code
     (λ c κs. search needs)
+    (λ c. search needs)
     bad-number
     bad-surplus
     all-read)

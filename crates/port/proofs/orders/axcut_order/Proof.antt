@@ -1,7 +1,7 @@
 use borrow.Author.Needs.{needs}
 use Rattle.port.proofs.Tells.{tells-order}
-use Rattle.port.proofs.order.axcut_order.Statement.{statement}
-use Rattle.port.proofs.order.axcut_order.Tie as tie
+use Rattle.port.proofs.orders.axcut_order.Statement.{statement}
+use Rattle.port.proofs.orders.axcut_order.Tie as tie
 
 pub axcut-order-spec : {M : Type 1} → statement M
 axcut-order-spec =
