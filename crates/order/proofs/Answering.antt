@@ -1,9 +1,8 @@
 -- From an order's bytes to its answer and its two outputs.
-use Prim.Native.Nat.{ℕ, _*_, _/_, _≤_}
+use Prim.Native.Nat.{ℕ, _≤_}
 use mathlib.Core.Path.{_≡_, refl, sym, ap, _∙_}
 use mathlib.Core.Bool.{true, false, _&&_, cond}
 use mathlib.Core.List.{List, []}
-use native.Mathlib.Omega.{arith}
 use lib.Dec.{leb, eqb}
 use lib.ListN.{length, getD}
 use lib.Seq.{sets}
@@ -14,20 +13,21 @@ use Rattle.records.specs.declared.context.ContextRead.the-variants.{Good, Bad}
 use Rattle.records.specs.declared.order.Order.{Order}
 use Rattle.records.specs.Contexts.{checkedContext, countedOn, bindingsIn}
 use Rattle.records.specs.Orders.{orderOf, orderIn, orderOk, orderStarts, wanted}
+use Rattle.records.specs.ReadBack.{joined, codeBytes}
 use Rattle.records.proofs.Conditions.{and-left}
-use Rattle.trees.specs.Tree.{size}
+use Rattle.trees.specs.Tree.{flat}
 use Rattle.layout.specs.declared.config.Shape.{Shape}
 use Rattle.layout.specs.declared.config.Shaped.{Shaped}
 use Rattle.layout.specs.declared.config.Shaped.the-variants.{In, NoFrame, NoEdition}
 use Rattle.order_spec.specs.declared.answer.OrderAnswer.{OrderAnswer}
 use Rattle.order_spec.specs.declared.answer.OrderAnswer.the-variants.{Context, Malformed, Frame}
-use Rattle.order_spec.specs.Writes.{treeOf, contextAfter}
-use Rattle.order_spec.specs.Answered.{Asked, orderAnswerCause, orderAccepted, orderIs, decided, answerTo, unframedOrder, orderRecords, orderContext, answerIn}
+use Rattle.order_spec.specs.Answered.{Asked, orderAnswerCause, orderAccepted, orderIs, placesIn, decided, answerTo, unframedOrder, answerIn}
 use Rattle.order.specs.Answers.{asking, AnswersOrder}
 use Rattle.order.specs.declared.order.Begun.{Begun}
 use Rattle.order.specs.declared.order.Begun.the-variants.{With, Refused}
 use Rattle.order.specs.Begun.{Read, Unread, Begins}
-use Rattle.order.specs.Decided.{fitting, orderWritten, judged, LeavesOrder}
+use Rattle.order.specs.declared.order.Work.{Work}
+use Rattle.order.specs.Decided.{tree, after, fits, judged, LeavesOrder}
 
 -- a well-formed order is whole
 pub order-whole : (s : List ℕ) → orderStarts s ≡ true → 24 ≤ length s
@@ -108,38 +108,27 @@ module _ (G : Shape) (c : List ℕ) (q : Asked) where
   unread-answered u = unanswered (In G) (sym (u .comes (λ k. decided G c k q))) (u .refused)
 
   module _ {k : ℕ} {o : Order} (u : Read c (q .order) (q .bindings) k o) where
-    same-judged : judged G c k (q .bindings) (orderIs q) (q .counter) (q .recordsRoom) (q .contextRoom) ≡ decided G c k q
-    unfolding judged fitting
-    same-judged =
-        let d : 24 * size (treeOf G c k (q .bindings) (orderIs q)) / 24 ≡ size (treeOf G c k (q .bindings) (orderIs q)) = omega arith in
-        rw d
+    abbrev work : ℕ → Order → Work
+    work n x = record { k = n; counter = q .counter; order = x }
 
-    as-judged : judged G c k (q .bindings) o (q .counter) (q .recordsRoom) (q .contextRoom) ≡ answerTo G c q
-    unfolding answerTo
-    as-judged =
-        ap (λ (x : Order). judged G c k (q .bindings) x (q .counter) (q .recordsRoom) (q .contextRoom)) (u .order-is) ∙ same-judged ∙ sym (u .comes (λ k. decided G c k q))
+    as-judged : judged G c (q .bindings) (work k o) (q .recordsRoom) (q .contextRoom) ≡ answerTo G c q
+    unfolding answerTo judged fits
+    as-judged = ap (λ (x : Order). judged G c (q .bindings) (work k x) (q .recordsRoom) (q .contextRoom)) (u .order-is) ∙ sym (u .comes (λ k. decided G c k q))
 
-    same-records : orderWritten G c k (q .bindings) o (q .counter) ≡ orderRecords G c q
-    same-records =
-        ap (λ (x : Order). orderWritten G c k (q .bindings) x (q .counter)) (u .order-is)
-        ∙ ap (λ (z : ContextRead). orderWritten G c (bindingsIn z) (q .bindings) (orderIs q) (q .counter)) (sym (u .context-good))
+    -- the order in record 1, on as many variables as the context has
+    as-read : work k o ≡ work (placesIn c) (orderIs q)
+    as-read = ap (work k) (u .order-is) ∙ ap (λ (z : ContextRead). work (bindingsIn z) (orderIs q)) (sym (u .context-good))
 
-    same-context : contextAfter c k (q .bindings) o ≡ orderContext c q
-    same-context =
-        ap (λ (x : Order). contextAfter c k (q .bindings) x) (u .order-is)
-        ∙ ap (λ (z : ContextRead). contextAfter c (bindingsIn z) (q .bindings) (orderIs q)) (sym (u .context-good))
-
-    output : OrderAnswer → List ℕ → List ℕ → List ℕ
+    abbrev output : OrderAnswer → List ℕ → List ℕ → List ℕ
     output x o w = cond (orderAccepted x) (sets o 0 w) o
 
     pub answered : {r : OrderAnswer} {o₁ o₂ c₁ c₂ : List ℕ}
-        → LeavesOrder r (judged G c k (q .bindings) o (q .counter) (q .recordsRoom) (q .contextRoom)) o₁ o₂ (orderWritten G c k (q .bindings) o (q .counter)) c₁ c₂ (contextAfter c k (q .bindings) o)
-        → AnswersOrder (In G) c q r o₁ o₂ c₁ c₂
-    unfolding output
+        → LeavesOrder G c (q .bindings) (work k o) (judged G c (q .bindings) (work k o) (q .recordsRoom) (q .contextRoom)) r o₁ o₂ c₁ c₂ → AnswersOrder (In G) c q r o₁ o₂ c₁ c₂
     answered {o₁ = o₁} {c₁ = c₁} d =
+        let e = d .answer ∙ as-judged in
         record {
-          answer = d .answer ∙ as-judged;
-          cause = ap orderAnswerCause (d .answer ∙ as-judged);
-          records = d .records ∙ ap (λ (x : OrderAnswer). output x o₁ (orderWritten G c k (q .bindings) o (q .counter))) as-judged ∙ ap (output (answerTo G c q) o₁) same-records;
-          after = d .context ∙ ap (λ (x : OrderAnswer). output x c₁ (contextAfter c k (q .bindings) o)) as-judged ∙ ap (output (answerTo G c q) c₁) same-context;
+          answer = e;
+          cause = ap orderAnswerCause e;
+          records = d .records ∙ rw as-judged (ap (λ (w : Work). output (answerTo G c q) o₁ (joined codeBytes (flat (tree G c (q .bindings) w) (w .counter)))) as-read);
+          after = d .context-after ∙ rw as-judged (ap (λ (w : Work). output (answerTo G c q) c₁ (after G c (q .bindings) w)) as-read);
         }

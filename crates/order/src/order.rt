@@ -1,19 +1,17 @@
 // An order as its bytes, answered: its records in one output, the context after it in another.
 ghost use mathlib.Core.Path.{_≡_};
-ghost use mathlib.Core.Bool.{true, false};
+ghost use mathlib.Core.Bool.{false};
 ghost use mathlib.Core.List.{[]};
-ghost use Prim.Native.Nat.{_+_, _*_, _<_, _≤_, _^_};
-ghost use lib.ListN.{length};
+ghost use Prim.Native.Nat.{_*_, _/_, _%_, _<_, _^_};
 ghost use Rattle.records.specs.declared.context.ContextRead.the-variants.{Good};
 ghost use Rattle.records.specs.Contexts.{checkedContext};
 ghost use Rattle.layout.specs.declared.config.Shaped.the-variants.{In};
-ghost use Rattle.layout.specs.Config.{Supported, positions, shapeOf};
-ghost use Rattle.order_spec.specs.Answered.{orderAccepted, unframedOrder};
-ghost use Rattle.order_spec.specs.Writes.{contextAfter, present, asked};
+ghost use Rattle.layout.specs.Config.{Supported, shapeOf};
+ghost use Rattle.order_spec.specs.Answered.{fitting, orderAccepted, unframedOrder};
 ghost use Rattle.records.specs.Orders.{wanted};
 ghost use Rattle.order.specs.Answers.{asking, AnswersOrder};
 ghost use Rattle.order.specs.Begun.{Begins};
-ghost use Rattle.order.specs.Decided.{fitting, orderWritten, fits, judged, LeavesOrder};
+ghost use Rattle.order.specs.Decided.{Writable, Writes, Judges};
 use emit::cursor::Cursor;
 use layout::config::Shape;
 use layout::config::Shaped;
@@ -28,8 +26,8 @@ use records::order::Order;
 
 // 9 and 10: need is the cursor past the records, from a cursor at 0 and counter 0; `count` bindings come after them.
 fn grant(counter: u64, room: usize, context_room: usize, need: Cursor, count: u64) -> OrderAnswer
-    requires { ⌜ (need .counter < 2 ^ 32) × (count < 2 ^ 32) ⌝ }
-    ensures { λ r. ⌜ r ≡ fitting counter room «context_room» (need .at) (need .counter) (8 * count) ⌝ }
+    requires { ⌜ (need .at % 24 ≡ 0) × (need .counter < 2 ^ 32) × (count < 2 ^ 32) ⌝ }
+    ensures { λ r. ⌜ r ≡ fitting counter room «context_room» (need .at / 24) (need .counter) (8 * count) ⌝ }
 {
     if LAST_LABEL < counter {
         return OrderAnswer::Labels;
@@ -66,20 +64,28 @@ pub fn is_accepted(answer: OrderAnswer) -> bool
     }
 }
 
+// An order that is read, on the k variables of a context, and the label counter before it.
+pub struct Work {
+    pub k: u64,
+    pub counter: u64,
+    pub order: Order,
+}
+
 // An order that nothing but labels or room can refuse: a first pass tells the records' size, a second writes them.
 fn write_order(
     records_out: &mut [u8],
     context_out: &mut [u8],
     g: Shape,
     context: &[u8],
-    k: u64,
-    counter: u64,
     bindings: &[u8],
-    order: Order,
+    work: Work,
 ) -> OrderAnswer
-    requires { ⌜ (checkedContext (now context) ≡ Good k) × (checkedContext (now bindings) ≡ Good (wanted order)) × (present (now context) k (now bindings) order ≡ true) × (asked (now context) k (now bindings) order ≤ positions g) × Supported g ⌝ }
-    ensures { λ r. ⌜ LeavesOrder r (fits g (now (context .entry)) k (now (bindings .entry)) order counter (length (now («records_out» .entry))) (length (now («context_out» .entry)))) (now («records_out» .entry)) (now («records_out» .exit)) (orderWritten g (now (context .entry)) k (now (bindings .entry)) order counter) (now («context_out» .entry)) (now («context_out» .exit)) (contextAfter (now (context .entry)) k (now (bindings .entry)) order) ⌝ }
+    requires { ⌜ Writable g (now context) (now bindings) work ⌝ }
+    ensures { λ r. ⌜ Writes g (now (context .entry)) (now (bindings .entry)) work r (now («records_out» .entry)) (now («records_out» .exit)) (now («context_out» .entry)) (now («context_out» .exit)) ⌝ }
 {
+    let k = work.k;
+    let counter = work.counter;
+    let order = work.order;
     let table = layout::utils::positions();
     let mut none = [0u8; 1];
     let need = emitters::emit_order(
@@ -111,20 +117,20 @@ fn write_order(
     answer
 }
 
-// An order that is read, on the k variables of a context, with as many bindings as it wants.
+// An order with as many bindings as it wants, by 4 to 10.
 fn judge(
     records_out: &mut [u8],
     context_out: &mut [u8],
     g: Shape,
     context: &[u8],
-    k: u64,
-    counter: u64,
     bindings: &[u8],
-    order: Order,
+    work: Work,
 ) -> OrderAnswer
-    requires { ⌜ (checkedContext (now context) ≡ Good k) × (checkedContext (now bindings) ≡ Good (wanted order)) × Supported g ⌝ }
-    ensures { λ r. ⌜ LeavesOrder r (judged g (now (context .entry)) k (now (bindings .entry)) order counter (length (now («records_out» .entry))) (length (now («context_out» .entry)))) (now («records_out» .entry)) (now («records_out» .exit)) (orderWritten g (now (context .entry)) k (now (bindings .entry)) order counter) (now («context_out» .entry)) (now («context_out» .exit)) (contextAfter (now (context .entry)) k (now (bindings .entry)) order) ⌝ }
+    requires { ⌜ (checkedContext (now context) ≡ Good (work .k)) × (checkedContext (now bindings) ≡ Good (wanted (work .order))) × Supported g ⌝ }
+    ensures { λ r. ⌜ Judges g (now (context .entry)) (now (bindings .entry)) work r (now («records_out» .entry)) (now («records_out» .exit)) (now («context_out» .entry)) (now («context_out» .exit)) ⌝ }
 {
+    let k = work.k;
+    let order = work.order;
     let positions = g.spills + 11;
     if checks::present(k, order) {} else {
         return OrderAnswer::Missing;
@@ -138,16 +144,7 @@ fn judge(
     if checks::asked(context, k, order) <= positions {} else {
         return OrderAnswer::Position;
     }
-    write_order(
-        records_out,
-        context_out,
-        g,
-        context,
-        k,
-        counter,
-        bindings,
-        order,
-    )
+    write_order(records_out, context_out, g, context, bindings, work)
 }
 
 // An order whose context, bindings and bytes pass 15 to 17 and 2, with the number of the context's variables; or the refusal.
@@ -198,10 +195,12 @@ fn order_in(
             context_out,
             g,
             context,
-            k,
-            counter,
             bindings,
-            read,
+            Work {
+                k,
+                counter,
+                order: read,
+            },
         ),
         Begun::Refused(answer) => answer,
     }

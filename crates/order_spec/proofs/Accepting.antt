@@ -19,7 +19,7 @@ use Rattle.layout.specs.Config.{positions}
 use Rattle.order_spec.specs.declared.answer.OrderAnswer.{OrderAnswer}
 use Rattle.order_spec.specs.declared.answer.OrderAnswer.the-variants.{Accepted, Context, Malformed, Frame, Missing, Kind, Count, Position, Labels, Room}
 use Rattle.order_spec.specs.Writes.{countOk, treeOf, contextAfter, present, kindsOk, asked}
-use Rattle.order_spec.specs.Answered.{Asked, orderAccepted, orderIs, orderGranted, decided, answerTo, unframedOrder}
+use Rattle.order_spec.specs.Answered.{Asked, orderAccepted, orderIs, fitting, orderGranted, decided, answerTo, unframedOrder}
 use Rattle.records.specs.Names.{lastLabel}
 
 -- the answer to an accepted order of records t and the context after them
@@ -43,24 +43,32 @@ on-good : (c : ContextRead) (f : ℕ → OrderAnswer) → orderAccepted (onConte
 on-good (checked.Good k) f e = (k, refl, e)
 on-good (checked.Bad flaw) f e = let z : _≡_ {A = ℕ} 0 1 = cc in absurd (omega arith)
 
-module _ (q : Asked) (t : Tree) (after : List ℕ) where
-  pub record Granted : Type 0 where
-    pub labelled : q .counter + labels t ≤ lastLabel
-    pub records-fit : 24 * size t ≤ q .recordsRoom
-    pub context-fits : length after ≤ q .contextRoom
-    pub answer : orderGranted q t after ≡ acceptance q t after
+-- what an accepted answer says of 9 and 10
+module _ (counter room contextRoom n drawn after : ℕ) where
+  pub record Fitted : Type 0 where
+    pub labelled : counter + drawn ≤ lastLabel
+    pub records-fit : 24 * n ≤ room
+    pub context-fits : after ≤ contextRoom
+    pub answer : fitting counter room contextRoom n drawn after ≡ Accepted n (counter + drawn) (after / 8)
 
-  granted-if : orderAccepted (orderGranted q t after) ≡ true → Granted
-  granted-if e =
-      let a = passed orderAccepted (ltb lastLabel (q .counter + labels t)) Labels _ refl e in
-      let b = passed orderAccepted (ltb (q .recordsRoom) (24 * size t)) (Room (24 * size t)) _ refl (a .1) in
-      let c = passed orderAccepted (ltb (q .contextRoom) (length after)) (Room (length after)) _ refl (b .1) in
+  pub fitted-if : orderAccepted (fitting counter room contextRoom n drawn after) ≡ true → Fitted
+  fitted-if e =
+      let a = passed orderAccepted (ltb lastLabel (counter + drawn)) Labels _ refl e in
+      let b = passed orderAccepted (ltb room (24 * n)) (Room (24 * n)) _ refl (a .1) in
+      let c = passed orderAccepted (ltb contextRoom after) (Room after) _ refl (b .1) in
       record {
-        labelled = ltb-false lastLabel (q .counter + labels t) (a .0);
-        records-fit = ltb-false (q .recordsRoom) (24 * size t) (b .0);
-        context-fits = ltb-false (q .contextRoom) (length after) (c .0);
+        labelled = ltb-false lastLabel (counter + drawn) (a .0);
+        records-fit = ltb-false room (24 * n) (b .0);
+        context-fits = ltb-false contextRoom after (c .0);
         answer = rw (a .0, b .0, c .0);
       }
+
+-- for the records of t and the context after them
+abbrev Granted : Asked → Tree → List ℕ → Type 0
+Granted q t after = Fitted (q .counter) (q .recordsRoom) (q .contextRoom) (size t) (labels t) (length after)
+
+granted-if : (q : Asked) (t : Tree) (after : List ℕ) → orderAccepted (orderGranted q t after) ≡ true → Granted q t after
+granted-if q t after = fitted-if (q .counter) (q .recordsRoom) (q .contextRoom) (size t) (labels t) (length after)
 
 module _ (G : Shape) (context : List ℕ) (q : Asked) (k : ℕ) where
   pub record Decided : Type 0 where

@@ -84,12 +84,16 @@ orderTree g context q = treeOf g context (placesIn context) (q .bindings) (order
 abbrev pub orderContext : List ℕ → Asked → List ℕ
 orderContext context q = contextAfter context (placesIn context) (q .bindings) (orderIs q)
 
--- 9 and 10: records of t, and the context after them
+-- 9 and 10: n records, so many labels drawn, and so many bytes of the context after them
+abbrev pub fitting : ℕ → ℕ → ℕ → ℕ → ℕ → ℕ → OrderAnswer
+fitting counter room contextRoom n drawn after =
+    cond (ltb lastLabel (counter + drawn)) Labels
+    (cond (ltb room (24 * n)) (Room (24 * n))
+    (cond (ltb contextRoom after) (Room after) (Accepted n (counter + drawn) (after / 8))))
+
+-- for the records of t
 abbrev pub orderGranted : Asked → Tree → List ℕ → OrderAnswer
-orderGranted q t after =
-    cond (ltb lastLabel (q .counter + labels t)) Labels
-    (cond (ltb (q .recordsRoom) (24 * size t)) (Room (24 * size t))
-    (cond (ltb (q .contextRoom) (length after)) (Room (length after)) (Accepted (size t) (q .counter + labels t) (length after / 8))))
+orderGranted q t after = fitting (q .counter) (q .recordsRoom) (q .contextRoom) (size t) (labels t) (length after)
 
 -- 4 to 10, for a well-formed order on k variables
 abbrev pub decided : Shape → List ℕ → ℕ → Asked → OrderAnswer

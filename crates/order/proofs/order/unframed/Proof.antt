@@ -7,7 +7,7 @@ no-frame : tie.Need-returns
 no-frame c = read-unframed (begun-with (c .before .before .begin .ensures) (c .enum-told .given .1))
 
 not-read : tie.Need-returns-2
-not-read c = unread-unframed (begun-refused (c .before .before .before .begin .ensures) (c .before .answer .given .1))
+not-read c = let told = c .before in unread-unframed (begun-refused (told .before .before .begin .ensures) (told .answer .given .1))
 
 pub unframed-spec : {M : Type 1} → statement M
 unframed-spec =

@@ -1,16 +1,79 @@
 use borrow.Author.Needs.{needs}
 use native.Mathlib.Omega.{arith}
-use Prim.Native.Nat.{ℕ, _*_}
-use mathlib.Core.Path.{refl, sym, ap, _∙_}
-use Rattle.records.proofs.ContextsRead.{context-within, context-long}
-use Rattle.order_spec.specs.Writes.{treeOf, contextAfter}
-use Rattle.order.specs.Decided.{orderWritten}
-use Rattle.order_check.proofs.Asking.{few-after}
-use Rattle.order_emit.proofs.Extent.{order-extent}
-use Rattle.order_check.proofs.Leaving.{after-long}
-use Rattle.order.proofs.Judging.{bounds, not-written, all-written}
+use mathlib.Core.Path.{_≡_, sym, _∙_}
+use mathlib.Core.Bool.{true}
+use lib.ListN.{length}
+use Rattle.order_spec.specs.Answered.{orderAccepted}
+use Rattle.order.specs.Decided.{fits}
+use Rattle.order.proofs.Judging.{left-alone, bounded, as-fits, all-fit, all-written}
 use Rattle.order.proofs.order.write_order.Statement.{statement}
 use Rattle.order.proofs.order.write_order.Tie as tie
+
+-- the entry, seen from the end of the first pass
+abbrev entry : tie.After-none2 → tie.Start
+entry c = c .before .before .before .before .before .before .before .before .before
+
+-- from a cursor at 0 and counter 0
+first-pass : tie.Need-emit-order-requires
+first-pass c κs =
+    let tabled = c .before .before in
+    let ok = tabled .before .before .before .before .before .pre in
+    let x = bounded ok in
+    (tabled .positions .ensures, omega arith, x .few, omega arith, ok .there, ok .placed, omega arith, omega arith, ok .supported)
+
+few-variables : tie.Need-count-after-requires
+few-variables c κs = bounded (entry c .pre) .few
+
+-- whole records, few labels and few bindings
+may-grant : tie.Need-grant-requires
+may-grant c κs =
+    let sized = c .before in
+    let x = bounded (entry sized .pre) in
+    let d = sized .before .emit-order .ensures in
+    (omega (arith, d .place), omega (arith, d .drawn), omega (arith, c .count-after .ensures))
+
+-- what is granted is what the order comes to
+granted : (c : tie.After-grant)
+    → let a = entry (c .before .before) .args in
+    c .grant .result ≡ fits (a .g) (a .context .now) (a .bindings .now) (a .work) (length (a .records-out .now)) (length (a .context-out .now))
+granted c =
+    let counted = c .before in
+    let sized = counted .before in
+    as-fits (entry sized .pre) _ _ (sized .before .emit-order .ensures) (counted .count-after .ensures) (c .grant .ensures)
+
+accepted : (c : tie.Then1) → orderAccepted (c .before .before .grant .result) ≡ true
+accepted c = let told = c .before in sym (told .is-accepted .ensures) ∙ c .if1 .taken
+
+not-written : tie.Need-returns
+not-written c = let told = c .before in left-alone (granted (told .before)) (sym (told .is-accepted .ensures) ∙ c .if1 .left)
+
+-- from a cursor at 0 and the counter, whose labels are not past the last
+second-pass : tie.Need-emit-order-requires-2
+second-pass c κs =
+    let yes = c .before .before in
+    let grant = yes .before .before in
+    let sized = grant .before .before in
+    let ok = entry sized .pre in
+    let x = bounded ok in
+    let f = all-fit ok _ _ (granted grant) (accepted yes) in
+    (sized .before .before .before .before .positions .ensures, omega arith, x .few, omega arith, ok .there, ok .placed, omega arith, omega (arith, f .labelled), ok .supported)
+
+room-for-context : tie.Need-write-context-requires
+room-for-context c κs =
+    let yes = c .before .before .before .before .before .before in
+    let grant = yes .before .before in
+    let ok = entry (grant .before .before) .pre in
+    let x = bounded ok in
+    let f = all-fit ok _ _ (granted grant) (accepted yes) in
+    (x .context-whole, x .few, x .bindings-whole, ok .there, x .few-after, omega (arith, x .after-whole, f .context-fits))
+
+both-written : tie.Need-returns-2
+both-written c =
+    let left = c .before .before in
+    let second = left .before .before .before .before in
+    let yes = second .before .before .before in
+    let grant = yes .before .before in
+    all-written (entry (grant .before .before) .pre) (granted grant) (accepted yes) (second .emit-order2 .ensures) (left .write-context .ensures)
 
 pub write-order-spec : {M : Type 1} → statement M
 write-order-spec =
@@ -18,13 +81,13 @@ write-order-spec =
     (tie.spec
     (λ c κs. search needs)
     (λ c. search needs)
-    (λ c κs. let a = c .before .before .before .before .before .before .before .args in let w = c .before .before .before .before .before .before .before .pre in let s = a .context .now in let b = a .bindings .now in let x = context-within s _ (w .0) in let y = context-within b _ (w .1) in (c .before .before .positions .ensures, x .1, x .0, y .1, w .2, w .3, omega arith, omega arith, w .4))
-    (λ c κs. let a = c .before .before .before .before .before .before .before .before .before .args in let w = c .before .before .before .before .before .before .before .before .before .pre in let s = a .context .now in let b = a .bindings .now in let x = context-within s _ (w .0) in let y = context-within b _ (w .1) in x .0)
-    (λ c κs. let a = c .before .before .before .before .before .before .before .before .before .before .args in let w = c .before .before .before .before .before .before .before .before .before .before .pre in let s = a .context .now in let b = a .bindings .now in let x = context-within s _ (w .0) in let y = context-within b _ (w .1) in let z = order-extent (w .4) s (a .k) b (a .order) (w .2) (w .3) in (omega (arith, c .before .before .emit-order .ensures .drawn, z .0), omega (arith, c .count-after .ensures, few-after (w .4) s (a .k) b (a .order) (w .2) (w .3), x .0, w .4 .frame)))
+    first-pass
+    few-variables
+    may-grant
     (λ c κs. search needs)
-    (λ c. let a = c .before .before .before .before .before .before .before .before .before .before .before .before .before .args in let w = c .before .before .before .before .before .before .before .before .before .before .before .before .before .pre in let s = a .context .now in let b = a .bindings .now in let x = context-within s _ (w .0) in let y = context-within b _ (w .1) in let m = after-long s (a .k) b (a .order) (context-long s _ (w .0)) (context-long b _ (w .1)) ∙ ap (λ (i : ℕ). 8 * i) (sym (c .before .before .before .count-after .ensures)) in not-written (treeOf (a .g) s (a .k) b (a .order)) (contextAfter s (a .k) b (a .order)) (a .counter) (c .before .before .before .count-after .result) (c .before .before .before .before .before .emit-order .ensures) refl refl m _ _ (c .before .before .grant .ensures) (c .before .is-accepted .ensures) _ _ (orderWritten (a .g) s (a .k) b (a .order) (a .counter)) (c .if1 .left))
-    (λ c κs. let a = c .before .before .before .before .before .before .before .before .before .before .before .before .before .before .before .args in let w = c .before .before .before .before .before .before .before .before .before .before .before .before .before .before .before .pre in let s = a .context .now in let b = a .bindings .now in let x = context-within s _ (w .0) in let y = context-within b _ (w .1) in let m = after-long s (a .k) b (a .order) (context-long s _ (w .0)) (context-long b _ (w .1)) ∙ ap (λ (i : ℕ). 8 * i) (sym (c .before .before .before .before .before .count-after .ensures)) in let g = bounds (treeOf (a .g) s (a .k) b (a .order)) (contextAfter s (a .k) b (a .order)) (a .counter) (c .before .before .before .before .before .count-after .result) (c .before .before .before .before .before .before .before .emit-order .ensures) refl refl m _ _ (c .before .before .before .before .grant .ensures) (c .before .before .before .is-accepted .ensures) (c .before .before .if1 .taken) in (c .before .before .before .before .before .before .before .before .before .before .positions .ensures, x .1, x .0, y .1, w .2, w .3, omega arith, omega (arith, g .0), w .4))
-    (λ c κs. let a = c .before .before .before .before .before .before .before .before .before .before .before .before .before .before .before .before .before .before .before .args in let w = c .before .before .before .before .before .before .before .before .before .before .before .before .before .before .before .before .before .before .before .pre in let s = a .context .now in let b = a .bindings .now in let x = context-within s _ (w .0) in let y = context-within b _ (w .1) in let m = after-long s (a .k) b (a .order) (context-long s _ (w .0)) (context-long b _ (w .1)) ∙ ap (λ (i : ℕ). 8 * i) (sym (c .before .before .before .before .before .before .before .before .before .count-after .ensures)) in let g = bounds (treeOf (a .g) s (a .k) b (a .order)) (contextAfter s (a .k) b (a .order)) (a .counter) (c .before .before .before .before .before .before .before .before .before .count-after .result) (c .before .before .before .before .before .before .before .before .before .before .before .emit-order .ensures) refl refl m _ _ (c .before .before .before .before .before .before .before .before .grant .ensures) (c .before .before .before .before .before .before .before .is-accepted .ensures) (c .before .before .before .before .before .before .if1 .taken) in let f = few-after (w .4) s (a .k) b (a .order) (w .2) (w .3) in (context-long s _ (w .0), x .0, context-long b _ (w .1), w .2, omega (arith, f, x .0, w .4 .frame), omega (arith, g .2, c .before .before .before .before .before .before .before .before .before .count-after .ensures)))
+    not-written
+    second-pass
+    room-for-context
     (λ c. search needs)
     (λ c. search needs)
-    (λ c. let a = c .before .before .before .before .before .before .before .before .before .before .before .before .before .before .before .before .before .before .before .before .before .before .args in let w = c .before .before .before .before .before .before .before .before .before .before .before .before .before .before .before .before .before .before .before .before .before .before .pre in let s = a .context .now in let b = a .bindings .now in let x = context-within s _ (w .0) in let y = context-within b _ (w .1) in let m = after-long s (a .k) b (a .order) (context-long s _ (w .0)) (context-long b _ (w .1)) ∙ ap (λ (i : ℕ). 8 * i) (sym (c .before .before .before .before .before .before .before .before .before .before .before .before .count-after .ensures)) in all-written (treeOf (a .g) s (a .k) b (a .order)) (contextAfter s (a .k) b (a .order)) (a .counter) (c .before .before .before .before .before .before .before .before .before .before .before .before .count-after .result) (c .before .before .before .before .before .before .before .before .before .before .before .before .before .before .emit-order .ensures) refl refl m (c .before .before .before .before .before .before .before .before .before .before .before .grant .ensures) (c .before .before .before .before .before .before .before .before .before .before .is-accepted .ensures) (c .before .before .before .before .before .before .before .before .before .if1 .taken) (c .before .before .before .before .before .before .emit-order2 .ensures) refl refl (c .before .before .write-context .ensures)))
+    both-written)
