@@ -1,12 +1,13 @@
 -- How many records the trees of code.rs have at most, and that they draw no labels.
 use Prim.Native.Nat.{ℕ, _+_, _≤_, max}
-use mathlib.Core.Bool.{Bool, true, false, cond}
+use mathlib.Core.Bool.{Bool, true, cond}
 use mathlib.Core.Path.{_≡_, refl}
 use native.Mathlib.Omega.{arith}
 use lib.Dec.{ltb, eqb}
 use Rattle.records.specs.declared.code.Code.{Code}
 use Rattle.records.specs.declared.order.Calculation.{Calculation}
 use Rattle.records.specs.declared.order.Calculation.the-variants.{Add, Sub, Mul, Div, Rem}
+use Rattle.records.proofs.Conditions.{both-ways}
 use Rattle.trees.specs.Tree.{Tree, straight, leaf, seq, labels, size}
 use Rattle.layout.specs.declared.config.Shape.{Shape}
 use Rattle.layout.specs.Config.{TEMP, RETURN1, RETURN2}
@@ -28,8 +29,7 @@ within : {t : Tree} {m n : ℕ} → Plain t m → m ≤ n → Plain t n
 within x h = record { none = x .none; most = omega arith }
 
 either : (b : Bool) {t u : Tree} {m n : ℕ} → Plain t m → Plain u n → Plain (cond b t u) (max m n)
-either true x y = record { none = x .none; most = omega arith }
-either false x y = record { none = y .none; most = omega arith }
+either b {m = m} {n = n} x y = both-ways (λ z. Plain z (max m n)) b (within x (omega arith)) (within y (omega arith))
 
 module _ (g : Shape) where
   pub plain-move-from : (w r : ℕ) → Plain (moveFrom g w r) 1

@@ -8,6 +8,7 @@ use lib.Dec.{ltb, eqb}
 use borrow.Author.Tests.{ltb-true, ltb-false, eq-eqb, eqb-true, eqb-false}
 use Rattle.records.specs.declared.code.Code.the-variants.{IDIV, IDIVM, CQO, MOV}
 use Rattle.records.specs.declared.order.Calculation.the-variants.{Div, Rem}
+use Rattle.records.proofs.Conditions.{never}
 use Rattle.trees.specs.Tree.{Tree, leaf, seq}
 use Rattle.layout.specs.declared.config.Shape.{Shape}
 use Rattle.layout.specs.Config.{STACK, TEMP, RETURN1, RETURN2, stackOffset}
@@ -40,9 +41,6 @@ pub record Stops (words : ℕ → ℕ) (tree : Tree) (c : Config) (t : ℕ) : Ty
 -- with what is known of more operands
 wider : {P Q : ℕ → Type 0} {c d : Config} → Unchanged P c d → ((l : ℕ) → Q l → held d l ≡ held c l) → Unchanged Q c d
 wider u f = record { kept = record { depth-kept = u .kept .depth-kept; size-kept = u .kept .size-kept; calls-kept = u .kept .calls-kept; kept = f; beside-kept = u .kept .beside-kept }; heap = u .heap }
-
-unlike : {A : Type 0} → true ≡ false → A
-unlike e = let z : _≡_ {A = ℕ} 0 1 = cc in absurd (omega arith)
 
 -- what a tree comes to, done or at a fault
 record Comes (words : ℕ → ℕ) (tree : Tree) (c : Config) (R : Evaluated → Type 0) : Type 0 where
@@ -223,8 +221,8 @@ module _ (words : ℕ → ℕ) where
     whole tail w k = by (evaluate words (divideKept G t x y) c) refl (kept-halfway .outcome)
       where
         by : (o : Evaluated) → evaluate words (divideKept G t x y) c ≡ o → Halfway o → Divides (seq (divideKept G t x y) tail) w
-        by (done d) e h = (λ z. go e (k d (h .1) (h .2)), λ z. unlike (sym (h .0) ∙ z))
-        by (faulted d) e h = (λ z. unlike (sym z ∙ h .0), λ z. record { at = d; run = rw e; rest = h .1 })
+        by (done d) e h = (λ z. go e (k d (h .1) (h .2)), λ z. never (sym z ∙ h .0))
+        by (faulted d) e h = (λ z. never (sym (h .0) ∙ z), λ z. record { at = d; run = rw e; rest = h .1 })
 
     quotient-does : (d : Config) → held d RETURN1 ≡ quotient dividend divisor → Middle (remainder dividend divisor) d
         → Does words (seq (leaf (MOV RETURN2 RETURN1) refl) (restored G t)) d (Sets t (quotient dividend divisor) c)

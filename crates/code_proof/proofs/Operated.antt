@@ -1,10 +1,10 @@
 -- The five operations do what they name: one lemma over the operation, and one for where it has no result.
 use Prim.Native.Nat.{ℕ}
-use mathlib.Core.Path.{_≡_}
+use mathlib.Core.Path.{_≡_, sym}
 use mathlib.Core.Bool.{true, false}
-use native.Mathlib.Omega.{arith}
 use Rattle.records.specs.declared.order.Calculation.{Calculation}
 use Rattle.records.specs.declared.order.Calculation.the-variants.{Add, Sub, Mul, Div, Rem}
+use Rattle.records.proofs.Conditions.{never}
 use Rattle.layout.specs.declared.config.Shape.{Shape}
 use Rattle.code.specs.Code.{arithmetic}
 use Rattle.word.specs.Results.{result, resultDefined}
@@ -27,8 +27,8 @@ module _ (words : ℕ → ℕ) {G : Shape} {N : ℕ} (c : Config) (v : Placed G 
   arithmetic-does Rem n e = remainder-whole words c v t x y f g k n .0 e
 
   pub arithmetic-stops : (o : Calculation) → OperandsFor o t x y → resultDefined o (held c x) (held c y) ≡ false → Stops words (arithmetic G o t x y) c t
-  arithmetic-stops Add n e = let z : _≡_ {A = ℕ} 0 1 = cc in absurd (omega arith)
-  arithmetic-stops Sub n e = let z : _≡_ {A = ℕ} 0 1 = cc in absurd (omega arith)
-  arithmetic-stops Mul n e = let z : _≡_ {A = ℕ} 0 1 = cc in absurd (omega arith)
+  arithmetic-stops Add n e = never (sym e)
+  arithmetic-stops Sub n e = never (sym e)
+  arithmetic-stops Mul n e = never (sym e)
   arithmetic-stops Div n e = quotient-whole words c v t x y f g k n .1 e
   arithmetic-stops Rem n e = remainder-whole words c v t x y f g k n .1 e

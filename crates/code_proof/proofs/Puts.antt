@@ -3,9 +3,9 @@ use Prim.Native.Nat.{ℕ, _≤_, _<_}
 use mathlib.Core.Path.{_≡_, refl, _∙_}
 use mathlib.Core.Logic.{_≢_}
 use mathlib.Core.Bool.{Bool, true, false, cond, _&&_, _||_}
-use native.Mathlib.Omega.{arith}
 use lib.Dec.{ltb, leb}
 use borrow.Author.Tests.{ltb-true, ltb-false, leb-true}
+use Rattle.records.proofs.Conditions.{never}
 use Rattle.layout.specs.declared.config.Shape.{Shape}
 use Rattle.layout.specs.Config.{TEMP, operands}
 use Rattle.layout.specs.Positions.{operandOk}
@@ -29,8 +29,8 @@ given G w e = by (leb 4 w) refl (ltb w (operands G)) refl (ltb w 16 || ltb 16 w)
   where
     by : (a : Bool) → leb 4 w ≡ a → (b : Bool) → ltb w (operands G) ≡ b → (d : Bool) → (a && b && d) ≡ true → Given G w
     by true p true q d e = record { above = leb-true 4 w p; below = ltb-true w (operands G) q }
-    by true p false q d e = let z : _≡_ {A = ℕ} 0 1 = cc in absurd (omega arith)
-    by false p b q d e = let z : _≡_ {A = ℕ} 0 1 = cc in absurd (omega arith)
+    by true p false q d e = never e
+    by false p b q d e = never e
 
 module _ {P : ℕ → Type 0} {c d : Config} where
   pub unchanged-trans : {e : Config} → Unchanged P c d → Unchanged P d e → Unchanged P c e

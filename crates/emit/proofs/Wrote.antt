@@ -14,6 +14,7 @@ use Rattle.records.specs.Bytes.{le, stored}
 use Rattle.records.specs.Codes.{fieldsOf}
 use Rattle.records.specs.Instructions.{fieldsBytes}
 use Rattle.records.specs.ReadBack.{joined, codeBytes}
+use Rattle.records.proofs.Conditions.{never}
 use Rattle.records.proofs.Storing.{sets-then, stored-whole}
 use Rattle.trees.specs.Tree.{Tree, labels, size, flat}
 use Rattle.trees.proofs.Flat.{length-flat}
@@ -61,8 +62,8 @@ module _ (counter room bytes n : ℕ) where
       by : (a b : Bool) → ltb lastLabel (counter + n) ≡ a → ltb room bytes ≡ b
           → accepted (cond a Labels (cond b (Room bytes) (Written (bytes / 24) (counter + n)))) ≡ true
           → (counter + n ≤ lastLabel) × (bytes ≤ room)
-      by true b p q r = let z : _≡_ {A = ℕ} 0 1 = cc in absurd (omega arith)
-      by false true p q r = let z : _≡_ {A = ℕ} 0 1 = cc in absurd (omega arith)
+      by true b p q r = never r
+      by false true p q r = never r
       by false false p q r = (ltb-false lastLabel (counter + n) p, ltb-false room bytes q)
 
 pub answers : {o o′ : List ℕ} {r expected : Answer} {cs : List Code} → r ≡ expected → o′ ≡ output expected o cs → Answers o o′ r expected cs

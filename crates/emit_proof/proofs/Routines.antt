@@ -15,7 +15,7 @@ use Rattle.records.specs.Codes.{fieldsOf, readers, codeOf}
 use Rattle.records.specs.Instructions.{used, operandsOk, fieldsOk, checkedCodes}
 use Rattle.records.specs.ReadBack.{Each, Bytes, WellFormedCode, items, codeIn}
 use Rattle.records.proofs.CodesFormed.{codes-formed}
-use Rattle.records.proofs.Conditions.{both, passed}
+use Rattle.records.proofs.Conditions.{never, both, passed}
 use Rattle.records.proofs.Each.{each-append}
 use Rattle.emit.specs.declared.answer.Answer.{Answer}
 use Rattle.emit.specs.declared.answer.Answer.the-variants.{Body, Arguments}
@@ -75,7 +75,7 @@ items-length (suc k) s = ap suc (items-length k _)
 
 on-body : (c : Checked) (r : Answer) → accepted (onChecked c (λ k. r) Body) ≡ true → (k : ℕ) × (c ≡ Good k) × (accepted r ≡ true)
 on-body (Good k) r e = (k, refl, e)
-on-body (Malformed place) r e = let z : _≡_ {A = ℕ} 0 1 = cc in absurd (omega arith)
+on-body (Malformed place) r e = never e
 
 module _ (G : Shape) (sup : Supported G) where
   -- the frame's bytes and a block's

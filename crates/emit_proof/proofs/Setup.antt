@@ -1,11 +1,11 @@
 -- The fresh state follows the setup's bytes: they are read back, and their run is that of the records.
 use Prim.Native.Nat.{ℕ, zero, suc, _+_, _-_, _≤_}
 use mathlib.Core.Path.{_≡_, refl, sym, subst}
-use mathlib.Core.Bool.{Bool, true, false, cond}
 use mathlib.Core.List.{List}
 use native.Mathlib.Omega.{arith}
 use lib.Dec.{ltb, eqb}
 use lib.ListN.{length, getD, replicate, length-replicate}
+use Rattle.records.proofs.Conditions.{both-ways}
 use Rattle.layout.specs.declared.config.Shape.{Shape}
 use Rattle.layout.specs.Config.{Supported, blockBytes, blockWords, stackDepth, framePointer}
 use Rattle.word.specs.Words.{sum, difference}
@@ -31,11 +31,7 @@ zeros-first zero f h = refl
 zeros-first (suc n) f h = rw (h 0, zeros-first n (λ i. f (suc i)) (λ i. h (suc i)))
 
 zero-put : (f : ℕ → ℕ) (i : ℕ) → ((j : ℕ) → f j ≡ 0) → (j : ℕ) → upd f i 0 j ≡ 0
-zero-put f i h j = by (eqb j i)
-  where
-    by : (b : Bool) → cond b 0 (f j) ≡ 0
-    by true = refl
-    by false = h j
+zero-put f i h j = both-ways (λ (x : ℕ). x ≡ 0) (eqb j i) refl (h j)
 
 zeros-at : (n i : ℕ) → getD (zeros n) i 0 ≡ 0
 zeros-at zero i = refl
@@ -43,11 +39,7 @@ zeros-at (suc n) zero = refl
 zeros-at (suc n) (suc i) = zeros-at n i
 
 zeros-end : (n i : ℕ) → fromEnd (zeros n) i ≡ 0
-zeros-end n i = by (ltb i (length (zeros n)))
-  where
-    by : (b : Bool) → cond b (getD (zeros n) (length (zeros n) - suc i) 0) 0 ≡ 0
-    by true = zeros-at n (length (zeros n) - suc i)
-    by false = refl
+zeros-end n i = both-ways (λ (x : ℕ). x ≡ 0) (ltb i (length (zeros n))) (zeros-at n (length (zeros n) - suc i)) refl
 
 -- ---- what the sixteen records leave of a state of zeros but for STACK and register 7
 

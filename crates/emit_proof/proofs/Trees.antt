@@ -8,6 +8,7 @@ use Rattle.records.specs.declared.context.ContextRead.the-variants.{Good, Bad}
 use Rattle.records.specs.declared.context.ContextRead.{ContextRead}
 use Rattle.records.specs.Contexts.{checkedContext, extAt, bindingsIn}
 use Rattle.records.specs.ReadBack.{Bytes}
+use Rattle.records.proofs.Conditions.{never}
 use Rattle.records.proofs.OrdersBack.{order-well-formed}
 use Rattle.trees.specs.Tree.{Tree, flat}
 use Rattle.emit.specs.Answers.{accepted}
@@ -74,7 +75,7 @@ module _ (G : Shape) (sup : Supported G) where
   pub print-reads : (room : ℕ) (newline : Bool) (w : ℕ) (context : List ℕ) (c : ContextRead) → accepted (printAnswer G room newline w context c) ≡ true
       → Readable (printRecords G newline w context c)
   print-reads room newline w context (Good n) e = print-readable newline w context n
-  print-reads room newline w context (Bad flaw) e = let z : _≡_ {A = ℕ} 0 1 = cc in absurd (omega arith)
+  print-reads room newline w context (Bad flaw) e = never e
 
   pub order-reads : (context : List ℕ) (q : Asked) → Bytes (q .order) → order.orderAccepted (answerTo G context q) ≡ true
       → Readable (flat (orderTree G context q) (q .counter))

@@ -8,7 +8,7 @@ use native.Mathlib.Omega.{arith}
 use lib.Dec.{leb, ltb, eqb, eqb→eq}
 use lib.ListN.{getD, drop}
 use borrow.Author.Tests.{eq-eqb, eqb-true, ne-eqb, lt-ltb, le-ltb, lt-leb, le-leb, leb-true, ltb-true}
-use Rattle.records.proofs.Conditions.{and-left, and-right}
+use Rattle.records.proofs.Conditions.{and-left, and-right, both-ways}
 use Rattle.records.proofs.Table.{at}
 use Rattle.records.specs.declared.context.Flaw.{Flaw}
 use Rattle.records.specs.declared.context.ContextRead.the-variants.{Good, Bad}
@@ -172,9 +172,7 @@ OnlySupported Unknown = Unit {0}
 
 -- one of two shapes, or none
 one-of-two : (b c : Bool) {g h : Shape} → Supported g → Supported h → OnlySupported (cond b (Of g) (cond c (Of h) Unknown))
-one-of-two true c u v = u
-one-of-two false true u v = v
-one-of-two false false u v = tt
+one-of-two b c u v = both-ways OnlySupported b u (both-ways OnlySupported c v tt)
 
 frame-supported : (frame : ℕ) → OnlySupported (frameOf frame)
 unfolding frameOf

@@ -8,6 +8,7 @@ use native.Mathlib.Omega.{arith}
 use native.Mathlib.Decide.{decLt}
 use lib.Dec.{ltb}
 use borrow.Author.Tests.{eq-eqb, ne-eqb, lt-ltb, le-ltb, ltb-true, ltb-false}
+use Rattle.records.proofs.Conditions.{both-ways}
 use Rattle.layout.specs.declared.config.Shape.{Shape}
 use Rattle.layout.specs.Config.{operands, positions}
 use Rattle.layout.specs.Positions.{location}
@@ -73,11 +74,7 @@ module _ (s : View) (l w : ℕ) where
       by false e = spill-other (s .reg) (s .stk) l w m (ltb-false l 16 e) n
 
 pub operand-heap : (s : View) (l w : ℕ) → (withOperand s l w .mem ≡ s .mem) × (withOperand s l w .size ≡ s .size) × (withOperand s l w .depth ≡ s .depth)
-operand-heap s l w = by (ltb l 16)
-  where
-    by : (t : Bool) → (cond t (putReg s l w) (putStk s (stackWord l) w) .mem ≡ s .mem) × (cond t (putReg s l w) (putStk s (stackWord l) w) .size ≡ s .size) × (cond t (putReg s l w) (putStk s (stackWord l) w) .depth ≡ s .depth)
-    by true = (refl, refl, refl)
-    by false = (refl, refl, refl)
+operand-heap s l w = both-ways (λ (v : View). (v .mem ≡ s .mem) × (v .size ≡ s .size) × (v .depth ≡ s .depth)) (ltb l 16) (refl, refl, refl) (refl, refl, refl)
 
 -- ---- what is kept
 

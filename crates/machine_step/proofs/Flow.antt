@@ -1,11 +1,12 @@
 -- How each instruction leaves a record, and that the step goes by it: a plain one goes on or faults, and only the others jump, call or end.
 use Prim.Native.Nat.{ℕ, _%_}
 use mathlib.Core.Path.{_≡_, refl, sym, _∙_, subst}
-use mathlib.Core.Bool.{Bool, true, false, not, _&&_, cond}
+use mathlib.Core.Bool.{Bool, not, _&&_, cond}
 use mathlib.Core.Option.{Option, none, some}
 use lib.Dec.{eqb}
 use Rattle.records.specs.declared.code.Code.{Code}
 use Rattle.records.specs.declared.code.Code.the-variants.{ADD, ADDRM, ADDMR, ADDI, ADDIM, SUB, SUBRM, SUBMR, SUBI, IMUL, IMULRM, IMULMR, IDIV, IDIVM, CQO, JMP, JMPL, JMPLN, LEAL, MOV, MOVS, MOVL, MOVI, MOVIM, CMP, CMPRM, CMPMR, CMPI, CMPIM, JEL, JNEL, JLL, JLEL, JGL, JGEL, PUSH, POP, CALL, RET, LAB, NOEXECSTACK, TEXT, GLOBAL, EXTERN}
+use Rattle.records.proofs.Conditions.{both-ways}
 use Rattle.machine_step.specs.declared.memory.Fetched.{Fetched}
 use Rattle.machine_step.specs.declared.memory.Fetched.the-variants.{Word, Nothing}
 use Rattle.machine_step.specs.declared.instruction.Compared.{Compared}
@@ -86,7 +87,7 @@ byFlow words (calling label) c o = call words label c
 byFlow words returning c o = return c
 byFlow words stops c o = fault c
 
--- what goes on plainly after a word, a state or a test is plain
+-- what goes on plainly after a word or a state is plain
 module _ (c : Config) where
   abbrev Plain : Outcome → Type 0
   Plain o = o ≡ plainly c o
@@ -99,10 +100,6 @@ module _ (c : Config) where
   state-plain (some s) f = refl
   state-plain none f = refl
 
-  test-plain : (b : Bool) (d : Config) → Plain (cond b (next d) (fault c))
-  test-plain true d = refl
-  test-plain false d = refl
-
   arithmetic-plain : (f : ℕ → ℕ → ℕ) (dest src : Operand) → Plain (calculate f dest src c)
   arithmetic-plain f dest src = word-plain (valueOf (c .state) src) _ (λ y. word-plain (valueOf (c .state) dest) _ (λ x. state-plain (assigned (c .state) dest (f x y)) _))
 
@@ -113,7 +110,7 @@ module _ (c : Config) where
   compare-plain dest src = word-plain (valueOf (c .state) src) _ (λ y. word-plain (valueOf (c .state) dest) _ (λ x. refl))
 
   divide-plain : (src : Operand) → Plain (divide src c)
-  divide-plain src = word-plain (valueOf (c .state) src) _ (λ d. test-plain (divides (c .state .reg 5) (c .state .reg 4) d) _)
+  divide-plain src = word-plain (valueOf (c .state) src) _ (λ d. both-ways Plain (divides (c .state .reg 5) (c .state .reg 4) d) refl refl)
 
   push-plain : (a : ℕ) → Plain (push a c)
   push-plain a = state-plain (store (putReg (c .state) 0 (difference (c .state .reg 0) 8)) (difference (c .state .reg 0) 8) (c .state .reg a)) _
@@ -182,29 +179,17 @@ module _ (c : Config) where
   plainly-still (end d) = tt
   plainly-still (fault d) = tt
 
-  taken-still : (b : Bool) (label : ℕ) → Still (cond b (jump label (dropped c)) (next (dropped c)))
-  taken-still true label = refl
-  taken-still false label = tt
-
   pair-still : (q : Compared) (holds : ℕ → ℕ → Bool) (label : ℕ) → Still (onPair c q (λ x y. cond (holds x y) (jump label (dropped c)) (next (dropped c))))
   pair-still Absent holds label = tt
-  pair-still (Of x y) holds label = taken-still (holds x y) label
-
-  next-still : (b : Bool) (d : Config) → Still (cond b (next d) (fault c))
-  next-still true d = tt
-  next-still false d = tt
-
-  end-still : (b : Bool) (d : Config) → Still (cond b (end d) (fault c))
-  end-still true d = tt
-  end-still false d = tt
+  pair-still (Of x y) holds label = both-ways Still (holds x y) refl tt
 
   flow-still : (words : ℕ → ℕ) (f : Flow) (o : Outcome) → Still (byFlow words f c o)
   flow-still words plain o = plainly-still o
   flow-still words (jumps label) o = refl
   flow-still words (branches holds label) o = pair-still (c .pair) holds label
   flow-still words (mark label) o = tt
-  flow-still words (calling label) o = next-still (isPrintName label && eqb (c .state .reg 0 % 16) 0) _
-  flow-still words returning o = end-still (eqb (c .state .reg 0) 1099511627768) _
+  flow-still words (calling label) o = both-ways Still (isPrintName label && eqb (c .state .reg 0 % 16) 0) tt tt
+  flow-still words returning o = both-ways Still (eqb (c .state .reg 0) 1099511627768) tt tt
   flow-still words stops o = tt
 
   pub jump-keeps : (words : ℕ → ℕ) (x : Code) {label : ℕ} {d : Config} → step words x c ≡ jump label d → d .state ≡ c .state

@@ -1,32 +1,36 @@
 -- How many records and labels the trees of memory.rs have.
 use Prim.Native.Nat.{ℕ, zero, suc, _+_, _*_, _-_, _≤_, _<_}
-use mathlib.Core.Bool.{Bool, true, false, cond}
+use mathlib.Core.Bool.{Bool, true, false}
 use mathlib.Core.Path.{_≡_, refl, ap}
 use native.Mathlib.Nat.{mul-le-mul-right, div-add-mod, mod-lt}
 use native.Mathlib.Omega.{arith}
 use lib.Dec.{ltb, eqb}
-use Rattle.records.specs.declared.code.Code.the-variants.{ADDIM, MOVS, MOVL, MOVIM, CMPIM}
+use Rattle.records.specs.declared.code.Code.the-variants.{ADDIM, MOVL, CMPIM}
+use Rattle.records.proofs.Conditions.{both-ways}
 use Rattle.trees.specs.Tree.{Tree, nop, leaf, seq, if-zero, labels, size}
 use Rattle.layout.specs.declared.config.Shape.{Shape}
 use Rattle.layout.specs.Config.{Supported, STACK, TEMP, MINUSONE, stackOffset, registerFor}
 use Rattle.code.specs.Code.{loadImmediate}
-use Rattle.memory.specs.Objects.{fst, snd, storeZeros, storeValue, storeValues, storeOther, storeOthers, storeSome, storeObject, chunks, objectRecords, shareLoaded, loadFst, loadValue, loadValues, releaseUnless, loadLink, capacity, setAside, restore, loadBody, loadSpilled, loadBlock, freed, loadOthers, loadSome, loadObject}
+use Rattle.memory.specs.Objects.{fst, snd, storeZeros, storeFst, storeValue, storeValues, storeOther, storeOthers, storeSome, storeObject, chunks, objectRecords, shareLoaded, loadFst, loadValue, loadValues, releaseUnless, loadLink, capacity, setAside, restore, loadBody, loadSpilled, loadBlock, freed, loadOthers, loadSome, loadObject}
 use Rattle.memory.proofs.Flattened.{fields-size}
-use Rattle.memory.specs.Blocks.{eraseBlock, shareRegister, shareBlock, takeBlock, acquireBlock, storeField, loadField, releaseBlock}
+use Rattle.memory.specs.Blocks.{eraseBlock, shareBlock, takeBlock, acquireBlock, storeField, loadField}
 
--- of a choice between two trees
-pub either : (b : Bool) (t u : Tree) (n m : ℕ) → labels t ≡ n → labels u ≡ n → size t ≤ m → size u ≤ m → (labels (cond b t u) ≡ n) × (size (cond b t u) ≤ m)
-either true t u n m p q r s = (p, r)
-either false t u n m p q r s = (q, s)
+-- so many labels, and at most so many records
+abbrev pub Sized : ℕ → ℕ → Tree → Type 0
+Sized n m t = (labels t ≡ n) × (size t ≤ m)
+
+-- at most so many of both
+abbrev pub Within : ℕ → ℕ → Tree → Type 0
+Within n m t = (labels t ≤ n) × (size t ≤ m)
 
 pub erase-size : (g : Shape) (w : ℕ) → (labels (eraseBlock g w) ≡ 3) × (size (eraseBlock g w) ≤ 12)
-erase-size g w = either (ltb w 16) _ _ 3 12 refl refl (omega arith) (omega arith)
+erase-size g w = both-ways (Sized 3 12) (ltb w 16) (omega arith) (omega arith)
 
 pub share-size : (g : Shape) (w n : ℕ) → (labels (shareBlock g w n) ≡ 1) × (size (shareBlock g w n) ≤ 5)
-share-size g w n = either (ltb w 16) _ _ 1 5 refl refl (omega arith) (omega arith)
+share-size g w n = both-ways (Sized 1 5) (ltb w 16) (omega arith) (omega arith)
 
 pub take-size : (g : Shape) (w : ℕ) → (labels (takeBlock g w) ≡ 0) × (size (takeBlock g w) ≤ 2)
-take-size g w = either (ltb w 16) _ _ 0 2 refl refl (omega arith) (omega arith)
+take-size g w = both-ways (Sized 0 2) (ltb w 16) (omega arith) (omega arith)
 
 pub acquire-size : (g : Shape) (w : ℕ) → (labels (acquireBlock g w) ≡ 3 * g .fields + 4) × (size (acquireBlock g w) ≤ 12 * g .fields + 19)
 acquire-size g w =
@@ -36,10 +40,10 @@ acquire-size g w =
 
 module _ (g : Shape) where
   pub store-field-size : (w r offset : ℕ) → (labels (storeField g w r offset) ≡ 0) × (size (storeField g w r offset) ≤ 2)
-  store-field-size w r offset = either (ltb w 16) _ _ 0 2 refl refl (omega arith) (omega arith)
+  store-field-size w r offset = both-ways (Sized 0 2) (ltb w 16) (omega arith) (omega arith)
 
   pub load-field-size : (w r offset : ℕ) → (labels (loadField g w r offset) ≡ 0) × (size (loadField g w r offset) ≤ 2)
-  load-field-size w r offset = either (ltb w 16) _ _ 0 2 refl refl (omega arith) (omega arith)
+  load-field-size w r offset = both-ways (Sized 0 2) (ltb w 16) (omega arith) (omega arith)
 
 pub zeros-size : (n : ℕ) → (labels (storeZeros n) ≡ 0) × (size (storeZeros n) ≡ n)
 zeros-size zero = (refl, refl)
@@ -99,7 +103,7 @@ module _ (g : Shape) (ext : ℕ → Bool) where
   store-value-size v t =
       let a = store-field-size g (snd v) 2 (24 + 16 * t) in
       let b = store-field-size g (fst v) 2 (16 + 16 * t) in
-      let c = either (ext v) (leaf (MOVIM 2 (16 + 16 * t) 0) refl) (storeField g (fst v) 2 (16 + 16 * t)) 0 2 refl (b .0) (omega arith) (b .1) in
+      let c : Sized 0 2 (storeFst g (ext v) v t) = both-ways (Sized 0 2) (ext v) (omega arith) b in
       (omega arith, omega arith)
 
   pub store-values-size : (v k free : ℕ) → k ≤ free → (labels (storeValues g ext v k free) ≡ 0) × (size (storeValues g ext v k free) ≤ 3 * k + free)
@@ -136,32 +140,27 @@ module _ (g : Shape) (ext : ℕ → Bool) where
       let x = most-labels f c m (n - f) (s .some) (omega (arith, s .some)) l in
       (omega (arith, s .few), omega arith)
 
--- a bound for a choice between two trees
-pub within : (b : Bool) (t u : Tree) (n m : ℕ) → labels t ≤ n → labels u ≤ n → size t ≤ m → size u ≤ m → (labels (cond b t u) ≤ n) × (size (cond b t u) ≤ m)
-within true t u n m p q r s = (p, r)
-within false t u n m p q r s = (q, s)
-
 pub immediate-size : (g : Shape) (w value : ℕ) → (labels (loadImmediate g w value) ≤ 0) × (size (loadImmediate g w value) ≤ 1)
-immediate-size g w value = within (ltb w 16) _ _ 0 1 (omega arith) (omega arith) (omega arith) (omega arith)
+immediate-size g w value = both-ways (Within 0 1) (ltb w 16) (omega arith) (omega arith)
 
 module _ (g : Shape) (ext : ℕ → Bool) (s : Supported g) (v n : ℕ) where
   pub store-object-records : (labels (storeObject g ext v n) ≤ 10 * n + 100) × (size (storeObject g ext v n) ≤ objectRecords g n)
   store-object-records =
       let a = immediate-size g (fst v) 0 in
       let z = store-some-size g ext s v n in
-      within (eqb n 0) (loadImmediate g (fst v) 0) (storeSome g ext v n) (10 * n + 100) (objectRecords g n) (omega arith) (z .0) (omega arith) (z .1)
+      both-ways (Within (10 * n + 100) (objectRecords g n)) (eqb n 0) (omega arith) z
 
   pub store-object-size : (labels (storeObject g ext v n) ≤ 10 * n + 100) × (size (storeObject g ext v n) ≤ 49 * n + 600)
   store-object-size = let z = store-object-records in (z .0, omega (arith, z .1, object-records-few g s n))
 
 pub share-loaded-size : (shared : Bool) (w : ℕ) → (labels (shareLoaded shared w) ≤ 1) × (size (shareLoaded shared w) ≤ 4)
-share-loaded-size shared w = within shared (shareRegister (registerFor w) 1) nop 1 4 (omega arith) (omega arith) (omega arith) (omega arith)
+share-loaded-size shared w = both-ways (Within 1 4) shared (omega arith) (omega arith)
 
 pub load-fst-size : (g : Shape) (integer shared : Bool) (v t r : ℕ) → (labels (loadFst g integer shared v t r) ≤ 1) × (size (loadFst g integer shared v t r) ≤ 6)
 load-fst-size g integer shared v t r =
     let a = load-field-size g (fst v) r (16 + 16 * t) in
     let s = share-loaded-size shared (fst v) in
-    within integer nop (seq (loadField g (fst v) r (16 + 16 * t)) (shareLoaded shared (fst v))) 1 6 (omega arith) (omega arith) (omega arith) (omega arith)
+    both-ways (Within 1 6) integer (omega arith) (omega arith)
 
 module _ (g : Shape) (ext : ℕ → Bool) (shared : Bool) where
   pub load-value-size : (v t r : ℕ) → (labels (loadValue g ext shared v t r) ≤ 1) × (size (loadValue g ext shared v t r) ≤ 8)
@@ -178,18 +177,18 @@ module _ (g : Shape) (ext : ℕ → Bool) (shared : Bool) where
       (omega arith, omega arith)
 
 pub release-size : (shared : Bool) (r : ℕ) → (labels (releaseUnless shared r) ≤ 0) × (size (releaseUnless shared r) ≤ 2)
-release-size shared r = within shared nop (releaseBlock r) 0 2 (omega arith) (omega arith) (omega arith) (omega arith)
+release-size shared r = both-ways (Within 0 2) shared (omega arith) (omega arith)
 
 pub link-size : (g : Shape) (other : Bool) (v r : ℕ) → (labels (loadLink g other v r) ≤ 0) × (size (loadLink g other v r) ≤ 2)
 link-size g other v r =
     let a = load-field-size g (fst v) r (16 + 16 * (g .fields - 1)) in
-    within other (loadField g (fst v) r (16 + 16 * (g .fields - 1))) nop 0 2 (omega arith) (omega arith) (omega arith) (omega arith)
+    both-ways (Within 0 2) other (omega arith) (omega arith)
 
 pub aside-size : (g : Shape) (aside : Bool) → (labels (setAside g aside) ≤ 0) × (size (setAside g aside) ≤ 1)
-aside-size g aside = within aside nop (leaf (MOVS 4 0 (stackOffset g 16)) refl) 0 1 (omega arith) (omega arith) (omega arith) (omega arith)
+aside-size g aside = both-ways (Within 0 1) aside (omega arith) (omega arith)
 
 pub restore-size : (g : Shape) (other : Bool) → (labels (restore g other) ≤ 0) × (size (restore g other) ≤ 1)
-restore-size g other = within other nop (leaf (MOVL 4 0 (stackOffset g 16)) refl) 0 1 (omega arith) (omega arith) (omega arith) (omega arith)
+restore-size g other = both-ways (Within 0 1) other (omega arith) (omega arith)
 
 module _ (g : Shape) (ext : ℕ → Bool) (shared other : Bool) where
   pub body-size : (v k r : ℕ) → (labels (loadBody g ext shared other v k r) ≤ k) × (size (loadBody g ext shared other v k r) ≤ 8 * k + 4)
@@ -210,7 +209,7 @@ module _ (g : Shape) (ext : ℕ → Bool) (shared other : Bool) where
   block-size aside v k =
       let a = body-size v k (fst v) in
       let z = spilled-size aside v k in
-      within (ltb (fst v) 16) (loadBody g ext shared other v k (fst v)) (loadSpilled g ext shared other aside v k) k (8 * k + 7) (a .0) (z .0) (omega arith) (z .1)
+      both-ways (Within k (8 * k + 7)) (ltb (fst v) 16) (omega arith) z
 
 module _ (g : Shape) (ext : ℕ → Bool) (shared : Bool) where
   pub others-size : (m v n : ℕ) → (labels (loadOthers g ext shared m v n) ≤ (g .fields - 1) * m) × (size (loadOthers g ext shared m v n) ≤ (8 * (g .fields - 1) + 7) * m)
@@ -244,24 +243,24 @@ module _ (g : Shape) (ext : ℕ → Bool) (shared : Bool) where
 
 module _ (g : Shape) (ext : ℕ → Bool) (s : Supported g) (v n : ℕ) where
   -- of a load, from those of its two ways
-  both-ways : (l m : ℕ) → labels (loadSome g ext false v n) + labels (loadSome g ext true v n) + 2 ≤ l → size (loadSome g ext false v n) + size (loadSome g ext true v n) + 7 ≤ m
+  two-ways : (l m : ℕ) → labels (loadSome g ext false v n) + labels (loadSome g ext true v n) + 2 ≤ l → size (loadSome g ext false v n) + size (loadSome g ext true v n) + 7 ≤ m
       → (labels (loadObject g ext v n) ≤ l) × (size (loadObject g ext v n) ≤ m)
-  both-ways l m a b =
+  two-ways l m a b =
       let r : ℕ = registerFor (fst v) in
       let p : Tree = leaf (MOVL TEMP STACK (stackOffset g (fst v))) refl in
       let c : Tree = if-zero (CMPIM r 0 0) refl (loadSome g ext false v n) (seq (leaf (ADDIM r 0 MINUSONE) refl) (loadSome g ext true v n)) in
-      let y = within (ltb (fst v) 16) nop p 0 1 (omega arith) (omega arith) (omega arith) (omega arith) in
-      within (eqb n 0) nop (seq (cond (ltb (fst v) 16) nop p) c) l m (omega arith) (omega (arith, a, y .0)) (omega arith) (omega (arith, b, y .1))
+      let y = both-ways (Within 0 1) (ltb (fst v) 16) {x = nop} {y = p} (omega arith) (omega arith) in
+      both-ways (Within l m) (eqb n 0) (omega arith) (omega (arith, a, b, y))
 
   pub object-size : (labels (loadObject g ext v n) ≤ 2 * n + 42) × (size (loadObject g ext v n) ≤ 30 * n + 410)
   object-size =
       let a = some-size g ext false s v n in
       let b = some-size g ext true s v n in
-      both-ways (2 * n + 42) (30 * n + 410) (omega arith) (omega arith)
+      two-ways (2 * n + 42) (30 * n + 410) (omega arith) (omega arith)
 
   pub load-object-records : (labels (loadObject g ext v n) ≤ 2 * n + 42) × (size (loadObject g ext v n) ≤ objectRecords g n)
   load-object-records =
       let a = some-records g ext false v n in
       let b = some-records g ext true v n in
       let t = twice-loaded (g .fields) (g .fields - 1) (chunks (g .fields - 1) (n - g .fields)) (omega (arith, s .some)) in
-      both-ways (2 * n + 42) (objectRecords g n) (omega (arith, some-size g ext false s v n .0, some-size g ext true s v n .0)) (omega arith)
+      two-ways (2 * n + 42) (objectRecords g n) (omega (arith, some-size g ext false s v n .0, some-size g ext true s v n .0)) (omega arith)

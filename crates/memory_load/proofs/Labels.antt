@@ -1,12 +1,13 @@
 -- How many labels a load draws: one for each linked variable where its children are shared, else none.
 use Prim.Native.Nat.{ℕ, zero, suc, _+_, _*_, _-_, _≤_}
 use mathlib.Core.Path.{_≡_, refl, ap, _∙_}
-use mathlib.Core.Bool.{Bool, true, false, cond}
+use mathlib.Core.Bool.{Bool, true, false}
 use mathlib.Core.List.{List}
 use native.Mathlib.Nat.{add-zero, add-suc}
 use native.Mathlib.Omega.{arith}
 use lib.Dec.{ltb}
 use Rattle.records.specs.Contexts.{extAt}
+use Rattle.records.proofs.Conditions.{both-ways}
 use Rattle.trees.specs.Tree.{Tree, labels}
 use Rattle.layout.specs.declared.config.Shape.{Shape}
 use Rattle.layout.specs.Config.{Supported}
@@ -26,10 +27,6 @@ drawn-none false = refl
 drawn-add : (shared : Bool) (m n : ℕ) → drawn shared m + drawn shared n ≡ drawn shared (m + n)
 drawn-add true m n = refl
 drawn-add false m n = refl
-
-same : (b : Bool) (t u : Tree) (n : ℕ) → labels t ≡ n → labels u ≡ n → labels (cond b t u) ≡ n
-same true t u n p q = p
-same false t u n p q = q
 
 fst-labels : (g : Shape) (integer shared : Bool) (v t r : ℕ) → labels (loadFst g integer shared v t r) ≡ drawn shared (oneIfLinked integer)
 fst-labels g true true v t r = refl
@@ -78,9 +75,7 @@ module _ (g : Shape) (ext : ℕ → Bool) (shared : Bool) where
 
     block-labels : (aside : Bool) (v k : ℕ) → labels (loadBlock g ext shared other aside v k) ≡ drawn shared (linkedIn ext v k)
     block-labels aside v k =
-        same (ltb (fst v) 16) (loadBody g ext shared other v k (fst v)) (loadSpilled g ext shared other aside v k) (drawn shared (linkedIn ext v k))
-        (body-labels v k (fst v))
-        (spilled-labels aside v k)
+        both-ways (λ (t : Tree). labels t ≡ drawn shared (linkedIn ext v k)) (ltb (fst v) 16) (body-labels v k (fst v)) (spilled-labels aside v k)
 
   -- the variables before n - c and those from there on
   parts : (v n c : ℕ) → drawn shared (linkedIn ext v (n - c)) + drawn shared (linkedIn ext (v + (n - c)) (n - (n - c))) ≡ drawn shared (linkedIn ext v n)

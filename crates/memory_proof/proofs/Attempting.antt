@@ -1,6 +1,6 @@
 -- That a tree's run leaves something true, or faults and then for a reason; and how such runs are put together.
 use mathlib.Core.Bool.{true}
-use mathlib.Core.Path.{_≡_, refl, sym, _∙_, ap}
+use mathlib.Core.Path.{_≡_, refl, sym, _∙_}
 use Prim.Native.Nat.{ℕ, _+_, _-_, _*_, _/_, _%_, _^_, _≤_, _<_}
 use native.Mathlib.Omega.{arith}
 use lib.Dec.{eqb}
@@ -14,7 +14,7 @@ use Rattle.layout.specs.Config.{blockWords}
 use Rattle.machine_step.specs.declared.memory.Place.the-variants.{Nowhere}
 use Rattle.machine_step.specs.Memory.{placeOf}
 use Rattle.machine_step.specs.Step.{Config, dropped, next, step}
-use Rattle.trees_proof.specs.Evaluation.{Evaluated, done, faulted, evaluate}
+use Rattle.trees_proof.specs.Evaluation.{done, faulted, evaluate}
 use Rattle.heap.proofs.WordLemmas.{word-past, heap-below}
 use Rattle.heap.specs.Words.{wordAt}
 use Rattle.layout_proof.specs.Held.{Placed}
@@ -28,11 +28,7 @@ pub data Attempts (words : ℕ → ℕ) (t : Tree) (c : Config) (F : Type 0) (Q 
 
 -- a run that is done is not faulted
 pub apart : {c d : Config} → done c ≡ faulted d → ⊥
-apart e = let z : _≡_ {A = ℕ} 0 1 = ap by e in absurd (omega arith)
-  where
-    by : Evaluated → ℕ
-    by (done c) = 0
-    by (faulted c) = 1
+apart e = let z : _≡_ {A = ℕ} 0 1 = cc in omega arith
 
 module _ {words : ℕ → ℕ} {F : Type 0} where
   pub attempt-then : {t u : Tree} {c : Config} {Q R : Config → Type 0} → Attempts words t c F Q → ((d : Config) → Q d → Attempts words u d F R) → Attempts words (seq t u) c F R

@@ -9,6 +9,7 @@ use native.Mathlib.Omega.{arith}
 use lib.Dec.{ltb}
 use borrow.Author.Tests.{eq-eqb, ne-eqb, ltb-true, ltb-false}
 use Rattle.records.specs.declared.code.Code.the-variants.{ADDIM, MOVL, CMPIM}
+use Rattle.records.proofs.Conditions.{never}
 use Rattle.word.specs.Words.{sum}
 use Rattle.trees.specs.Tree.{nop, leaf, seq, if-zero}
 use Rattle.layout.specs.declared.config.Shape.{Shape}
@@ -76,7 +77,7 @@ module _ {G : Shape} (words : ℕ → ℕ) (ext : ℕ → Bool) where
         by (yes z) =
             let l₁ : Lies G N (blockFields (G .fields) (r .state .mem)) p ch = rw em lays in
             if-yes (block-compared words r er b j 0 0 rb lt refl (omega arith) 0) (eq-eqb (r .state .mem (wordAt (G .fields) j 0)) 0 z)
-            (so (some-does words ext false n e p ch (dropped r) er ir l₁ (record { each = λ y. let o : _≡_ {A = ℕ} 0 1 = cc in absurd (omega arith) }) n n1 en133 (omega arith) sz) (λ u x.
+            (so (some-does words ext false n e p ch (dropped r) er ir l₁ (record { each = never }) n n1 en133 (omega arith) sz) (λ u x.
             (x .0, released-all u (x .1), keeps-trans ku (x .2))))
           where
             released-all : (u : Config) → ObjectGone (heapOf G r) p ch (pointers (asVariables ext e (concat ch))) false (heapOf G u) → ObjectTaken (heapOf G s) p ch (pointers (asVariables ext e (concat ch))) (heapOf G u)

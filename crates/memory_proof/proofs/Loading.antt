@@ -10,6 +10,7 @@ use lib.Dec.{ltb}
 use lib.ListN.{length}
 use borrow.Author.Tests.{ltb-true, ltb-false}
 use Rattle.records.specs.declared.code.Code.the-variants.{MOVS, MOVL}
+use Rattle.records.proofs.Conditions.{never}
 use Rattle.word.specs.Words.{choose}
 use Rattle.trees.specs.Tree.{nop, leaf, seq}
 use Rattle.layout.specs.declared.config.Shape.{Shape}
@@ -63,7 +64,7 @@ at-most p q = by (ℕ-discrete p q)
 
 -- those left, after one
 pub may-share-rest : {G : Shape} {c : Bool} {N K q : ℕ} {m m₁ : ℕ → ℕ} (ps : List ℕ) → Counted G c (q ∷ []) m m₁ → MayShare G c N (suc K) m (ps ++ (q ∷ [])) → MayShare G c N K m₁ ps
-may-share-rest ps (idle a) f = record { each = λ e. let z : _≡_ {A = ℕ} 0 1 = cc in absurd (omega arith) }
+may-share-rest ps (idle a) f = record { each = never }
 may-share-rest {G} {N = N} {K = K} {q = q} {m = m} {m₁ = m₁} ps (more-of a) f = record {
   each = λ e p n z.
       let g = f .each refl p (omega (arith, occ-append p ps (q ∷ []))) z in

@@ -10,6 +10,7 @@ use native.Mathlib.Omega.{arith}
 use lib.Dec.{ltb}
 use borrow.Author.Tests.{ltb-true, ltb-false}
 use Rattle.records.specs.declared.code.Code.the-variants.{MOVS, MOVL}
+use Rattle.records.proofs.Conditions.{never}
 use Rattle.trees.specs.Tree.{Tree, nop, leaf, seq}
 use Rattle.layout.specs.declared.config.Shape.{Shape}
 use Rattle.layout.specs.Config.{blockWords, linkWord, positions, fstOffset, stackOffset}
@@ -80,7 +81,7 @@ module _ {G : Shape} (words : ℕ → ℕ) (ext : ℕ → Bool) where
       )))
   link-and-values sh false s v k b j K en p h b16 b1 ne kf k1 vk kk f =
       go refl (so (load-values words ext sh s v k (G .fields) b j K en (λ _. p) h b16 b1 (λ x a z. ne x a (omega arith)) kf (omega arith) vk kk f) (λ u e.
-      (e .0, e .1, (λ z. let y : _≡_ {A = ℕ} 0 1 = cc in absurd (omega arith)), keeps-sub (λ x y. y .0) (e .2))))
+      (e .0, e .1, never, keeps-sub (λ x y. y .0) (e .2))))
 
   pub load-body : {N : ℕ} (sh other : Bool) (s : Config) (v k b j K : ℕ) → Placed G N s → s .state .reg b ≡ blockAddress G j → j < N → b < 16 → b ≢ 1 → b ≢ 2 → ((p : ℕ) → 2 * v < p → p ≤ 2 * (v + k) → location p ≢ b) → k ≤ capacity G other → 1 ≤ k → 2 * (v + k) < positions G
       → k ≤ K → MayShare G sh N K (s .state .mem) (pointers (shownBy G ext v k (s .state .mem) j (capacity G other)))
@@ -103,7 +104,7 @@ module _ {G : Shape} (words : ℕ → ℕ) (ext : ℕ → Bool) where
       let agree : shownBy G ext v k m₁ j (capacity G other) ≡ shownBy G ext v k (s .state .mem) j (capacity G other)
       = ap (asVariables ext v) (cells-agree (G .fields) (s .state .mem) m₁ j (capacity G other - k) k (λ y a e. head-fields G (s .state .mem) j (s .state .reg 2) j y (omega arith) (lt8 other y e kf))) in
       then {Q = λ r. r ≡ s₁} (go (block-MOVS words s en b j 0 0 p h refl (omega arith) 2) (one (register-MOV words (withHeap s (wordAt (G .fields) j 0) (s .state .reg 2)) 2 b) refl)) (λ r q. rw q
-      (so (link-and-values false other s₁ v k b j K en (upd-other (s .state .reg) 2 (s .state .reg b) b b2 ∙ p) h b16 b1 ne kf k1 vk kk (record { each = λ z. let y : _≡_ {A = ℕ} 0 1 = cc in absurd (omega arith) })) (λ u d.
+      (so (link-and-values false other s₁ v k b j K en (upd-other (s .state .reg) 2 (s .state .reg b) b b2 ∙ p) h b16 b1 ne kf k1 vk kk (record { each = never })) (λ u d.
       record {
         vals = d .0 ∙ agree;
         went = by (d .1) (keeps-register (d .3) 2 (omega arith) ((omega arith, λ x a z. omega (arith, location-free x .0)), omega (arith, location-free (2 * (v + k)) .0)) ∙ p);

@@ -7,6 +7,7 @@ use native.Mathlib.Omega.{arith}
 use lib.Dec.{ltb}
 use lib.ListN.{length}
 use borrow.Author.Tests.{lt-ltb}
+use Rattle.records.proofs.Conditions.{never, both-ways}
 use Rattle.layout.specs.declared.config.Shape.{Shape}
 use Rattle.layout.specs.Config.{positions}
 use Rattle.layout.specs.Positions.{location}
@@ -36,8 +37,7 @@ pub data ObjectGone (M : Memory) (p : ℕ) (ch : List (List Cell)) (ps : List �
   object-counted : {M′ : Memory} → CountsMore ps M M′ → ObjectGone M p ch ps true M′
 
 restored-none : (c : Bool) (u : Config) → restored (cond c false false) u ≡ u
-restored-none true u = refl
-restored-none false u = refl
+restored-none c u = both-ways (λ f. restored f u ≡ u) c refl refl
 
 gone-none : (sh : Bool) (M : Memory) (p q : ℕ) → p ≡ q → BlocksGone M p [] [] sh M q
 gone-none false M p q e = all-released {M′ = M} {q = q} (refl, e)
@@ -60,7 +60,7 @@ module _ {G : Shape} (words : ℕ → ℕ) (ext : ℕ → Bool) where
         let q : held s (location (2 * (e + 0))) ≡ p = ap (λ (x : ℕ). held s (location (2 * x))) z ∙ is in
         let l₁ : Lies G N (blockFields (G .fields) (s .state .mem)) (held s (location (2 * (e + 0)))) ch = rw q lays in
         let p₁ : MayShare G sh N (K - 0) (s .state .mem) (pointers (asVariables ext (e + 0) (concat ch))) = rw (z, k) pts in
-        record { pre = []; left = ch; whole = refl; shape = sz; count = refl; placed = en; lies = l₁; vals = refl; gone = gone-none sh (heapOf G s) p (held s (location (2 * (e + 0)))) (sym q); may-share = p₁; keeps = keeps-refl; high = λ x. let y : _≡_ {A = ℕ} 0 1 = cc in absurd (omega arith) }
+        record { pre = []; left = ch; whole = refl; shape = sz; count = refl; placed = en; lies = l₁; vals = refl; gone = gone-none sh (heapOf G s) p (held s (location (2 * (e + 0)))) (sym q); may-share = p₁; keeps = keeps-refl; high = never }
 
     others-does : (m n x : ℕ) (xs : List ℕ) → Chunked (G .fields - 1) m n → 2 * (e + n) < positions G → n ≤ K → lengths ch ≡ otherSizes (G .fields - 1) m n (x ∷ xs)
         → Does words (loadOthers G ext sh m e n) s (λ r. LoadedSoFar G ext sh N K e n p ch (x ∷ xs) s (freed G ext e n) r)

@@ -8,6 +8,7 @@ use native.Mathlib.Omega.{arith}
 use lib.Dec.{ltb}
 use lib.ListN.{length, length-append}
 use borrow.Author.Tests.{ltb-false}
+use Rattle.records.proofs.Conditions.{never}
 use Rattle.layout.specs.declared.config.Shape.{Shape}
 use Rattle.layout.specs.Config.{Supported, linkWord, positions}
 use Rattle.layout.specs.Positions.{location}
@@ -119,7 +120,7 @@ as-variables-length ext v (c ∷ cs) = ap suc (as-variables-length ext (suc v) c
 
 -- the pointers left, after a block
 may-share-block : {G : Shape} {sh : Bool} {N j heap heap′ K k : ℕ} {m m′ : ℕ → ℕ} (ps qs : List ℕ) → length ps ≡ k → k ≤ K → AfterBlock G j ps m heap sh m′ heap′ → MayShare G sh N K m (ps ++ qs) → MayShare G sh N (K - k) m′ qs
-may-share-block ps qs n h (released e z) f = record { each = λ e. let z : _≡_ {A = ℕ} 0 1 = cc in absurd (omega arith) }
+may-share-block ps qs n h (released e z) f = record { each = never }
 may-share-block {G} {m = m} {m′ = m′} ps qs n h (counted c y) f = record {
   each = λ e p x z.
       let g = f .each refl p (omega (arith, occ-append p ps qs)) z in
@@ -154,7 +155,7 @@ placed-restored true s v = v
 placed-restored false s v = v
 
 borrowed : (c : Bool) (v : ℕ) → ltb (location (2 * v)) 16 ≡ c → cond c false true ≡ true → 12 ≤ 2 * v
-borrowed true v e q = let z : _≡_ {A = ℕ} 0 1 = cc in absurd (omega arith)
+borrowed true v e q = never q
 borrowed false v e q = position-high (2 * v) (ltb-false (location (2 * v)) 16 e)
 
 pub under-aside : (e v k x : ℕ) → e ≤ v → Under e x → Aside v k x

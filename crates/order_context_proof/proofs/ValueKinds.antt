@@ -3,6 +3,7 @@ use Prim.Native.Nat.{ℕ, zero, suc, _+_, _≤_, _<_}
 use mathlib.Core.Path.{_≡_, refl, sym, ap, _∙_}
 use mathlib.Core.Bool.{Bool, true, false}
 use native.Mathlib.Omega.{arith}
+use Rattle.records.proofs.Conditions.{never}
 use Rattle.heap.specs.Values.{Value, integer, object, Values, nil, cons, countOf, appended, firstOf, valueAt, copies, KindsFrom}
 
 -- ---- how many
@@ -65,7 +66,7 @@ module _ (ext : ℕ → Bool) where
     where
       by : (w : Value) → valueAt a vs ≡ w → true ≡ isInteger (valueAt a vs) → (n : ℕ) × (valueAt a vs ≡ integer n)
       by (integer w) q t = (w, q)
-      by (object tag ws) q t = let f : true ≡ false = rw q at t in let z : _≡_ {A = ℕ} 0 1 = cc in absurd (omega arith)
+      by (object tag ws) q t = never (sym (rw q at t))
 
 -- the same values from another variable on, where the kinds are the same
 pub kinds-moved : (ext ext′ : ℕ → Bool) (v v′ : ℕ) (vs : Values) → ((x : ℕ) → x < countOf vs → ext′ (v′ + x) ≡ ext (v + x)) → KindsFrom ext v vs → KindsFrom ext′ v′ vs

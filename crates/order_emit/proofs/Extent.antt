@@ -7,14 +7,14 @@ use native.Mathlib.Omega.{arith}
 use Rattle.records.specs.declared.order.Order.{Order}
 use Rattle.records.specs.declared.order.Order.the-variants.{Put, Compute, Copy, Drop, Store, Load, Print}
 use Rattle.records.specs.Contexts.{extAt}
-use Rattle.trees.specs.Tree.{nop, seq, labels, size}
+use Rattle.records.proofs.Conditions.{both-ways}
+use Rattle.trees.specs.Tree.{nop, labels, size}
 use Rattle.layout.specs.declared.config.Shape.{Shape}
 use Rattle.layout.specs.Config.{Supported, positions}
-use Rattle.code.specs.Code.{movTree}
 use Rattle.code.proofs.Sizes.{plain-mov, plain-arithmetic, plain-load-immediate}
-use Rattle.memory.specs.Blocks.{eraseBlock, shareBlock}
+use Rattle.memory.specs.Blocks.{shareBlock}
 use Rattle.memory.specs.Objects.{fst, snd, extIn}
-use Rattle.memory.proofs.Sizes.{within, erase-size, share-size, store-object-size, object-size}
+use Rattle.memory.proofs.Sizes.{Within, erase-size, share-size, store-object-size, object-size}
 use Rattle.print_i64.proofs.Sizes.{print-size}
 use Rattle.order_spec.specs.Writes.{copyVariable, copyTo, treeOf, present, asked}
 use Rattle.order_check.proofs.Asking.{copy-there, copy-asks, copies-few, store-there, store-fits, load-few}
@@ -23,8 +23,7 @@ pub variable-extent : (g : Shape) (ext : Bool) (a v : ℕ) → (labels (copyVari
 variable-extent g ext a v =
     let f = plain-mov g (fst v) (fst a) in
     let s = plain-mov g (snd v) (snd a) in
-    within ext (movTree g (snd v) (snd a)) (seq (movTree g (fst v) (fst a)) (movTree g (snd v) (snd a))) 0 4
-    (omega (arith, s .none)) (omega (arith, f .none, s .none)) (omega (arith, s .most)) (omega (arith, f .most, s .most))
+    both-ways (Within 0 4) ext (omega arith) (omega arith)
 
 pub copies-extent : (g : Shape) (ext : Bool) (a v n : ℕ) → (labels (copyTo g ext a v n) ≤ 0) × (size (copyTo g ext a v n) ≤ 4 * n)
 copies-extent g ext a v zero = (omega arith, omega arith)
@@ -36,7 +35,7 @@ copies-extent g ext a v (suc n) =
 pub share-extent : (g : Shape) (ext : Bool) (w n : ℕ) → (labels (cond ext nop (shareBlock g w n)) ≤ 1) × (size (cond ext nop (shareBlock g w n)) ≤ 5)
 share-extent g ext w n =
     let s = share-size g w n in
-    within ext nop (shareBlock g w n) 1 5 (omega arith) (omega (arith, s .0)) (omega arith) (s .1)
+    both-ways (Within 1 5) ext (omega arith) (omega arith)
 
 pub order-extent : {g : Shape} → Supported g → (c : List ℕ) (k : ℕ) (b : List ℕ) (o : Order) → present c k b o ≡ true → asked c k b o ≤ positions g
     → (labels (treeOf g c k b o) ≤ 3000) × (size (treeOf g c k b o) ≤ 14000)
@@ -51,7 +50,7 @@ order-extent {g} f c k b (Copy a n) p h =
     (omega (arith, s .0, z .0), omega (arith, s .1, z .1, f .frame))
 order-extent {g} f c k b Drop p h =
     let s = erase-size g (fst (k - 1)) in
-    within (extAt c (k - 1)) nop (eraseBlock g (fst (k - 1))) 3000 14000 (omega arith) (omega (arith, s .0)) (omega arith) (omega (arith, s .1))
+    both-ways (Within 3000 14000) (extAt c (k - 1)) (omega arith) (omega arith)
 order-extent {g} f c k b (Store n tag) p h =
     let l = store-there c k b n tag refl p in
     let w = store-fits c k b n tag refl f l h in

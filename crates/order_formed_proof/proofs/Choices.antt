@@ -1,10 +1,11 @@
 -- A choice between two trees is well formed where each part is, under its test where it needs that; and registers and offsets that fit.
 use Prim.Native.Nat.{ℕ, _^_, _≤_, _<_}
-use mathlib.Core.Bool.{Bool, true, false, cond}
+use mathlib.Core.Bool.{Bool, cond}
 use native.Mathlib.Decide.{decLt}
 use native.Mathlib.Omega.{arith}
 use lib.Dec.{ltb}
 use borrow.Author.Tests.{lt-ltb, le-ltb}
+use Rattle.records.proofs.Conditions.{both-ways}
 use Rattle.trees.specs.Tree.{Tree}
 use Rattle.layout.specs.declared.config.Shape.{Shape}
 use Rattle.layout.specs.Config.{Supported, STACK, TEMP, HEAP, FREE, RETURN1, RETURN2, stackOffset, fstOffset, sndOffset, MINUSONE, registerFor}
@@ -12,8 +13,7 @@ use Rattle.order_formed_proof.proofs.Formed.{Formed}
 
 -- where the test does not matter
 pub either : (b : Bool) {t u : Tree} → Formed t → Formed u → Formed (cond b t u)
-either true f h = f
-either false f h = h
+either = both-ways Formed
 
 -- by whether an operand is a register or a spill
 pub on-operand : (w : ℕ) {t u : Tree} → (w < 16 → Formed t) → (16 ≤ w → Formed u) → Formed (cond (ltb w 16) t u)

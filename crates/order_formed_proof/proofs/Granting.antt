@@ -9,7 +9,7 @@ use borrow.Author.Tests.{ltb-true, ltb-false, ne-eqb}
 use Rattle.records.specs.declared.context.ContextRead.{ContextRead}
 use Rattle.records.specs.declared.context.ContextRead.the-variants as checked
 use Rattle.records.specs.Contexts.{checkedContext, countedOn, onContext}
-use Rattle.records.proofs.Conditions.{chosen, passed}
+use Rattle.records.proofs.Conditions.{never, chosen, passed}
 use Rattle.records.proofs.ContextsRead.{counted-good}
 use Rattle.trees.specs.Tree.{Tree, labels}
 use Rattle.layout.specs.declared.config.Shape.{Shape}
@@ -26,7 +26,7 @@ use Rattle.records.specs.Names.{lastLabel, mostCount}
 
 on-good : (c : ContextRead) (f : ℕ → Answer) → accepted (onContext c f Context) ≡ true → (k : ℕ) × (c ≡ checked.Good k) × (accepted (f k) ≡ true)
 on-good (checked.Good k) f e = (k, refl, e)
-on-good (checked.Bad flaw) f e = let z : _≡_ {A = ℕ} 0 1 = cc in absurd (omega arith)
+on-good (checked.Bad flaw) f e = never e
 
 good-same : {j k : ℕ} → checked.Good j ≡ checked.Good k → j ≡ k
 good-same e = cc

@@ -10,12 +10,12 @@ use Rattle.records.specs.declared.order.Order.{Order}
 use Rattle.records.specs.declared.order.Order.the-variants.{Put, Compute, Copy, Drop, Store, Load, Print}
 use Rattle.records.specs.ReadBack.{WellFormedOrder}
 use Rattle.records.specs.Contexts.{extAt}
-use Rattle.trees.specs.Tree.{Tree, nop, seq, size}
+use Rattle.records.proofs.Conditions.{both-ways}
+use Rattle.trees.specs.Tree.{nop, size}
 use Rattle.layout.specs.declared.config.Shape.{Shape}
 use Rattle.layout.specs.Config.{Supported, positions}
-use Rattle.code.specs.Code.{movTree}
 use Rattle.code.proofs.Sizes.{plain-arithmetic, plain-load-immediate, plain-mov}
-use Rattle.memory.specs.Blocks.{eraseBlock, shareBlock}
+use Rattle.memory.specs.Blocks.{shareBlock}
 use Rattle.memory.specs.Objects.{fst, snd, extIn}
 use Rattle.memory.proofs.Sizes.{erase-size, share-size, store-object-size, object-size}
 use Rattle.print_i64.proofs.Sizes.{print-size}
@@ -49,16 +49,11 @@ module _ (G : Shape) (sup : Supported G) where
     order-formed (Load n) w = formed-load G sup (extIn bindings (k - 1)) (k - 1) n
     order-formed (Print newline a) w = formed-print G sup newline (snd a) (extAt context) k
 
-  -- sizes of choices
-  size-most : (b : Bool) (t u : Tree) (m : ℕ) → size t ≤ m → size u ≤ m → size (cond b t u) ≤ m
-  size-most true t u m p q = p
-  size-most false t u m p q = q
-
   variable-size : (ext : Bool) (a v : ℕ) → size (copyVariable G ext a v) ≤ 4
   variable-size ext a v =
       let p = plain-mov G (fst v) (fst a) .most in
       let q = plain-mov G (snd v) (snd a) .most in
-      size-most ext (movTree G (snd v) (snd a)) (seq (movTree G (fst v) (fst a)) (movTree G (snd v) (snd a))) 4 (omega arith) (omega arith)
+      both-ways (λ t. size t ≤ 4) ext (omega arith) (omega arith)
 
   copies-size : (ext : Bool) (a v n : ℕ) → size (copyTo G ext a v n) ≤ 4 * n
   copies-size ext a v zero = omega arith
@@ -88,8 +83,8 @@ module _ (G : Shape) (sup : Supported G) where
         let s = share-size G (fst a) n .1 in
         let c = copies-size (extAt context a) a k n in
         let m = count-most n (cond (extAt context a) 0 (2 * a + 1)) k h in
-        omega (arith, size-most (extAt context a) nop (shareBlock G (fst a) n) 5 (omega arith) s, sup .frame)
-    order-size Drop p h = omega (arith, size-most (extAt context (k - 1)) nop (eraseBlock G (fst (k - 1))) 12 (omega arith) (erase-size G (fst (k - 1)) .1))
+        omega (arith, both-ways (λ t. size t ≤ 5) (extAt context a) {x = nop} {y = shareBlock G (fst a) n} (omega arith) s, sup .frame)
+    order-size Drop p h = both-ways (λ t. size t ≤ 65536) (extAt context (k - 1)) (omega arith) (omega (arith, erase-size G (fst (k - 1)) .1))
     order-size (Store n tag) p h =
         let l = leb-true n k p in
         let m = stored-most n k h in

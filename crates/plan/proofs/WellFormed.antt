@@ -13,7 +13,8 @@ use Rattle.records.specs.declared.order.Order.{Order}
 use Rattle.records.specs.declared.order.Order.the-variants.{Put, Compute, Copy, Drop, Store, Load, Print}
 use Rattle.records.specs.Orders.{orderFieldsOf, orderReaders, orderOf, usedByOrder, orderOperandsOk, orderOk, wanted}
 use Rattle.records.specs.ReadBack.{WellFormedOrder}
-use Rattle.plan_line.specs.declared.wrong.Wrong.the-variants.{NotNumber, OutOfRange, NotTag, NotNewline, NotKind, TooManyKinds, MissingWord}
+use Rattle.records.proofs.Conditions.{both-ways}
+use Rattle.plan_line.specs.declared.wrong.Wrong.the-variants.{OutOfRange, NotTag, NotNewline, NotKind, TooManyKinds, MissingWord}
 use Rattle.plan_line.specs.declared.numbers.Number.{Number}
 use Rattle.plan_line.specs.declared.numbers.Number.the-variants.{Value, NoValue}
 use Rattle.plan_line.specs.declared.orders.Line.{Line}
@@ -33,10 +34,6 @@ abbrev Below : ℕ → Number → Type 0
 Below bound (Value v) = v < bound
 Below bound (NoValue wrong) = Unit {0}
 
-either : (bound : ℕ) (x : Bool) (m n : Number) → Below bound m → Below bound n → Below bound (cond x m n)
-either bound true m n p q = p
-either bound false m n p q = q
-
 within-by : (limit bound v : ℕ) → limit < bound → (x : Bool) → leb v limit ≡ x → Below bound (cond x (Value v) (NoValue OutOfRange))
 within-by limit bound v h true e = omega (arith, leb-true v limit e)
 within-by limit bound v h false e = tt
@@ -45,7 +42,7 @@ natural-below : (limit bound : ℕ) → limit < bound → (w : List ℕ) → Bel
 unfolding naturalOf within
 natural-below limit bound h [] = tt
 natural-below limit bound h (b ∷ w) =
-    either bound (allDigits (b ∷ w)) (within limit (digitsValue 0 (b ∷ w))) (NoValue NotNumber) (within-by limit bound (digitsValue 0 (b ∷ w)) h (leb (digitsValue 0 (b ∷ w)) limit) refl) tt
+    both-ways (Below bound) (allDigits (b ∷ w)) (within-by limit bound (digitsValue 0 (b ∷ w)) h (leb (digitsValue 0 (b ∷ w)) limit) refl) tt
 
 negated-below : (n : Number) → Below (2 ^ 64) (negatedNumber n)
 negated-below (Value v) = omega arith
@@ -61,7 +58,7 @@ unfolding integerAt integerIn
 integer-below [] = tt
 integer-below ([] ∷ ws) = tt
 integer-below ((b ∷ w) ∷ ws) =
-    either (2 ^ 64) (eqb b 45) (negatedNumber (naturalOf 0x8000_0000_0000_0000 w)) (naturalOf 0x7FFF_FFFF_FFFF_FFFF (b ∷ w))
+    both-ways (Below (2 ^ 64)) (eqb b 45)
     (negated-below (naturalOf 0x8000_0000_0000_0000 w)) (natural-below 0x7FFF_FFFF_FFFF_FFFF (2 ^ 64) (omega arith) (b ∷ w))
 
 -- an order that is well formed and has its kinds

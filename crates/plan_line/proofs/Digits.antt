@@ -9,6 +9,7 @@ use borrow.Author.Tests.{le-leb, lt-leb, leb-true, eq-eqb, ne-eqb}
 use lib.Dec.{leb}
 use lib.ListN.{length, getD, take, drop, length-drop}
 use lib.Seq.{drop-cons, take-all}
+use Rattle.records.proofs.Conditions.{both-ways}
 use Rattle.plan_line.specs.declared.wrong.Wrong.the-variants.{OutOfRange, NotNumber}
 use Rattle.plan_line.specs.declared.numbers.Number.{Number}
 use Rattle.plan_line.specs.declared.numbers.Number.the-variants.{Value, NoValue}
@@ -99,15 +100,10 @@ within-fits : (v : ℕ) (x : Bool) → leb v 0xFFFF_FFFF ≡ x → Fits32 (cond 
 within-fits v true e = omega (arith, leb-true v 0xFFFF_FFFF e)
 within-fits v false e = tt
 
-digits-fit : (v : ℕ) (x : Bool) → Fits32 (cond x (within 0xFFFF_FFFF v) (NoValue NotNumber))
-unfolding within
-digits-fit v true = within-fits v (leb v 0xFFFF_FFFF) refl
-digits-fit v false = tt
-
 pub place-fits : (w : List ℕ) → Fits32 (placeIn w)
-unfolding naturalOf
+unfolding naturalOf within
 place-fits [] = tt
-place-fits (b ∷ w) = digits-fit (digitsValue 0 (b ∷ w)) (allDigits (b ∷ w))
+place-fits (b ∷ w) = both-ways Fits32 (allDigits (b ∷ w)) (within-fits (digitsValue 0 (b ∷ w)) (leb (digitsValue 0 (b ∷ w)) 0xFFFF_FFFF) refl) tt
 
 pub fits : {n : Number} {v : ℕ} → Fits32 n → n ≡ Value v → v < 0x1_0000_0000
 fits h e = rw e at h

@@ -8,6 +8,7 @@ use native.Mathlib.Numerals.{add-one}
 use native.Mathlib.Omega.{arith}
 use lib.ListN.{length, getD, take, drop, length-drop}
 use lib.Seq.{drop-cons, drop-drop, getD-drop}
+use Rattle.records.proofs.Conditions.{both-ways}
 use Rattle.plan_line.specs.Words.{before, found, part, onto, parts, filled}
 
 pub drop-past : (s : List ℕ) (i : ℕ) → length s ≤ i → drop i s ≡ []
@@ -16,26 +17,18 @@ drop-past [] (suc i) h = refl
 drop-past (b ∷ s) zero h = absurd (omega arith)
 drop-past (b ∷ s) (suc i) h = drop-past s i (omega arith)
 
--- one byte more, marked or not
-pick-take : (b : ℕ) (l m : List ℕ) (x : Bool) → take (length m) l ≡ m → take (length (cond x [] (b ∷ m))) (b ∷ l) ≡ cond x [] (b ∷ m)
-pick-take b l m true h = refl
-pick-take b l m false h = ap (λ (t : List ℕ). b ∷ t) h
-
-pick-short : (b : ℕ) (l m : List ℕ) (x : Bool) → length m ≤ length l → length (cond x [] (b ∷ m)) ≤ length (b ∷ l)
-pick-short b l m true h = omega arith
-pick-short b l m false h = omega arith
-
 module _ (P : ℕ → Bool) where
   pub take-before : (l : List ℕ) → take (length (before P l)) l ≡ before P l
   unfolding before
   take-before [] = refl
-  take-before (b ∷ l) = pick-take b l (before P l) (P b) (take-before l)
+  take-before (b ∷ l) = both-ways (λ m. take (length m) (b ∷ l) ≡ m) (P b) refl (ap (λ (t : List ℕ). b ∷ t) (take-before l))
 
   pub before-short : (l : List ℕ) → length (before P l) ≤ length l
   unfolding before
   before-short [] = omega arith
-  before-short (b ∷ l) = pick-short b l (before P l) (P b) (before-short l)
+  before-short (b ∷ l) = let h = before-short l in both-ways (λ (m : List ℕ). length m ≤ length (b ∷ l)) (P b) (omega arith) (omega arith)
 
+  -- one byte more, marked or not
   pick-stopped : (b : ℕ) (l m : List ℕ) (x : Bool) → P b ≡ x → (length m < length l → P (getD l (length m) 0) ≡ true)
       → length (cond x [] (b ∷ m)) < length (b ∷ l) → P (getD (b ∷ l) (length (cond x [] (b ∷ m))) 0) ≡ true
   pick-stopped b l m true e f h = e

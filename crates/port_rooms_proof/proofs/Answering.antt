@@ -12,6 +12,7 @@ use Rattle.records.specs.declared.context.ContextRead.{ContextRead}
 use Rattle.records.specs.declared.context.ContextRead.the-variants as checked
 use Rattle.records.specs.Contexts.{checkedContext, countedOn, bindingsIn, onContext}
 use Rattle.records.specs.Orders.{orderStarts, wanted}
+use Rattle.records.proofs.Conditions.{never}
 use Rattle.records.proofs.ContextsRead.{counted-good, context-long}
 use Rattle.trees.specs.Tree.{Tree, labels, size}
 use Rattle.layout.specs.declared.config.Shape.{Shape}
@@ -49,12 +50,12 @@ pub record Passed (g : Shape) (context : List ℕ) (q : Asked) (k : ℕ) : Type 
 -- a choice of which the second part is such a refusal
 chosen : (b : Bool) (x y : OrderAnswer) → early y ≡ true → early (cond b x y) ≡ false → (b ≡ true) × (early x ≡ false)
 chosen true x y r e = (refl, e)
-chosen false x y r e = let z : _≡_ {A = ℕ} 0 1 = cc in absurd (omega arith)
+chosen false x y r e = never (sym e ∙ r)
 
 on-good : (c : ContextRead) (f : ℕ → OrderAnswer) → early (onContext c f Context) ≡ false → (k : ℕ) × (c ≡ checked.Good k) × (early (f k) ≡ false)
 unfolding early
 on-good (checked.Good k) f e = (k, refl, e)
-on-good (checked.Bad flaw) f e = let z : _≡_ {A = ℕ} 0 1 = cc in absurd (omega arith)
+on-good (checked.Bad flaw) f e = never (sym e)
 
 passed : (g : Shape) (context : List ℕ) (q : Asked) → early (answerTo g context q) ≡ false → (k : ℕ) × (checkedContext context ≡ checked.Good k) × Passed g context q k
 unfolding answerTo early

@@ -11,18 +11,18 @@ use Rattle.records.specs.declared.binding.Kind.the-variants.{Linked}
 use Rattle.records.specs.declared.code.Code.the-variants.{MOV, MOVS, MOVL}
 use Rattle.records.specs.Bytes.{le}
 use Rattle.records.specs.Contexts.{bindingBytes, extAt}
+use Rattle.records.proofs.Conditions.{both-ways}
 use Rattle.trees.specs.Tree.{Tree, leaf, seq, size}
 use Rattle.layout.specs.declared.config.Shape.{Shape}
 use Rattle.layout.specs.Config.{Supported, STACK, TEMP, HEAP, mostVariables, stackOffset, fstOffset, sndOffset}
 use Rattle.layout.specs.Positions.{location}
-use Rattle.code.specs.Code.{loadImmediate}
-use Rattle.memory.specs.Blocks.{storeField, acquireBlock}
+use Rattle.memory.specs.Blocks.{takeBlock, storeField, acquireBlock}
 use Rattle.memory.specs.Objects.{fst, snd, extIn, storeValue, storeValues, storeOther, storeOthers, storeSome, storeObject, chunks}
 use Rattle.memory.proofs.Flattened.{fields-size}
 use Rattle.memory.proofs.Sizes.{acquire-size, immediate-size, zeros-size, chunks-fill}
 use Rattle.order_spec.specs.Writes.{treeOf}
 use Rattle.port_rooms_proof.specs.Sizes.{variables, storeOfAll}
-use Rattle.port_rooms_proof.proofs.StoreSizes.{linked, at-least, at-most, some-record, store-linked}
+use Rattle.port_rooms_proof.proofs.StoreSizes.{linked, some-record, store-linked}
 
 location-later : (p q : ℕ) → p ≤ q → location p ≤ location q
 unfolding location
@@ -65,8 +65,7 @@ module _ (g : Shape) where
   -- at least one record takes the block
   pub acquire-least : (w : ℕ) → 12 * g .fields + 18 ≤ size (acquireBlock g w)
   acquire-least w =
-      let z =
-      at-least (ltb w 16) (leaf (MOV w HEAP) refl) (seq (leaf (MOV TEMP HEAP) refl) (leaf (MOVS HEAP STACK (stackOffset g w)) refl)) 1 (omega arith) (omega arith) in
+      let z : 1 ≤ size (takeBlock g w) = both-ways (λ (t : Tree). 1 ≤ size t) (ltb w 16) (omega arith) (omega arith) in
       omega (arith, fields-size (g .fields) .1)
 
   -- so many a block
@@ -175,9 +174,8 @@ module _ (g : Shape) where
     -- no store has more records than that of all variables, all linked
     pub store-most : (ext : ℕ → Bool) (v n most : ℕ) → v + n ≤ most → 1 ≤ most → size (storeObject g ext v n) ≤ size (storeObject g linked 0 most)
     store-most ext v n most h o =
-        let z =
-        at-most (eqb n 0) (loadImmediate g (fst v) 0) (storeSome g linked v n) (size (storeSome g linked 0 most))
-        (omega (arith, immediate-size g (fst v) 0 .1, some-least 0 most)) (some-most v n most h) in
+        let z : size (storeObject g linked v n) ≤ size (storeSome g linked 0 most) =
+        both-ways (λ (t : Tree). size t ≤ size (storeSome g linked 0 most)) (eqb n 0) (omega (arith, immediate-size g (fst v) 0 .1, some-least 0 most)) (some-most v n most h) in
         rw (ne-eqb most 0 (λ e. omega arith)) (omega (arith, store-linked g ext v n))
 
 -- it in a context of so many linked bindings, with the tag's record

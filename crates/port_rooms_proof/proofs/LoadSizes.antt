@@ -8,13 +8,13 @@ use native.Mathlib.Omega.{arith}
 use lib.Dec.{ltb, eqb}
 use borrow.Author.Tests.{lt-ltb}
 use Rattle.records.specs.declared.code.Code.the-variants.{ADDIM, MOVL, CMPIM}
+use Rattle.records.proofs.Conditions.{both-ways}
 use Rattle.trees.specs.Tree.{Tree, nop, leaf, seq, if-zero, size}
 use Rattle.layout.specs.declared.config.Shape.{Shape}
 use Rattle.layout.specs.Config.{Supported, STACK, TEMP, RETURN1, stackOffset, fstOffset, sndOffset, MINUSONE, registerFor}
 use Rattle.memory.specs.Objects.{fst, snd, chunks, loadFst, setAside, loadValue, loadValues, loadBody, loadSpilled, freed, loadOthers, loadSome, loadObject}
 use Rattle.memory.proofs.Sizes.{chunks-fill, load-field-size, load-values-size, link-size, aside-size, restore-size}
 use Rattle.port_rooms_proof.specs.Sizes.{loadedWithin}
-use Rattle.port_rooms_proof.proofs.StoreSizes.{at-most}
 
 -- a block in a register or in a spill, and what would set register 4 aside after it
 block-then : (g : Shape) (inRegister : Bool) (t u : Tree) (n : ℕ) → size t + 1 ≤ n → size u ≤ n → size (cond inRegister t u) + size (setAside g (not inRegister)) ≤ n
@@ -75,8 +75,7 @@ module _ (g : Shape) (ext : ℕ → Bool) where
           let aside : Bool = freed g ext v (n - f) in
           let z = others-most (chunks (f - 1) (n - f)) v (n - f) (chunks-fill (f - 1) (n - f) (omega (arith, sup .some)) .1) in
           let b =
-          at-most (ltb (fst w) 16) (loadBody g ext shared false w k (fst w)) (loadSpilled g ext shared false aside w k)
-          (size (setAside g aside) + lastMost shared + 2)
+          both-ways (λ (t : Tree). size t ≤ size (setAside g aside) + lastMost shared + 2) (ltb (fst w) 16) {x = loadBody g ext shared false w k (fst w)} {y = loadSpilled g ext shared false aside w k}
           (omega (arith, last-body shared w k (fst w) (omega arith))) (omega (arith, last-body shared w k RETURN1 (omega arith), restore-size g false .1)) in
           omega arith
 
@@ -85,5 +84,5 @@ module _ (g : Shape) (ext : ℕ → Bool) where
         let r : ℕ = registerFor (fst v) in
         let p : Tree = leaf (MOVL TEMP STACK (stackOffset g (fst v))) refl in
         let c : Tree = if-zero (CMPIM r 0 0) refl (loadSome g ext false v n) (seq (leaf (ADDIM r 0 MINUSONE) refl) (loadSome g ext true v n)) in
-        let y = at-most (ltb (fst v) 16) nop p 1 (omega arith) (omega arith) in
-        at-most (eqb n 0) nop (seq (cond (ltb (fst v) 16) nop p) c) (loadedWithin g n) (omega arith) (omega (arith, some-most false v n, some-most true v n))
+        let y = both-ways (λ (t : Tree). size t ≤ 1) (ltb (fst v) 16) {x = nop} {y = p} (omega arith) (omega arith) in
+        both-ways (λ (t : Tree). size t ≤ loadedWithin g n) (eqb n 0) (omega arith) (omega (arith, some-most false v n, some-most true v n))

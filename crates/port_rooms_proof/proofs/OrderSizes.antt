@@ -10,13 +10,13 @@ use borrow.Author.Tests.{ne-eqb}
 use Rattle.records.specs.declared.order.Order.{Order}
 use Rattle.records.specs.declared.order.Order.the-variants.{Put, Compute, Copy, Drop, Store, Load, Print}
 use Rattle.records.specs.Contexts.{extAt}
-use Rattle.trees.specs.Tree.{nop, size}
+use Rattle.records.proofs.Conditions.{both-ways}
+use Rattle.trees.specs.Tree.{Tree, size}
 use Rattle.layout.specs.declared.config.Shape.{Shape}
 use Rattle.layout.specs.Config.{Supported, positions, mostVariables}
 use Rattle.code.proofs.Sizes.{plain-arithmetic, plain-load-immediate}
-use Rattle.memory.specs.Blocks.{eraseBlock}
 use Rattle.memory.specs.Objects.{fst, snd, extIn, storeObject, chunks}
-use Rattle.memory.proofs.Sizes.{within, erase-size, chunks-fill}
+use Rattle.memory.proofs.Sizes.{erase-size, chunks-fill}
 use Rattle.print_i64.proofs.Sizes.{print-size}
 use Rattle.order_spec.specs.Writes.{treeOf, present, asked}
 use Rattle.order_check.specs.After.{countAfter}
@@ -33,8 +33,7 @@ order-within g s c k b (Put value) = plain-load-immediate g (snd k) value .most
 order-within g s c k b (Compute operation x y) = plain-arithmetic g operation (snd k) (snd x) (snd y) .most
 order-within g s c k b (Copy a n) = omega (arith, share-extent g (extAt c a) (fst a) n, copies-extent g (extAt c a) a k n)
 order-within g s c k b Drop =
-    let z = erase-size g (fst (k - 1)) in
-    within (extAt c (k - 1)) nop (eraseBlock g (fst (k - 1))) 3 12 (omega arith) (omega arith) (omega arith) (z .1) .1
+    both-ways (λ (t : Tree). size t ≤ 12) (extAt c (k - 1)) (omega arith) (erase-size g (fst (k - 1)) .1)
 order-within g s c k b (Store n tag) = omega (arith, store-within g s (extIn c 0) (k - n) n, plain-load-immediate g (snd (k - n)) tag .most)
 order-within g s c k b (Load n) = load-within g (extIn b (k - 1)) s (k - 1) n
 order-within g s c k b (Print newline a) = print-size g newline (snd a) (extAt c) k .1

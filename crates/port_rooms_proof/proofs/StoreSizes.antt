@@ -1,13 +1,12 @@
 -- How many records a store has at most: by the number of its variables, and beside the store of linked ones.
 use Prim.Native.Nat.{ℕ, zero, suc, _+_, _-_, _≤_}
-use mathlib.Core.Path.{refl}
 use mathlib.Core.Bool.{Bool, true, false, cond}
 use native.Mathlib.Omega.{arith}
 use lib.Dec.{ltb, eqb}
-use Rattle.records.specs.declared.code.Code.the-variants.{MOVS, MOVL}
-use Rattle.trees.specs.Tree.{Tree, leaf, seq, size}
+use Rattle.records.proofs.Conditions.{both-ways}
+use Rattle.trees.specs.Tree.{Tree, size}
 use Rattle.layout.specs.declared.config.Shape.{Shape}
-use Rattle.layout.specs.Config.{Supported, STACK, TEMP, HEAP, stackOffset, fstOffset}
+use Rattle.layout.specs.Config.{Supported, HEAP, fstOffset}
 use Rattle.code.specs.Code.{loadImmediate}
 use Rattle.memory.specs.Blocks.{storeField}
 use Rattle.memory.specs.Objects.{fst, storeFst, storeValue, storeValues, storeOther, storeOthers, storeSome, storeObject, chunks}
@@ -19,22 +18,13 @@ abbrev pub linked : ℕ → Bool
 linked v = false
 
 -- of a choice between two trees
-pub at-least : (b : Bool) (t u : Tree) (n : ℕ) → n ≤ size t → n ≤ size u → n ≤ size (cond b t u)
-at-least true t u n p q = p
-at-least false t u n p q = q
-
-pub at-most : (b : Bool) (t u : Tree) (n : ℕ) → size t ≤ n → size u ≤ n → size (cond b t u) ≤ n
-at-most true t u n p q = p
-at-most false t u n p q = q
-
 both-choices : (b : Bool) (t u u′ : Tree) → size u ≤ size u′ → size (cond b t u) ≤ size (cond b t u′)
 both-choices true t u u′ h = omega arith
 both-choices false t u u′ h = h
 
 module _ (g : Shape) where
   pub some-record : (w r offset : ℕ) → 1 ≤ size (storeField g w r offset)
-  some-record w r offset =
-      at-least (ltb w 16) (leaf (MOVS w r offset) refl) (seq (leaf (MOVL TEMP STACK (stackOffset g w)) refl) (leaf (MOVS TEMP r offset) refl)) 1 (omega arith) (omega arith)
+  some-record w r offset = both-ways (λ (t : Tree). 1 ≤ size t) (ltb w 16) (omega arith) (omega arith)
 
   fst-linked : (integer : Bool) (v t : ℕ) → size (storeFst g integer v t) ≤ size (storeFst g false v t)
   fst-linked true v t = some-record (fst v) HEAP (fstOffset t)
@@ -77,4 +67,4 @@ module _ (g : Shape) (sup : Supported g) (ext : ℕ → Bool) (v n : ℕ) where
 
   pub store-within : size (storeObject g ext v n) ≤ storedWithin g n
   store-within =
-      at-most (eqb n 0) (loadImmediate g (fst v) 0) (storeSome g ext v n) (storedWithin g n) (omega (arith, immediate-size g (fst v) 0)) store-some
+      both-ways (λ (t : Tree). size t ≤ storedWithin g n) (eqb n 0) (omega (arith, immediate-size g (fst v) 0)) store-some

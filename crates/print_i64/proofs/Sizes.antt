@@ -1,16 +1,17 @@
 -- How many records print_i64 has, and that it draws no labels.
 use Prim.Native.Nat.{ℕ, zero, suc, _+_, _*_, _-_, _%_, _≤_, min}
 use mathlib.Core.Path.{_≡_, refl}
-use mathlib.Core.Bool.{Bool, true, false, cond}
+use mathlib.Core.Bool.{Bool, true, false}
 use mathlib.Core.List.{List, [], _∷_}
 use native.Mathlib.Omega.{arith}
 use lib.Dec.{ltb, eqb}
 use lib.ListN.{length, length-append, take, drop}
 use Rattle.records.specs.declared.code.Code.{Code}
-use Rattle.records.specs.declared.code.Code.the-variants.{ADDI, SUBI, MOVL}
-use Rattle.trees.specs.Tree.{straight, nop, leaf, labels, size}
+use Rattle.records.specs.declared.code.Code.the-variants.{ADDI, SUBI}
+use Rattle.records.proofs.Conditions.{both-ways}
+use Rattle.trees.specs.Tree.{straight, labels, size}
 use Rattle.layout.specs.declared.config.Shape.{Shape}
-use Rattle.layout.specs.Config.{STACK, TEMP, stackOffset}
+use Rattle.layout.specs.Config.{STACK}
 use Rattle.print_i64.specs.Registers.{registersOf, registersTo, registersToSave, firstBackup, backupsUsed}
 use Rattle.print_i64.specs.Print.{moves, movesBack, pushes, pops, ifEven, saveRegisters, restoreRegisters, sourceToTemp, printSaving, printI64}
 
@@ -30,16 +31,8 @@ pub plain-pops : (rs : List ℕ) → (labels (pops rs) ≡ 0) × (size (pops rs)
 plain-pops [] = (refl, refl)
 plain-pops (r ∷ rs) = let p = plain-pops rs in (omega arith, omega arith)
 
-either : (b : Bool) (x : Code) (s : straight x ≡ true) → (labels (cond b (leaf x s) nop) ≡ 0) × (size (cond b (leaf x s) nop) ≤ 1)
-either true x s = (refl, omega arith)
-either false x s = (refl, omega arith)
-
-neither : (b : Bool) (x : Code) (s : straight x ≡ true) → (labels (cond b nop (leaf x s)) ≡ 0) × (size (cond b nop (leaf x s)) ≤ 1)
-neither true x s = (refl, omega arith)
-neither false x s = (refl, omega arith)
-
 pub even-size : (pushed : ℕ) (x : Code) (s : straight x ≡ true) → (labels (ifEven pushed x s) ≡ 0) × (size (ifEven pushed x s) ≤ 1)
-even-size pushed x s = either (eqb (pushed % 2) 0) x s
+even-size pushed x s = both-ways (λ t. (labels t ≡ 0) × (size t ≤ 1)) (eqb (pushed % 2) 0) (omega arith) (omega arith)
 
 parts : (u : ℕ) (rs : List ℕ) → length (take u rs) + length (drop u rs) ≡ length rs
 parts zero rs = omega arith
@@ -62,7 +55,7 @@ restore-size f u rs =
 
 module _ (g : Shape) where
   pub source-size : (w : ℕ) → (labels (sourceToTemp g w) ≡ 0) × (size (sourceToTemp g w) ≤ 1)
-  source-size w = neither (ltb w 16) (MOVL TEMP STACK (stackOffset g w)) refl
+  source-size w = both-ways (λ t. (labels t ≡ 0) × (size t ≤ 1)) (ltb w 16) (omega arith) (omega arith)
 
   pub saving-size : (newline : Bool) (w f u : ℕ) (rs : List ℕ)
       → (labels (printSaving g newline w f u rs) ≡ 0) × (size (printSaving g newline w f u rs) ≤ 2 * length rs + 5)

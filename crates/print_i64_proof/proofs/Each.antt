@@ -1,12 +1,13 @@
 -- Something true of each register of a list, and the registers that print_i64 saves.
 use Prim.Native.Nat.{ℕ, zero, suc, _+_, _*_, _≤_, _<_}
-use mathlib.Core.Path.{_≡_}
+use mathlib.Core.Path.{_≡_, sym}
 use mathlib.Core.Bool.{Bool, true, false}
 use mathlib.Core.List.{List, [], _∷_, _++_}
 use native.Mathlib.Decide.{decLt}
 use native.Mathlib.Omega.{arith}
 use lib.ListN.{take, drop}
 use Rattle.records.specs.ReadBack.{Each}
+use Rattle.records.proofs.Conditions.{never}
 use Rattle.records.proofs.Each.{each-append}
 use Rattle.print_i64.specs.Registers.{registersOf, registersTo}
 
@@ -39,7 +40,7 @@ module _ (P : ℕ → Type 0) where
   saved-of ext (suc k) v h a = by (decLt v k) (λ l. saved-of ext k v l (each-first (registersTo ext k) (registersOf (ext k) k) a))
     where
       last : (b : Bool) → Each P (registersOf b k) → P (5 + 2 * k) × (b ≡ false → P (4 + 2 * k))
-      last true a = (a .0, λ e. let z : _≡_ {A = ℕ} 0 1 = cc in absurd (omega arith))
+      last true a = (a .0, λ e. never (sym e))
       last false a = (a .1 .0, λ e. a .0)
 
       by : Dec (v < k) → (v < k → P (5 + 2 * v) × (ext v ≡ false → P (4 + 2 * v))) → P (5 + 2 * v) × (ext v ≡ false → P (4 + 2 * v))

@@ -1,8 +1,9 @@
--- Conditions joined by `&&`, and choices of which one part is a refusal.
-use Prim.Native.Nat.{ℕ}
-use mathlib.Core.Path.{_≡_, refl}
-use mathlib.Core.Bool.{Bool, true, false, _&&_, cond}
-use native.Mathlib.Omega.{arith}
+-- Conditions joined by `&&`, a condition that is true and false, and choices: what both parts have, and of which one part is a refusal.
+use mathlib.Core.Path.{_≡_, refl, sym, _∙_}
+use mathlib.Core.Bool.{Bool, true, false, false≢true, _&&_, cond}
+
+pub never : {A : Type 0} → false ≡ true → A
+never e = absurd (false≢true e)
 
 pub and-left : (a b : Bool) → a && b ≡ true → a ≡ true
 and-left true b e = refl
@@ -16,13 +17,18 @@ and-right false false e = e
 pub both : (a b : Bool) → a && b ≡ true → (a ≡ true) × (b ≡ true)
 both a b e = (and-left a b e, and-right a b e)
 
+-- what is so of both parts of a choice is so of the choice
+pub both-ways : {A : Type 0} (P : A → Type 0) (b : Bool) {x y : A} → P x → P y → P (cond b x y)
+both-ways P true p q = p
+both-ways P false p q = q
+
 module _ {A : Type 0} (accepted : A → Bool) where
   -- the second part is a refusal
   pub chosen : (b : Bool) (x y : A) → accepted y ≡ false → accepted (cond b x y) ≡ true → (b ≡ true) × (accepted x ≡ true)
   chosen true x y r e = (refl, e)
-  chosen false x y r e = let z : _≡_ {A = ℕ} 0 1 = cc in absurd (omega arith)
+  chosen false x y r e = never (sym r ∙ e)
 
   -- the first part is one
   pub passed : (b : Bool) (x y : A) → accepted x ≡ false → accepted (cond b x y) ≡ true → (b ≡ false) × (accepted y ≡ true)
   passed false x y r e = (refl, e)
-  passed true x y r e = let z : _≡_ {A = ℕ} 0 1 = cc in absurd (omega arith)
+  passed true x y r e = never (sym r ∙ e)

@@ -1,6 +1,6 @@
 pub mod Answers  -- an answer that is the one expected
 pub mod Table  -- a table's rule, from one computed test over its entries
-pub mod Conditions  -- conditions joined by `&&`, and choices of which one part is a refusal
+pub mod Conditions  -- conditions joined by `&&`, one that is true and false, and choices: what both parts have, and of which one part is a refusal
 pub mod Matched  -- a number that is none of those that a `match` names
 pub mod Numbers  -- a number's bytes read one by one, in two halves, and from a part of a list
 pub mod Starting  -- what stands at the start of a part of a list

@@ -1,13 +1,14 @@
 -- No instruction changes how deep the stack is, so that a body comes to the cleanup with the stack that it was entered with.
 use Prim.Native.Nat.{ℕ, zero, suc, _+_, _%_}
 use mathlib.Core.Path.{_≡_, refl, sym, ap, _∙_}
-use mathlib.Core.Bool.{Bool, true, false, not, _&&_, cond}
+use mathlib.Core.Bool.{Bool, not, _&&_}
 use mathlib.Core.List.{List}
 use mathlib.Core.Option.{Option, none, some}
 use lib.Dec.{eqb}
 use lib.ListN.{getElem?}
 use Rattle.records.specs.declared.code.Code.{Code}
 use Rattle.records.specs.declared.code.Code.the-variants.{ADD, ADDRM, ADDMR, ADDI, ADDIM, SUB, SUBRM, SUBMR, SUBI, IMUL, IMULRM, IMULMR, IDIV, IDIVM, CQO, JMP, JMPL, JMPLN, LEAL, MOV, MOVS, MOVL, MOVI, MOVIM, CMP, CMPRM, CMPMR, CMPI, CMPIM, JEL, JNEL, JLL, JLEL, JGL, JGEL, PUSH, POP, CALL, RET, LAB, NOEXECSTACK, TEXT, GLOBAL, EXTERN}
+use Rattle.records.proofs.Conditions.{both-ways}
 use Rattle.word.specs.Words.{sum, difference, product, divides, less}
 use Rattle.machine_step.specs.declared.instruction.Compared.{Compared}
 use Rattle.machine_step.specs.declared.instruction.Compared.the-variants.{Absent, Of}
@@ -46,10 +47,6 @@ on-pair : (c : Config) (q : Compared) (k : ℕ → ℕ → Outcome) → ((x y : 
 on-pair c (Of x y) k h = h x y
 on-pair c Absent k h = refl
 
-on-test : (n : ℕ) (b : Bool) (x y : Outcome) → Deep n x → Deep n y → Deep n (cond b x y)
-on-test n true x y p q = p
-on-test n false x y p q = q
-
 put-deep : (s : View) (p : Place) (v : ℕ) → DeepView (s .depth) (putAt s p v)
 put-deep s (Stack i) v = refl
 put-deep s (Heap i) v = refl
@@ -71,10 +68,10 @@ compare-deep : (dest src : Operand) (c : Config) → Deep (c .state .depth) (com
 compare-deep dest src c = on-word c (valueOf (c .state) src) _ (λ y. on-word c (valueOf (c .state) dest) _ (λ x. refl))
 
 divide-deep : (src : Operand) (c : Config) → Deep (c .state .depth) (divide src c)
-divide-deep src c = on-word c (valueOf (c .state) src) _ (λ d. on-test (c .state .depth) (divides (c .state .reg 5) (c .state .reg 4) d) _ _ refl refl)
+divide-deep src c = on-word c (valueOf (c .state) src) _ (λ d. both-ways (Deep (c .state .depth)) (divides (c .state .reg 5) (c .state .reg 4) d) refl refl)
 
 branch-deep : (holds : ℕ → ℕ → Bool) (label : ℕ) (c : Config) → Deep (c .state .depth) (branch holds label c)
-branch-deep holds label c = on-pair c (c .pair) _ (λ x y. on-test (c .state .depth) (holds x y) _ _ refl refl)
+branch-deep holds label c = on-pair c (c .pair) _ (λ x y. both-ways (Deep (c .state .depth)) (holds x y) refl refl)
 
 push-deep : (a : ℕ) (c : Config) → Deep (c .state .depth) (push a c)
 push-deep a c =
@@ -86,10 +83,10 @@ pop-deep : (a : ℕ) (c : Config) → Deep (c .state .depth) (pop a c)
 pop-deep a c = on-word c (load (c .state) (c .state .reg 0)) _ (λ w. refl)
 
 call-deep : (words : ℕ → ℕ) (label : ℕ) (c : Config) → Deep (c .state .depth) (call words label c)
-call-deep words label c = on-test (c .state .depth) (isPrintName label && eqb (c .state .reg 0 % 16) 0) _ _ refl refl
+call-deep words label c = both-ways (Deep (c .state .depth)) (isPrintName label && eqb (c .state .reg 0 % 16) 0) refl refl
 
 return-deep : (c : Config) → Deep (c .state .depth) (return c)
-return-deep c = on-test (c .state .depth) (eqb (c .state .reg 0) 1099511627768) _ _ refl refl
+return-deep c = both-ways (Deep (c .state .depth)) (eqb (c .state .reg 0) 1099511627768) refl refl
 
 step-deep : (words : ℕ → ℕ) (x : Code) (c : Config) → Deep (c .state .depth) (step words x c)
 unfolding step

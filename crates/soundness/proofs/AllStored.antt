@@ -14,6 +14,7 @@ use Rattle.records.specs.declared.order.Order.the-variants.{Put, Store}
 use Rattle.records.specs.Bytes.{le, number}
 use Rattle.records.specs.Contexts.{bindingBytes, checkedContext}
 use Rattle.records.specs.Orders.{orderBytes, orderIn, orderOf, orderReaders, orderOk, orderOperandsOk, usedByOrder, orderStarts}
+use Rattle.records.proofs.Conditions.{never, both-ways}
 use Rattle.trees.specs.Tree.{Tree, labels, size}
 use Rattle.layout.specs.declared.config.Shape.{Shape}
 use Rattle.layout.specs.Config.{Supported, positions, mostVariables}
@@ -77,11 +78,9 @@ module _ (g : Shape) (sup : Supported g) (blocks : ℕ) (two : 2 ≤ blocks) (mo
   none-acquired : (n : ℕ) → acquired g blocks (puts n) ≡ 0
   unfolding puts putSeven orderBytes le number orderIn orderOf orderReaders
   none-acquired zero = refl
-  none-acquired (suc n) = by (isAccepted g (reached g blocks (puts n)) (putSeven .asked)) (none-acquired n)
-    where
-      by : (b : Bool) → acquired g blocks (puts n) ≡ 0 → cond b 0 0 + acquired g blocks (puts n) ≡ 0
-      by true e = omega arith
-      by false e = omega arith
+  none-acquired (suc n) =
+      let e = none-acquired n in
+      both-ways (λ (k : ℕ). k + acquired g blocks (puts n) ≡ 0) (isAccepted g (reached g blocks (puts n)) (putSeven .asked)) (omega arith) (omega arith)
 
   none-owed : (n : ℕ) → AllOwed g blocks (puts n)
   unfolding puts putSeven orderBytes le number orderIn orderOf orderReaders
@@ -96,7 +95,7 @@ module _ (g : Shape) (sup : Supported g) (blocks : ℕ) (two : 2 ≤ blocks) (mo
   put-on : (n : ℕ) (b : Bool) (vs : Values) → b ≡ true → vs ≡ sevens n → cond b (plainly (Put 7) vs) vs ≡ sevens (suc n)
   unfolding plainly
   put-on n true vs e f = ap (λ (ws : Values). appended ws (cons (integer 7) nil)) f ∙ one-more n
-  put-on n false vs e f = let z : _≡_ {A = ℕ} 0 1 = cc in absurd (omega arith)
+  put-on n false vs e f = never e
 
   good-after : (n : ℕ) → values g blocks (puts n) ≡ sevens n → checkedContext (reached g blocks (puts n) .context) ≡ Good n
   good-after n e = after-puts n .sound .places ∙ ap (λ (vs : Values). Good (countOf vs)) e ∙ ap Good (count-sevens n)
@@ -157,7 +156,7 @@ module _ (g : Shape) (sup : Supported g) {n tag : ℕ} (it : Item) (w : Stores n
   module _ (blocks : ℕ) (enough : 2 + length (objectSizes g n) ≤ blocks) (limit : blocks ≤ 1048576) where
     stored : (b : Bool) (o : Order) (vs ws : Values) → b ≡ true → o ≡ Store n tag → vs ≡ sevens n → plainly (Store n tag) (sevens n) ≡ ws → cond b (plainly o vs) vs ≡ ws
     stored true o vs ws e f v p = rw (f, v) p
-    stored false o vs ws e f v p = let z : _≡_ {A = ℕ} 0 1 = cc in absurd (omega arith)
+    stored false o vs ws e f v p = never e
 
     pub all-stored : {ws : Values} → plainly (Store n tag) (sevens n) ≡ ws → values g blocks (it ∷ puts n) ≡ ws
     all-stored {ws} p =
@@ -167,11 +166,10 @@ module _ (g : Shape) (sup : Supported g) {n tag : ℕ} (it : Item) (w : Stores n
         stored (isAccepted g (reached g blocks (puts n)) (it .asked)) (orderIs (it .asked)) (values g blocks (puts n)) ws (store-accepted (reached g blocks (puts n) .context) good) (w .order-is) before p
 
     acquired-so : acquired g blocks (it ∷ puts n) ≤ length (objectSizes g n)
-    acquired-so = rw (w .order-is) (by (isAccepted g (reached g blocks (puts n)) (it .asked)) (none-acquired g sup blocks (omega arith) limit n))
-      where
-        by : (b : Bool) → acquired g blocks (puts n) ≡ 0 → cond b (length (objectSizes g n)) 0 + acquired g blocks (puts n) ≤ length (objectSizes g n)
-        by true e = omega arith
-        by false e = omega arith
+    acquired-so =
+        let e = none-acquired g sup blocks (omega arith) limit n in
+        let most : ℕ = length (objectSizes g n) in
+        rw (w .order-is) (both-ways (λ (k : ℕ). k + acquired g blocks (puts n) ≤ most) (isAccepted g (reached g blocks (puts n)) (it .asked)) (omega arith) (omega arith))
 
     nothing-owed : AllOwed g blocks (it ∷ puts n)
     nothing-owed = ((λ e. rw (w .order-is) (tt, tt)), none-owed g sup blocks (omega arith) limit n)

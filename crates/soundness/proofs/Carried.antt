@@ -12,6 +12,7 @@ use Rattle.records.specs.declared.context.ContextRead.the-variants.{Good}
 use Rattle.records.specs.declared.order.Order.{Order}
 use Rattle.records.specs.declared.order.Order.the-variants.{Put, Compute, Copy, Drop, Store, Load, Print}
 use Rattle.records.specs.Contexts.{checkedContext, extAt, bindingsIn}
+use Rattle.records.proofs.Conditions.{never}
 use Rattle.machine_step.specs.Step.{Config}
 use Rattle.heap.specs.Blocks.{pointers}
 use Rattle.heap.specs.Claims.{AbstractHeapStaysSound, HeapAfter, Reaches}
@@ -57,7 +58,7 @@ plain-same (Copy a n) vs e = refl
 plain-same Drop vs e = refl
 plain-same (Store n tag) vs e = refl
 plain-same (Load n) vs e = refl
-plain-same (Print newline a) vs e = let z : _≡_ {A = ℕ} 0 1 = cc in absurd (omega arith)
+plain-same (Print newline a) vs e = never e
 
 object-is : (bindings : List ℕ) (n : ℕ) (v : Value) → AsStored bindings n v → (tag : ℕ) × (ws : Values) × (v ≡ object tag ws) × (countOf ws ≡ n)
 object-is bindings n (integer w) a = absurd a
@@ -72,7 +73,7 @@ legal bindings (Copy a n) vs e w = tt
 legal bindings Drop vs e w = tt
 legal bindings (Store n tag) vs e w = tt
 legal bindings (Load n) vs e w = object-is bindings n (valueAt (countOf vs - 1) vs) w
-legal bindings (Print newline a) vs e w = let z : _≡_ {A = ℕ} 0 1 = cc in absurd (omega arith)
+legal bindings (Print newline a) vs e w = never e
 
 -- how many variables a context has
 pub places-are : (context : List ℕ) (k : ℕ) → checkedContext context ≡ Good k → placesIn context ≡ k

@@ -14,7 +14,7 @@ use Rattle.records.specs.declared.binding.Kind.the-variants.{Linked, Ext}
 use Rattle.records.specs.declared.order.Calculation.{Calculation}
 use Rattle.records.specs.declared.order.Order.{Order}
 use Rattle.records.specs.declared.order.Order.the-variants.{Put, Compute, Copy, Drop, Store, Load, Print}
-use Rattle.records.proofs.Conditions.{and-left, and-right}
+use Rattle.records.proofs.Conditions.{never, and-left, and-right}
 use Rattle.layout.specs.declared.config.Shape.{Shape}
 use Rattle.layout.specs.Config.{Supported, positions}
 use Rattle.layout.specs.Positions.{location}
@@ -264,5 +264,5 @@ module _ (G : Shape) where
         where
           turned : (b : Bool) → not b ≡ true → b ≡ false
           turned false e = refl
-          turned true e = let z : _≡_ {A = ℕ} 0 1 = cc in absurd (omega arith)
-      changing-tries (Print newline x) c p e a w = let z : _≡_ {A = ℕ} 0 1 = cc in absurd (omega arith)
+          turned true e = never e
+      changing-tries (Print newline x) c p e a w = never c

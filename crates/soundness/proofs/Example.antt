@@ -1,5 +1,4 @@
 -- The list that meets the premises: what it acquires, leaves and owes, by computation, and the claim of it.
-use mathlib.Core.Bool.{true, false}
 use mathlib.Core.List.{List, [], _∷_, _++_, append-nil}
 use mathlib.Core.Logic.{_≢_}
 use mathlib.Core.Path.{_≡_, refl, sym, _∙_, ap}
@@ -8,6 +7,7 @@ use native.Mathlib.Omega.{arith}
 use Rattle.records.specs.Bytes.{le, number}
 use Rattle.records.specs.Contexts.{bindingBytes, firstFlaw, checkedContext}
 use Rattle.records.specs.Orders.{orderBytes, orderIn, orderOf, orderReaders, orderOk, orderOperandsOk, usedByOrder, orderStarts}
+use Rattle.records.proofs.Conditions.{never}
 use Rattle.layout.specs.Config.{base, stackOffset}
 use Rattle.layout.proofs.Placing.{base-supported}
 use Rattle.layout.specs.Positions.{location}
@@ -32,10 +32,7 @@ plain = refl
 owed : AllOwed base 4 workedList
 unfolding answerTo orderBytes le number checkedContext firstFlaw bindingBytes orderIn orderOf orderReaders orderOk orderOperandsOk usedByOrder orderStarts treeOf contextAfter present kindsOk asked plainly location stackOffset putSeven storeOne copyIt loadShared dropIt nothing loadReleased printIt putMore storeTwo
 owed =
-    ((λ e. (tt, tt)), ((λ e. (tt, tt)), ((λ e. (tt, tt)), ((λ e. ((refl, (refl, tt)), tt)), ((λ e. absurd (no e)), ((λ e. (tt, tt)), ((λ e. ((refl, (refl, tt)), tt)), ((λ e. (tt, tt)), ((λ e. (tt, tt)), ((λ e. (tt, tt)), tt))))))))))
-  where
-    no : false ≡ true → ⊥
-    no e = let z : _≡_ {A = ℕ} 0 1 = cc in omega arith
+    ((λ e. (tt, tt)), ((λ e. (tt, tt)), ((λ e. (tt, tt)), ((λ e. ((refl, (refl, tt)), tt)), (never, ((λ e. (tt, tt)), ((λ e. ((refl, (refl, tt)), tt)), ((λ e. (tt, tt)), ((λ e. (tt, tt)), ((λ e. (tt, tt)), tt))))))))))
 
 -- an object of two integers has one block
 two-held : (fields : ℕ → List Cell) (c : Cell) (chunks : List (List Cell)) → Object fields (c .fst) chunks → lengths chunks ≡ 2 ∷ []

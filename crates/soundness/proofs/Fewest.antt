@@ -1,7 +1,7 @@
 -- The season's list on three blocks; and put 7 and store 1 on two blocks: one is reachable, so that the frontier would be past the heap.
 use mathlib.Core.List.{List, [], _∷_}
 use mathlib.Core.Logic.{_≢_}
-use mathlib.Core.Path.{_≡_, refl, sym, _∙_, ap}
+use mathlib.Core.Path.{_≡_, refl, _∙_, ap}
 use Prim.Native.Nat.{ℕ, _+_, _≤_}
 use native.Mathlib.Omega.{arith}
 use Rattle.records.specs.Bytes.{le, number}
@@ -10,8 +10,7 @@ use Rattle.records.specs.Orders.{orderBytes, orderIn, orderOf, orderReaders, or
 use Rattle.layout.specs.Config.{base, stackOffset}
 use Rattle.layout.proofs.Placing.{base-supported}
 use Rattle.layout.specs.Positions.{location}
-use Rattle.machine.specs.declared.run.RunAnswer.{RunAnswer}
-use Rattle.machine.specs.declared.run.RunAnswer.the-variants.{Ended, Malformed, Fault, Limit}
+use Rattle.machine.specs.declared.run.RunAnswer.the-variants.{Fault}
 use Rattle.heap.specs.Blocks.{Cell, pointers}
 use Rattle.heap.proofs.CountingLemmas.{same-self, same-other, occ-length}
 use Rattle.heap.proofs.GrowthLemmas.{nothing-led}
@@ -76,14 +75,8 @@ no-fault : (blocks : ℕ) (its : List Item) → AllRan base blocks its → NoFau
 no-fault blocks [] r = tt
 no-fault blocks (it ∷ its) r = ((λ e. ended (r .0 e)), no-fault blocks its (r .1))
   where
-    kind : RunAnswer → ℕ
-    kind (Ended k) = 0
-    kind (Malformed p) = 2
-    kind (Fault k p) = 1
-    kind (Limit k) = 2
-
     ended : Ran base (reached base blocks its) (values base blocks its) it → (steps place : ℕ) → runOf base (reached base blocks its) (it .asked) (it .words) .answer ≢ Fault steps place
-    ended s steps place f = let z : _≡_ {A = ℕ} 0 1 = ap kind (sym (s .ended) ∙ f) in absurd (omega arith)
+    ended s steps place f = let z : _≡_ {A = ℕ} 0 1 = cc (s .ended) in omega arith
 
 -- an object of one has a block
 one-block : (fields : ℕ → List Cell) (p : ℕ) (chunks : List (List Cell)) → Object fields p chunks → lengths chunks ≡ 1 ∷ [] → p ≢ 0

@@ -6,6 +6,7 @@ use mathlib.Core.Path.{_≡_, refl, sym, _∙_, ap, subst, fun-ext}
 use Prim.Native.Nat.{ℕ, suc, _+_, _*_, _≤_}
 use native.Mathlib.Omega.{arith}
 use lib.ListN.{replicate, length-replicate}
+use Rattle.records.proofs.Conditions.{never}
 use Rattle.trees.specs.Tree.{Tree}
 use Rattle.layout.specs.declared.config.Shape.{Shape}
 use Rattle.layout.specs.Config.{Supported, blockWords}
@@ -23,9 +24,6 @@ use Rattle.soundness.specs.Claims.{Item, acquires, changes, stateOf, rea
 use Rattle.soundness.specs.Peak.{Unfaulted, PeakIsEnough}
 use Rattle.machine.specs.Run.{starting}
 use Rattle.soundness.proofs.Induction.{zeros, StepOn, heap-stays-sound, unfaulted-before, stepped-by-runs, owed-by-runs, left-by-runs, stepped-by-peak}
-
-never : {A : Type 0} → false ≡ true → A
-never e = let z : _≡_ {A = ℕ} 0 1 = cc in absurd (omega arith)
 
 -- where an accepted order's run has left a configuration
 abbrev leftBy : Channel → Item → Config → Channel

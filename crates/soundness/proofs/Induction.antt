@@ -1,5 +1,5 @@
 -- The claims, by one induction over the list of items: what is granted of a list, and how that makes each accepted order do what it names, are its parameters.
-use mathlib.Core.Bool.{Bool, true, false, _&&_, cond}
+use mathlib.Core.Bool.{Bool, true, false, _&&_}
 use mathlib.Core.Logic.{_≢_}
 use mathlib.Core.List.{List, [], _∷_}
 use mathlib.Core.Path.{_≡_, refl, sym, subst}
@@ -11,6 +11,7 @@ use lib.Dec.{eqb}
 use lib.ListN.{replicate, length-replicate}
 use Rattle.records.specs.declared.order.Order.{Order}
 use Rattle.records.specs.Contexts.{extAt}
+use Rattle.records.proofs.Conditions.{never, both-ways}
 use Rattle.machine_step.specs.View.{wordsOf}
 use Rattle.heap.specs.Blocks.{pointers}
 use Rattle.heap.specs.Claims.{Reaches, ReachesAtMost, AbstractFrontierIsPeak}
@@ -58,18 +59,14 @@ zeros (suc n) (suc i) = zeros n i
 module _ (G : Shape) (sup : Supported G) where
   zeroed : (n b : ℕ) → headers (G .fields) (wordsOf (replicate n 0)) b ≡ 0
   unfolding headers byAddress
-  zeroed n b = by (eqb (addressOf (G .fields) (blockNumber (G .fields) b)) b)
-    where
-      by : (q : Bool) → cond q (wordsOf (replicate n 0) (wordAt (G .fields) (blockNumber (G .fields) b) 0)) 0 ≡ 0
-      by true = zeros n (wordAt (G .fields) (blockNumber (G .fields) b) 0)
-      by false = refl
+  zeroed n b = both-ways (λ (w : ℕ). w ≡ 0) (eqb (addressOf (G .fields) (blockNumber (G .fields) b)) b) (zeros n (wordAt (G .fields) (blockNumber (G .fields) b) 0)) refl
 
   -- a refused order
   refused : (ch : Channel) (it : Item) → isAccepted G ch (it .asked) ≡ false → Refused G ch it
   refused ch it e = record { channel-kept = rw e; records-kept = λ o. rw e; context-kept = λ o. rw e; counter-kept = by (answerTo G (ch .context) (it .asked)) e }
     where
       by : (r : OrderAnswer) → orderAccepted r ≡ false → orderCounterAfter (it .asked .counter) r ≡ it .asked .counter
-      by (answers.Accepted records after bindings) e = let z : _≡_ {A = ℕ} 0 1 = cc in absurd (omega arith)
+      by (answers.Accepted records after bindings) e = never (sym e)
       by (answers.Context flaw) e = refl
       by (answers.Malformed place) e = refl
       by answers.Frame e = refl
@@ -258,11 +255,9 @@ module _ (G : Shape) (sup : Supported G) where
     -- the states so far are the fresh one and those after the orders
     every : (peak : ℕ) (its : List Item) → ReachesWithin G blocks peak its → Every (ReachesAtMost peak) (stateAfter G blocks its ∷ statesBefore G blocks its)
     every peak [] h = (first-reaches peak, tt)
-    every peak (it ∷ its) h = (h .0, by (isAccepted G (reached G blocks its) (it .asked) && changes (orderIs (it .asked))) (every peak its (h .1)))
-      where
-        by : (q : Bool) → Every (ReachesAtMost peak) (stateAfter G blocks its ∷ statesBefore G blocks its) → Every (ReachesAtMost peak) (cond q (stateAfter G blocks its ∷ statesBefore G blocks its) (statesBefore G blocks its))
-        by true e = e
-        by false e = e .1
+    every peak (it ∷ its) h =
+        let e = every peak its (h .1) in
+        (h .0, both-ways (Every (ReachesAtMost peak)) (isAccepted G (reached G blocks its) (it .asked) && changes (orderIs (it .asked))) e (e .1))
 
   -- what is carried after a list, under the premises of either claim
   pub carried-within-peak : (blocks peak : ℕ) (its : List Item) → PeakWithin G blocks peak its → 2 + peak ≤ blocks → blocks ≤ 1048576 → AllOwed G blocks its

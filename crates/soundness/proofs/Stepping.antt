@@ -11,6 +11,7 @@ use Rattle.records.specs.Contexts.{extAt}
 use Rattle.records.specs.declared.order.Order.{Order}
 use Rattle.records.specs.declared.order.Order.the-variants.{Put, Compute, Copy, Drop, Store, Load, Print}
 use Rattle.records.specs.ReadBack.{joined, codeBytes}
+use Rattle.records.proofs.Conditions.{never}
 use Rattle.records.proofs.OrdersBack.{order-well-formed}
 use Rattle.trees.specs.Tree.{Tree, size, flat}
 use Rattle.layout.specs.declared.config.Shape.{Shape}
@@ -52,7 +53,7 @@ no-calls (Copy a n) vs e = refl
 no-calls Drop vs e = refl
 no-calls (Store n tag) vs e = refl
 no-calls (Load n) vs e = refl
-no-calls (Print newline a) vs e = let z : _≡_ {A = ℕ} 0 1 = cc in absurd (omega arith)
+no-calls (Print newline a) vs e = never e
 
 -- the states before, after an order
 abbrev pub pastOf : Order → HeapState → List HeapState → List HeapState
@@ -135,7 +136,7 @@ module _ (G : Shape) where
             tree = r .tree;
             left = ap (λ (d : Done). d .last) (r .run);
             reaches = reaches-on G f (it .asked .bindings) O e owed (contextAfter (ch .context) (countOf vs) (it .asked .bindings) O) (c .0) (r .last) (r .post .0);
-            kept = λ z. let x : _≡_ {A = ℕ} 0 1 = cc in absurd (omega arith);
+            kept = λ z. never (sym z ∙ e);
           }
 
       abbrev Prints : Bool → ℕ → Config → Type 0

@@ -1,11 +1,11 @@
 -- A straight record goes on to the next one or faults, and is no label: by how each instruction leaves a record.
 use Prim.Native.Nat.{ℕ, _%_}
 use mathlib.Core.Path.{_≡_, refl, sym, subst}
-use mathlib.Core.Bool.{Bool, true, false, _&&_, cond}
-use native.Mathlib.Omega.{arith}
+use mathlib.Core.Bool.{Bool, true, false, _&&_}
 use lib.Dec.{eqb}
 use Rattle.records.specs.declared.code.Code.{Code}
 use Rattle.records.specs.declared.code.Code.the-variants.{ADD, ADDRM, ADDMR, ADDI, ADDIM, SUB, SUBRM, SUBMR, SUBI, IMUL, IMULRM, IMULMR, IDIV, IDIVM, CQO, JMP, JMPL, JMPLN, LEAL, MOV, MOVS, MOVL, MOVI, MOVIM, CMP, CMPRM, CMPMR, CMPI, CMPIM, JEL, JNEL, JLL, JLEL, JGL, JGEL, PUSH, POP, CALL, RET, LAB, NOEXECSTACK, TEXT, GLOBAL, EXTERN}
+use Rattle.records.proofs.Conditions.{never, both-ways}
 use Rattle.trees.specs.Tree.{straight}
 use Rattle.machine_step.specs.Step.{Config, Outcome, next, jump, end, fault, isPrintName, step}
 use Rattle.machine.specs.Run.{isLab}
@@ -19,9 +19,6 @@ goesOn (mark label) = false
 goesOn (calling label) = true
 goesOn returning = false
 goesOn stops = true
-
-unlike : {A : Type 0} → false ≡ true → A
-unlike e = let z : _≡_ {A = ℕ} 0 1 = cc in absurd (omega arith)
 
 abbrev Told : Code → Type 0
 Told x = (goesOn (flow x) ≡ true) × ((label : ℕ) → isLab label x ≡ false)
@@ -42,9 +39,9 @@ told (IMULMR a b c) e = (refl, λ l. refl)
 told (IDIV a) e = (refl, λ l. refl)
 told (IDIVM a b) e = (refl, λ l. refl)
 told CQO e = (refl, λ l. refl)
-told (JMP a) e = unlike e
-told (JMPL a) e = unlike e
-told (JMPLN a) e = unlike e
+told (JMP a) e = never e
+told (JMPL a) e = never e
+told (JMPLN a) e = never e
 told (LEAL a b) e = (refl, λ l. refl)
 told (MOV a b) e = (refl, λ l. refl)
 told (MOVS a b c) e = (refl, λ l. refl)
@@ -56,17 +53,17 @@ told (CMPRM a b c) e = (refl, λ l. refl)
 told (CMPMR a b c) e = (refl, λ l. refl)
 told (CMPI a b) e = (refl, λ l. refl)
 told (CMPIM a b c) e = (refl, λ l. refl)
-told (JEL a) e = unlike e
-told (JNEL a) e = unlike e
-told (JLL a) e = unlike e
-told (JLEL a) e = unlike e
-told (JGL a) e = unlike e
-told (JGEL a) e = unlike e
+told (JEL a) e = never e
+told (JNEL a) e = never e
+told (JLL a) e = never e
+told (JLEL a) e = never e
+told (JGL a) e = never e
+told (JGEL a) e = never e
 told (PUSH a) e = (refl, λ l. refl)
 told (POP a) e = (refl, λ l. refl)
 told (CALL a) e = (refl, λ l. refl)
-told RET e = unlike e
-told (LAB a) e = unlike e
+told RET e = never e
+told (LAB a) e = never e
 told NOEXECSTACK e = (refl, λ l. refl)
 told TEXT e = (refl, λ l. refl)
 told (GLOBAL a) e = (refl, λ l. refl)
@@ -88,17 +85,13 @@ plainly-onward c (jump label d) = tt
 plainly-onward c (end d) = tt
 plainly-onward c (fault d) = tt
 
-test-onward : (b : Bool) (c d : Config) → Onward (cond b (next d) (fault c))
-test-onward true c d = tt
-test-onward false c d = tt
-
 flow-onward : (words : ℕ → ℕ) (f : Flow) (c : Config) (o : Outcome) → goesOn f ≡ true → Onward (byFlow words f c o)
 flow-onward words plain c o e = plainly-onward c o
-flow-onward words (jumps label) c o e = unlike e
-flow-onward words (branches holds label) c o e = unlike e
-flow-onward words (mark label) c o e = unlike e
-flow-onward words (calling label) c o e = test-onward (isPrintName label && eqb (c .state .reg 0 % 16) 0) c _
-flow-onward words returning c o e = unlike e
+flow-onward words (jumps label) c o e = never e
+flow-onward words (branches holds label) c o e = never e
+flow-onward words (mark label) c o e = never e
+flow-onward words (calling label) c o e = both-ways Onward (isPrintName label && eqb (c .state .reg 0 % 16) 0) tt tt
+flow-onward words returning c o e = never e
 flow-onward words stops c o e = tt
 
 pub straight-onward : (words : ℕ → ℕ) (x : Code) (c : Config) → straight x ≡ true → Onward (step words x c)

@@ -5,10 +5,11 @@ use native.Mathlib.Omega.{arith}
 use borrow.Author.Tests.{eq-eqb, ne-eqb}
 use lib.Dec.{ltb}
 use Rattle.records.specs.declared.code.Code.the-variants.{MOVL}
+use Rattle.records.proofs.Conditions.{both-ways}
 use Rattle.trees.specs.Tree.{Tree, nop, leaf}
 use Rattle.emit.proofs.Laws.{_⨟_, emits-nop}
 use Rattle.layout.specs.Config.{STACK, TEMP, stackOffset}
-use Rattle.memory.proofs.Sizes.{either}
+use Rattle.memory.proofs.Sizes.{Sized}
 use Rattle.memory_load.proofs.Answering.{fits-all}
 use Rattle.memory_load.proofs.load.load_object.Statement.{statement}
 use Rattle.memory_load.proofs.load.load_object.Tie as tie
@@ -22,6 +23,6 @@ load-object-spec =
     (λ c κs. let a = c .before .before .before .args in let w = c .before .before .before .pre in let f = fits-all (a .g) (w .5) (a .v) (a .n) (w .2) (c .if1 .left) in (w .0, omega (arith, w .5 .frame)))
     (λ c κs. let a = c .before .before .before .before .before .args in let w = c .before .before .before .before .before .pre in let f = fits-all (a .g) (w .5) (a .v) (a .n) (w .2) (c .before .before .if1 .left) in (omega (arith, f, c .before .location-at .ensures .1), omega (arith, w .3), w .5))
     (λ c κs. search needs)
-    (λ c κs. let a = c .before .before .before .before .before .before .before .before .before .before .args in let w = c .before .before .before .before .before .before .before .before .before .before .pre in let f = fits-all (a .g) (w .5) (a .v) (a .n) (w .2) (c .before .before .before .before .before .before .before .if1 .left) in let d = c .before .before .before .before .into-register .ensures in let r : ℕ = c .before .before .before .before .before .before .location-at .result in let t : Tree = leaf (MOVL TEMP STACK (stackOffset (a .g) r)) refl in let z = either (ltb r 16) nop t 0 1 refl refl (omega arith) (omega arith) in (w .0, w .1, f, omega (arith, w .3, d .place, z .1), omega (arith, w .4, d .drawn, z .0), w .5))
+    (λ c κs. let a = c .before .before .before .before .before .before .before .before .before .before .args in let w = c .before .before .before .before .before .before .before .before .before .before .pre in let f = fits-all (a .g) (w .5) (a .v) (a .n) (w .2) (c .before .before .before .before .before .before .before .if1 .left) in let d = c .before .before .before .before .into-register .ensures in let r : ℕ = c .before .before .before .before .before .before .location-at .result in let t : Tree = leaf (MOVL TEMP STACK (stackOffset (a .g) r)) refl in let z = both-ways (Sized 0 1) (ltb r 16) {x = nop} {y = t} (omega arith) (omega arith) in (w .0, w .1, f, omega (arith, w .3, d .place, z .1), omega (arith, w .4, d .drawn, z .0), w .5))
     (λ c. search needs)
     (λ c. rw (ne-eqb _ 0 (c .before .before .before .before .before .before .before .before .before .before .if1 .left), ← (c .before .before .before .before .before .before .before .before .before .location-at .ensures .0), ← (c .before .before .before .register-for .ensures)) (c .before .before .before .before .before .before .before .into-register .ensures ⨟ c .before .before .load-counted .ensures)))
