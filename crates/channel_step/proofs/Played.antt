@@ -13,6 +13,7 @@ use Rattle.records.specs.ReadBack.{joined, codeBytes}
 use Rattle.records.proofs.Answers.{answers-by}
 use Rattle.records.proofs.CodesBack.{code-laws}
 use Rattle.records.proofs.Joined.{joined-length}
+use Rattle.records.proofs.ContextsRead.{context-long}
 use Rattle.trees.specs.Tree.{Tree, size, flat}
 use Rattle.trees.proofs.Flat.{length-flat}
 use Rattle.layout.specs.declared.config.Shape.{Shape}
@@ -29,13 +30,12 @@ use Rattle.order_spec.specs.declared.answer.OrderAnswer.the-variants.{Accepted,
 use Rattle.order_spec.proofs.answer.OrderAnswer.{the-type}
 use Rattle.order_spec.specs.Writes.{treeOf, contextAfter}
 use Rattle.order_spec.specs.Answered.{Asked, orderAccepted, orderIs, orderTree, orderContext, answerTo, unframedOrder, orderRecords}
-use Rattle.records.proofs.ContextsRead.{context-long}
+use Rattle.order_spec.proofs.Accepting.{good-context, taken}
 use Rattle.order_check.proofs.Leaving.{after-long}
 use Rattle.order.specs.Answers.{AnswersOrder}
 use Rattle.order.specs.Answers as orders
 use Rattle.channel_step.specs.declared.channel.Channel as code
 use Rattle.channel_step.specs.Playing.{Channel, fresh, isAccepted, channelOf, shapeIn, askingOn, Plays, Stays, unframedOn, SameShape, PlaysIn}
-use Rattle.order_spec.proofs.Accepting.{good-context, taken}
 
 -- an edition and a frame have one shape, or none for one cause
 pub same-shape : {f : Shaped} {g h : Shape} → f ≡ In g → f ≡ In h → g ≡ h

@@ -9,11 +9,11 @@ use Rattle.records.proofs.Conditions.{never}
 use Rattle.layout.specs.declared.config.Shape.{Shape}
 use Rattle.layout.specs.Config.{TEMP, operands}
 use Rattle.layout.specs.Positions.{operandOk}
+use Rattle.layout.specs.Frame.{stackWord}
 use Rattle.machine_step.specs.declared.instruction.Compared.{Compared}
 use Rattle.machine_step.specs.View.{putReg, putStk}
 use Rattle.machine_step.specs.Step.{Config, config}
 use Rattle.layout_proof.specs.Held.{NoSpill, held, operandsIn, Placed}
-use Rattle.layout.specs.Frame.{stackWord}
 use Rattle.layout_proof.proofs.Operands.{withOperand}
 use Rattle.layout_proof.proofs.HeldLemmas.{upd-other, operand-same, operand-other, operand-heap, keeps-trans, keeps-sub, placed-keeps}
 use Rattle.code_proof.specs.Claims.{Unchanged, Sets}

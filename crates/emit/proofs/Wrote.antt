@@ -16,6 +16,7 @@ use Rattle.records.specs.Instructions.{fieldsBytes}
 use Rattle.records.specs.ReadBack.{joined, codeBytes}
 use Rattle.records.proofs.Conditions.{never}
 use Rattle.records.proofs.Storing.{sets-then, stored-whole}
+use Rattle.records.specs.Names.{lastLabel}
 use Rattle.trees.specs.Tree.{Tree, labels, size, flat}
 use Rattle.trees.proofs.Flat.{length-flat}
 use Rattle.emit.specs.declared.cursor.Cursor.{Cursor}
@@ -23,7 +24,6 @@ use Rattle.emit.specs.declared.answer.Answer.{Answer}
 use Rattle.emit.specs.declared.answer.Answer.the-variants.{Written, Labels, Room}
 use Rattle.emit.specs.Emitted.{written, fieldsList, Emits}
 use Rattle.emit.specs.Answers.{causeOf, granted, accepted, output, Answers}
-use Rattle.records.specs.Names.{lastLabel}
 
 pub bytes-long : (f : Fields) → length (fieldsBytes f) ≡ 24
 unfolding fieldsBytes le

@@ -1,5 +1,5 @@
 -- What an operation answers and leaves in its output, where nothing but the labels or the room can refuse it, and where there is no such frame.
--- From the scope, 'Causes and numbers', and the scope, 'Job 2': 15 to 17 before 3, 9 before 10, a refusal writes nothing, output bytes past the records stay.
+-- From the scope, 'Causes and numbers', and 'Job 2': 15 to 17 before 3, 9 before 10, a refusal writes nothing, output bytes past the records stay.
 use Prim.Native.Nat.{ℕ, _+_, _/_}
 use mathlib.Core.Bool.{Bool, true, false, cond}
 use mathlib.Core.Path.{_≡_}
@@ -11,9 +11,9 @@ use Rattle.records.specs.declared.context.ContextRead.{ContextRead}
 use Rattle.records.specs.declared.code.Code.{Code}
 use Rattle.records.specs.Contexts.{flawCause, onContext}
 use Rattle.records.specs.ReadBack.{joined, codeBytes}
+use Rattle.records.specs.Names.{lastLabel}
 use Rattle.emit.specs.declared.answer.Answer.{Answer}
 use Rattle.emit.specs.declared.answer.Answer.the-variants.{Written, Context, Body, Operand, Missing, Arguments, Count, Position, Labels, Room, Edition}
-use Rattle.records.specs.Names.{lastLabel}
 
 -- the scope's number and values for each answer: 0, with the records and the counter after them, where they are written
 abbrev pub causeOf : Answer → List ℕ

@@ -11,6 +11,7 @@ use Rattle.records.specs.declared.code.Code.{Code}
 use Rattle.records.specs.ReadBack.{Each, WellFormedCode}
 use Rattle.records.proofs.Each.{each-append}
 use Rattle.records.proofs.ReadBack.{records-read-back}
+use Rattle.records.specs.Names.{lastLabel}
 use Rattle.trees.specs.Tree.{Tree, labels, size, flat}
 use Rattle.trees.proofs.Flat.{length-flat}
 use Rattle.code.proofs.Sizes.{Plain}
@@ -18,7 +19,6 @@ use Rattle.order_formed_proof.proofs.Formed.{Formed}
 use Rattle.order_formed_proof.proofs.Records.{formed-records}
 use Rattle.order_formed_proof.proofs.Bytes.{codes-back, ran-list}
 use Rattle.emit_proof.specs.Claims.{Readable}
-use Rattle.records.specs.Names.{lastLabel}
 
 pub readable : (cs : List Code) → Each WellFormedCode cs → length cs ≤ 65536 → Readable cs
 readable cs w h = record {

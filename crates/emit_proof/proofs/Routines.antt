@@ -17,6 +17,7 @@ use Rattle.records.specs.ReadBack.{Each, Bytes, WellFormedCode, items, codeIn}
 use Rattle.records.proofs.CodesFormed.{codes-formed}
 use Rattle.records.proofs.Conditions.{never, both, passed}
 use Rattle.records.proofs.Each.{each-append}
+use Rattle.records.specs.Checked.{onChecked}
 use Rattle.emit.specs.declared.answer.Answer.{Answer}
 use Rattle.emit.specs.declared.answer.Answer.the-variants.{Body, Arguments}
 use Rattle.emit.specs.Answers.{accepted}
@@ -28,7 +29,6 @@ use Rattle.order_formed_proof.proofs.Codes.{drawn, addi, subi, mov, lab}
 use Rattle.order_formed_proof.proofs.Choices.{stack, heap, free}
 use Rattle.emit_proof.specs.Claims.{Readable, RoutineReads}
 use Rattle.emit_proof.proofs.Lists.{readable}
-use Rattle.records.specs.Checked.{onChecked}
 
 -- well-formedness as a test, for records without a variable in them
 abbrev formed : List Code → Bool

@@ -1,5 +1,5 @@
 -- The blocks that pointers lead to, and their number.
--- From the scope: 'held are just the blocks that pointers name, followed from the variables and the lazy list'.
+-- From the scope, 'Blocks and objects': held are just the blocks that pointers name, followed from the variables and the lazy list.
 use mathlib.Core.Path.{_≡_}
 use mathlib.Core.Logic.{_≢_}
 use mathlib.Core.List.{List}

@@ -1,12 +1,12 @@
 -- The abstract memory that the lent heap's words show: blocks of some number of fields, from address 65,536.
 -- From the scope, 'Blocks and objects': count or next pointer first, one word unused, then Fst and Snd of each field. Words are numbered from the heap's first.
+use mathlib.Core.Path.{_≡_, sym, ap, _∙_}
 use mathlib.Core.List.{List, [], _∷_}
 use Prim.Native.Nat.{ℕ, zero, suc, _+_, _-_, _*_, _/_}
 use mathlib.Core.Bool.{cond}
-use lib.Dec.{eqb}
-use mathlib.Core.Path.{_≡_, sym, ap, _∙_}
 use native.Mathlib.Nat.{mul-div-cancel-left}
 use native.Mathlib.Omega.{arith}
+use lib.Dec.{eqb}
 use Rattle.heap.specs.Blocks.{Layout, Cell, cell, Memory}
 
 -- the words of a block
@@ -17,7 +17,7 @@ stride fieldCount = 2 + 2 * fieldCount
 abbrev pub wordAt : ℕ → ℕ → ℕ → ℕ
 wordAt fieldCount j w = stride fieldCount * j + w
 
--- block j's address, and the number of the block at an address
+-- block j's address
 abbrev pub addressOf : ℕ → ℕ → ℕ
 addressOf fieldCount j = 65536 + 8 * (stride fieldCount * j)
 
@@ -29,6 +29,7 @@ layout fieldCount = record {
   distinct = λ i j e. let same : stride fieldCount * i ≡ stride fieldCount * j = omega arith in sym (mul-div-cancel-left i (omega arith)) ∙ ap (λ (x : ℕ). x / stride fieldCount) same ∙ mul-div-cancel-left j (omega arith);
 }
 
+-- the number of the block at an address
 unfoldable pub blockNumber : ℕ → ℕ → ℕ
 blockNumber fieldCount b = ((b - 65536) / 8) / stride fieldCount
 

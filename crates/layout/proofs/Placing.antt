@@ -17,7 +17,6 @@ use Rattle.layout.specs.declared.config.Offset.the-variants as offset
 use Rattle.layout.specs.declared.config.Shape.{Shape}
 use Rattle.layout.specs.declared.config.Choice.{Choice}
 use Rattle.layout.specs.declared.config.Choice.the-variants.{Of, Unknown}
-use Rattle.layout.specs.declared.config.Shaped.{Shaped}
 use Rattle.layout.specs.declared.config.Shaped.the-variants.{In}
 use Rattle.layout.specs.declared.utils.TemporaryNumber.{TemporaryNumber}
 use Rattle.layout.specs.declared.utils.Temporary.{Temporary}

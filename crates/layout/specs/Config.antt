@@ -1,5 +1,5 @@
 -- The numbers of config.rs: what a shape decides, the reserved registers, offsets in the frame and in a block.
--- From the scope, 'Instruction record': spill p is at 2048 − 8(p+1) from STACK, field i of a block at 16+16i and 24+16i; and from the scope, 'Job 8' and 'Job 11':
+-- From the scope, 'Instruction record': spill p is at 2048 − 8(p+1) from STACK; 'Blocks and objects': field i of a block at 16+16i and 24+16i; and 'Job 8' and 'Job 11':
 -- frames of 256 or 512 spills, blocks of 3 or 7 fields.
 use Prim.Native.Nat.{ℕ, _+_, _*_, _-_, _/_, _%_, _^_, _≤_}
 use mathlib.Core.Path.{_≡_}

@@ -1,4 +1,4 @@
--- Where a frame's words stand, and the variables that they hold. From the scope, 'Instruction record': STACK enters at 2^40−8, and setup pushes six registers and
+-- Where a frame's words stand, and the variables that they hold. From the scope, 'Machine': STACK enters at 2^40−8, and setup pushes six registers and
 -- takes the spills, so that spill p is word p + 7 from the stack's end, in every frame; and from 'Plain machine of demand 3': Ext holds its integer in Snd, linked its tag in
 -- Snd and its list by Fst.
 use Prim.Native.Nat.{ℕ, zero, suc, _+_, _-_, _*_}

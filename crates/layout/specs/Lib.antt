@@ -1,4 +1,4 @@
--- Where things stand: registers, spills, blocks and variables. From the scope.
+-- Where things stand: registers, spills, blocks and variables. From the scope, 'Binding record' and 'Instruction record'.
 pub mod Config  -- the numbers that an edition fixes, registers, offsets
 pub mod Positions  -- the operand of each position, and which operands a caller may give
 pub mod Frame  -- where a frame's words stand, and the variables that they hold

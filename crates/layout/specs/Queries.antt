@@ -1,4 +1,4 @@
--- The temporaries of a variable, and where spills and fields stand, as callers ask for them. From the scope: equal ids, `variable_temporary` takes the
+-- The temporaries of a variable, and where spills and fields stand, as callers ask for them. From the scope, 'Binding record': of equal ids `variable_temporary` takes the
 -- first; `fresh_temporary` is past the last; a spill that the frame lacks, and spill 0, is 3.
 use Prim.Native.Nat.{ℕ, zero, suc, _+_, _*_}
 use mathlib.Core.Bool.{_&&_, cond}

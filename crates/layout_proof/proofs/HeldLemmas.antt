@@ -12,10 +12,10 @@ use Rattle.records.proofs.Conditions.{both-ways}
 use Rattle.layout.specs.declared.config.Shape.{Shape}
 use Rattle.layout.specs.Config.{operands, positions}
 use Rattle.layout.specs.Positions.{location}
+use Rattle.layout.specs.Frame.{stackWord, heldIn}
 use Rattle.machine_step.specs.View.{View, upd, putReg, putStk}
 use Rattle.machine_step.specs.Step.{Call}
 use Rattle.layout_proof.specs.Held.{operandsIn, Kept, PlacedAt}
-use Rattle.layout.specs.Frame.{stackWord, heldIn}
 use Rattle.layout_proof.proofs.Operands.{withOperand}
 
 pub upd-same : (f : ℕ → ℕ) (i w : ℕ) → upd f i w i ≡ w

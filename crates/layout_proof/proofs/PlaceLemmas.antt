@@ -9,6 +9,7 @@ use borrow.Author.Tests.{le-ltb, lt-ltb, lt-leb, le-leb, ltb-true, ltb-false}
 use Rattle.word.specs.Words.{sum}
 use Rattle.layout.specs.declared.config.Shape.{Shape}
 use Rattle.layout.specs.Config.{Supported, operands, blockWords, stackOffset}
+use Rattle.layout.specs.Frame.{stackWord, heldIn}
 use Rattle.machine_step.specs.declared.memory.Place.the-variants.{Stack, Heap}
 use Rattle.machine_step.specs.declared.memory.Fetched.the-variants.{Word}
 use Rattle.machine_step.specs.View.{View, putReg, putStk, putMem}
@@ -16,7 +17,6 @@ use Rattle.machine_step.specs.Memory.{register, memory, placeOf, valueOf, assig
 use Rattle.heap.proofs.WordLemmas.{word-inside, heap-below}
 use Rattle.heap.specs.Words.{wordAt}
 use Rattle.layout_proof.specs.Held.{PlacedAt}
-use Rattle.layout.specs.Frame.{stackWord, heldIn}
 use Rattle.layout_proof.proofs.Operands.{operandAt, withOperand, blockAddress}
 use Rattle.layout_proof.proofs.HeldLemmas.{held-register, held-spill}
 

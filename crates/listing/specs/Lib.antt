@@ -1,3 +1,3 @@
--- What the contracts of `listing` cite, from the scope.
+-- What the contracts of `listing` cite, from the scope, 'Worked numbers'.
 pub mod Names  -- the 44 names
 pub mod Listing  -- the listing, the answer, and what the lister prints

@@ -15,11 +15,11 @@ use Rattle.records.proofs.Conditions.{and-right}
 use Rattle.records.proofs.CodesRead.{starts-whole}
 use Rattle.machine.specs.declared.run.RunAnswer.{RunAnswer}
 use Rattle.machine.specs.declared.run.RunAnswer.the-variants.{Malformed}
-use Rattle.machine_step.specs.View.{View, view}
-use Rattle.machine_step.specs.Memory.{heapOk}
 use Rattle.machine.specs.Run.{Done, runCause, Leaves, codesOf, started, ran}
 use Rattle.machine.specs.Loop.{ListedCodes, EndsBy}
 use Rattle.machine.proofs.Running.{unlike}
+use Rattle.machine_step.specs.View.{View, view}
+use Rattle.machine_step.specs.Memory.{heapOk}
 
 -- each record from place k on passes the test
 module _ (ok : List ℕ → Bool) (size limit : ℕ) (s : List ℕ) where

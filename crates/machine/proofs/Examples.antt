@@ -6,17 +6,17 @@ use mathlib.Core.List.{List, [], _∷_}
 use lib.ListN.{replicate}
 use Rattle.records.specs.declared.code.Code.{Code}
 use Rattle.records.specs.declared.code.Code.the-variants.{ADDI, ADDIM, JMPL, JEL, JLL, MOVI, CMPI, PUSH, POP, CALL, RET, LAB}
+use Rattle.records.specs.Names.{PRINTI64, firstUnnamed}
 use Rattle.machine_step.specs.declared.memory.Place.the-variants.{Stack, Heap, Nowhere}
+use Rattle.machine_step.specs.Memory.{heapOk, placeOf}
+use Rattle.machine_step.specs.Step.{step}
 use Rattle.machine.specs.declared.state.State.{State}
 use Rattle.machine.specs.declared.run.RunAnswer.{RunAnswer}
 use Rattle.machine.specs.declared.run.RunAnswer.the-variants.{Ended, Malformed, Fault, Limit}
-use Rattle.layout.specs.Config.{base}
-use Rattle.word.specs.Words.{sum, difference, signs, magnitude, negated, quotient, remainder, divides, less}
-use Rattle.machine_step.specs.Memory.{heapOk, placeOf}
-use Rattle.machine_step.specs.Step.{step}
 use Rattle.machine.specs.Run.{runs, started, placesOf, ran}
 use Rattle.machine.specs.State.{see, entryState, freshState, firsts}
-use Rattle.records.specs.Names.{PRINTI64, firstUnnamed}
+use Rattle.layout.specs.Config.{base}
+use Rattle.word.specs.Words.{sum, difference, signs, magnitude, negated, quotient, remainder, divides, less}
 
 abbrev heap : List ℕ
 heap = replicate 16 0

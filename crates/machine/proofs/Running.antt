@@ -21,18 +21,18 @@ use Rattle.machine_step.specs.declared.instruction.Pair.{Pair}
 use Rattle.machine_step.specs.declared.instruction.Went.{Went}
 use Rattle.machine_step.specs.declared.instruction.Went.the-variants.{Next, Called, Jump, End, Fault}
 use Rattle.machine_step.specs.declared.instruction.Moved.{Moved}
+use Rattle.machine_step.specs.View.{View, view}
+use Rattle.machine_step.specs.Step.{Call, Config, config, outcomeOf, step}
+use Rattle.machine_step.specs.Forms.{comparedOf, Acts}
+use Rattle.machine_step.proofs.Flow.{jump-keeps}
 use Rattle.machine.specs.declared.run.RunAnswer.{RunAnswer}
 use Rattle.machine.specs.declared.run.RunAnswer.the-variants as answer
 use Rattle.machine.specs.declared.run.Found.{Found}
 use Rattle.machine.specs.declared.run.Found.the-variants as found
 use Rattle.machine.specs.declared.run.Turn.{Turn}
 use Rattle.machine.specs.declared.run.Turn.the-variants as turn
-use Rattle.machine_step.specs.View.{View, view}
-use Rattle.machine_step.specs.Step.{Call, Config, config, outcomeOf, step}
 use Rattle.machine.specs.Run.{Done, done, onFound, find, follow, runs, codesOf, started}
-use Rattle.machine_step.specs.Forms.{comparedOf, Acts}
 use Rattle.machine.specs.Loop.{ListedCodes, turnTo, turnOf, Turns, EndsBy}
-use Rattle.machine_step.proofs.Flow.{jump-keeps}
 
 pub listed-ok : {s : List ℕ} {n k : ℕ} {f : Fields} → ListedCodes s n → k < n → f ≡ fieldsIn (drop (24 * k) s) → fieldsOk f ≡ true
 listed-ok {k} z h e = rw e (starts-ok _ (z .starts k h))

@@ -12,8 +12,7 @@ use Rattle.records.specs.declared.code.Fields.{Fields}
 use Rattle.records.specs.declared.code.CodeRead.{CodeRead}
 use Rattle.records.specs.declared.code.CodeRead.the-variants as read
 use Rattle.records.specs.Codes.{fieldsOf, codeOf}
-use Rattle.records.specs.Instructions.{registerOk, labelOk, wordOk, operandsOk, fieldsOk, used}
-use Rattle.records.specs.Instructions.{fieldsIn, codeAt}
+use Rattle.records.specs.Instructions.{registerOk, labelOk, wordOk, operandsOk, fieldsOk, used, fieldsIn, codeAt}
 use Rattle.records.specs.ReadBack.{codeIn}
 use Rattle.records.specs.Answers.{AnswersBy}
 use Rattle.records.proofs.Conditions.{and-left, and-right}

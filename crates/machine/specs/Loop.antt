@@ -7,17 +7,17 @@ use mathlib.Core.List.{List, [], _∷_}
 use lib.ListN.{length, drop}
 use Rattle.records.specs.declared.code.Code.{Code}
 use Rattle.records.specs.Instructions.{codeStarts}
+use Rattle.records.specs.ReadBack.{codeIn}
 use Rattle.machine_step.specs.declared.instruction.Went.{Went}
 use Rattle.machine_step.specs.declared.instruction.Went.the-variants.{Next, Called, Jump, End, Fault}
+use Rattle.machine_step.specs.declared.instruction.Compared.{Compared}
+use Rattle.machine_step.specs.View.{View}
+use Rattle.machine_step.specs.Step.{Call, config, outcomeOf, step}
 use Rattle.machine.specs.declared.run.RunAnswer.{RunAnswer}
 use Rattle.machine.specs.declared.run.Found.{Found}
 use Rattle.machine.specs.declared.run.Found.the-variants as found
 use Rattle.machine.specs.declared.run.Turn.{Turn}
 use Rattle.machine.specs.declared.run.Turn.the-variants as turn
-use Rattle.machine_step.specs.declared.instruction.Compared.{Compared}
-use Rattle.machine_step.specs.View.{View}
-use Rattle.machine_step.specs.Step.{Call, config, outcomeOf, step}
-use Rattle.records.specs.ReadBack.{codeIn}
 use Rattle.machine.specs.Run.{Done, placesOf, find, codesOf}
 
 -- n whole, well-formed records in the bytes s

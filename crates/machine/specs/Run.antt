@@ -10,15 +10,15 @@ use Rattle.records.specs.declared.code.Code.{Code}
 use Rattle.records.specs.Codes.{fieldsOf}
 use Rattle.records.specs.Instructions.{labWith, checkedCodes}
 use Rattle.records.specs.ReadBack.{items, codeIn}
+use Rattle.records.specs.Checked.{onChecked}
 use Rattle.machine_step.specs.declared.instruction.Compared.the-variants.{Absent}
+use Rattle.machine_step.specs.View.{View}
+use Rattle.machine_step.specs.Memory.{heapOk}
+use Rattle.machine_step.specs.Step.{Config, config, Outcome, next, jump, end, fault, step}
 use Rattle.machine.specs.declared.run.RunAnswer.{RunAnswer}
 use Rattle.machine.specs.declared.run.RunAnswer.the-variants.{Ended, Malformed, Fault, Limit}
 use Rattle.machine.specs.declared.run.Found.{Found}
 use Rattle.machine.specs.declared.run.Found.the-variants as found
-use Rattle.machine_step.specs.View.{View}
-use Rattle.machine_step.specs.Memory.{heapOk}
-use Rattle.machine_step.specs.Step.{Config, config, Outcome, next, jump, end, fault, step}
-use Rattle.records.specs.Checked.{onChecked}
 
 -- whether an instruction is LAB with a label
 abbrev pub isLab : ℕ → Code → Bool

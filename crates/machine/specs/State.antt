@@ -1,5 +1,5 @@
--- The machine's state, the one at entry, and the one that orders start from. From the scope: 'A stack of 320 words, all zero at entry', 'STACK enters at 2^40−8', and
--- 'The first state follows the 16 records before the body of a 0-argument routine, entered with 65,536 in register 7 and zero in the others but STACK'.
+-- The machine's state, the one at entry, and the one that orders start from. From the scope, 'Machine': a stack of 320 words, all zero at entry, STACK enters at 2^40−8; and
+-- 'Order record': the first state follows the 16 records before the body of a 0-argument routine, entered with 65,536 in register 7 and zero in the others but STACK.
 use Prim.Native.Nat.{ℕ, zero, suc, _+_}
 use mathlib.Core.List.{List, [], _∷_}
 use lib.ListN.{replicate}

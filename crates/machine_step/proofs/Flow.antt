@@ -12,9 +12,9 @@ use Rattle.machine_step.specs.declared.memory.Fetched.the-variants.{Word
 use Rattle.machine_step.specs.declared.instruction.Compared.{Compared}
 use Rattle.machine_step.specs.declared.instruction.Compared.the-variants.{Absent, Of}
 use Rattle.machine_step.specs.View.{View, putReg}
-use Rattle.word.specs.Words.{sum, difference, product, divides, less}
 use Rattle.machine_step.specs.Memory.{Operand, register, memory, immediate, load, store, valueOf, assigned}
 use Rattle.machine_step.specs.Step.{Config, Outcome, next, jump, end, fault, dropped, onWord, onState, onPair, calculate, move, compare, divide, branch, push, pop, isPrintName, call, return, step}
+use Rattle.word.specs.Words.{sum, difference, product, divides, less}
 
 pub data Flow : Type 0 where
   plain : Flow

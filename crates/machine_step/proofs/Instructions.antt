@@ -14,11 +14,11 @@ use Rattle.machine_step.specs.declared.instruction.Went.{Went}
 use Rattle.machine_step.specs.declared.instruction.Went.the-variants.{Next, Called, Jump, End, Fault}
 use Rattle.machine_step.specs.declared.instruction.Moved.{Moved}
 use Rattle.machine_step.specs.View.{view, fromEnd, wordsOf, upd, putReg}
-use Rattle.word.specs.Words.{sum, difference, signs, quotient, remainder, divides}
 use Rattle.machine_step.specs.Memory.{Operand, valueOf, assigned, wordIn, placeOf, store}
 use Rattle.machine_step.specs.Step.{Config, config, Outcome, next, jump, fault, changed, dropped, calculate, move, compare, divide, branch, push, pop, isPrintName, afterPrint, call, return}
 use Rattle.machine_step.specs.Forms.{Wrote, holdsOf, comparedOf, Sized, Acts}
 use Rattle.machine_step.proofs.Seeing.{words-set, view-reg}
+use Rattle.word.specs.Words.{sum, difference, signs, quotient, remainder, divides}
 
 abbrev went : Went → Moved
 went w = record { went = w; pair = record { made = 0; x = 0; y = 0 } }

@@ -1,5 +1,5 @@
 -- Where an address lies, what is read and written there, and the operands of instructions.
--- From the scope: 'A stack of 320 words ends at 2^40', 'The lent heap is .. blocks from address 65,536', 'Fault too: an address outside or unaligned'.
+-- From the scope, 'Machine': a stack that ends at 2^40, a lent heap from address 65,536, and a fault for an address outside or unaligned.
 use Prim.Native.Nat.{ℕ, _-_, _/_, _%_}
 use mathlib.Core.Bool.{Bool, _&&_, cond}
 use mathlib.Core.Option.{Option, none, some}

@@ -7,6 +7,7 @@ use mathlib.Core.Option.{Option, none, some}
 use lib.Dec.{eqb}
 use Rattle.records.specs.declared.code.Code.{Code}
 use Rattle.records.specs.declared.code.Code.the-variants.{ADD, ADDRM, ADDMR, ADDI, ADDIM, SUB, SUBRM, SUBMR, SUBI, IMUL, IMULRM, IMULMR, IDIV, IDIVM, CQO, JMP, JMPL, JMPLN, LEAL, MOV, MOVS, MOVL, MOVI, MOVIM, CMP, CMPRM, CMPMR, CMPI, CMPIM, JEL, JNEL, JLL, JLEL, JGL, JGEL, PUSH, POP, CALL, RET, LAB, NOEXECSTACK, TEXT, GLOBAL, EXTERN}
+use Rattle.records.specs.Names.{PRINTI64, PRINTLNI64}
 use Rattle.machine_step.specs.declared.memory.Fetched.{Fetched}
 use Rattle.machine_step.specs.declared.memory.Fetched.the-variants.{Word, Nothing}
 use Rattle.machine_step.specs.declared.instruction.Compared.{Compared}
@@ -14,9 +15,8 @@ use Rattle.machine_step.specs.declared.instruction.Compared.the-variants
 use Rattle.machine_step.specs.declared.instruction.Went.{Went}
 use Rattle.machine_step.specs.declared.instruction.Went.the-variants.{Next, Called, Jump, End, Fault}
 use Rattle.machine_step.specs.View.{View, upd, putReg}
-use Rattle.word.specs.Words.{sum, difference, product, signs, quotient, remainder, divides, less}
 use Rattle.machine_step.specs.Memory.{stackEntry, Operand, register, memory, immediate, load, store, valueOf, assigned}
-use Rattle.records.specs.Names.{PRINTI64, PRINTLNI64}
+use Rattle.word.specs.Words.{sum, difference, product, signs, quotient, remainder, divides, less}
 
 -- a call that was made: the name's number, and what register 7 held
 pub record Call : Type 0 where

@@ -1,5 +1,5 @@
 -- A state and a heap as functions from a number to a word, and what changes one word of them.
--- From the scope: 'The machine's state holds 16 registers and the stack', beside 'the lent heap'.
+-- From the scope, 'Machine': the state holds 16 registers and the stack, beside the lent heap.
 use Prim.Native.Nat.{ℕ, suc, _-_}
 use mathlib.Core.Bool.{cond}
 use mathlib.Core.List.{List}

@@ -5,6 +5,7 @@ use mathlib.Core.List.{List, []}
 use lib.Dec.{ltb, eqb}
 use Rattle.records.specs.declared.code.Code.{Code}
 use Rattle.records.specs.Contexts.{checkedContext, onContext, bindingsIn}
+use Rattle.records.specs.Names.{mostCount}
 use Rattle.emit.specs.declared.answer.Answer.{Answer}
 use Rattle.emit.specs.declared.answer.Answer.the-variants.{Context, Operand, Missing, Count, Position, Edition}
 use Rattle.emit.specs.Answers.{unframed, granted}
@@ -14,7 +15,6 @@ use Rattle.layout.specs.Positions.{operandOk}
 use Rattle.trees.specs.Tree.{Tree, labels, size, flat}
 use Rattle.memory.specs.Blocks.{eraseBlock, shareBlock}
 use Rattle.memory.specs.Objects.{extIn, storeObject}
-use Rattle.records.specs.Names.{mostCount}
 
 -- a tree's records, where nothing but labels or room can refuse
 abbrev pub treeAnswer : ℕ → ℕ → Tree → Answer

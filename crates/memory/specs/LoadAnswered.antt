@@ -1,4 +1,4 @@
--- What a load answers. From the scope, 'Causes and numbers', in rising order, and the scope, 'Job 2': the existing context wholly before the variables to load, whose places
+-- What a load answers. From the scope, 'Causes and numbers', in rising order, and 'Job 2': the existing context wholly before the variables to load, whose places
 -- count on, as in an order; a load of none writes no records after any length.
 use Prim.Native.Nat.{ℕ, _+_, _*_, _-_}
 use mathlib.Core.Bool.{Bool, true, cond}

@@ -11,12 +11,14 @@ use lib.Dec.{ltb}
 use lib.ListN.{length, replicate, length-append}
 use borrow.Author.Tests.{ltb-true, ltb-false}
 use Rattle.records.specs.declared.code.Code.the-variants.{MOVL}
+use Rattle.records.specs.Names.{mostCount}
 use Rattle.trees.specs.Tree.{leaf, seq}
 use Rattle.layout.specs.declared.config.Shape.{Shape}
 use Rattle.layout.specs.Config.{operands, positions, stackOffset}
 use Rattle.layout.specs.Positions.{location}
 use Rattle.machine_step.specs.Step.{Config}
 use Rattle.memory.specs.Blocks.{eraseRegister, eraseBlock, shareBlock}
+use Rattle.memory.specs.Objects.{objectSizes}
 use Rattle.heap.specs.Blocks.{Cell, pointers}
 use Rattle.heap.specs.Counting.{occ}
 use Rattle.heap.proofs.CountingLemmas.{same-self, split, occ-pointers, pointers-length}
@@ -36,9 +38,7 @@ use Rattle.memory_proof.proofs.Erasing.{Pointer, erase-does}
 use Rattle.memory_proof.proofs.ReachedBlocks.{reachable-block}
 use Rattle.memory_proof.proofs.Sharing.{Shareable, share-at}
 use Rattle.memory_proof.proofs.Shown.{L, SameFields, heapOf, memory-is}
-use Rattle.memory.specs.Objects.{objectSizes}
 use Rattle.memory_proof.proofs.Variables.{variable, variables, variables-append, variables-snoc, variables-length, variables-pointers, variables-kept}
-use Rattle.records.specs.Names.{mostCount}
 
 -- an integer is dropped without code
 pub drop-integer : (G : Shape) (ext : ℕ → Bool) (s : Config) (e : ℕ) → ext e ≡ true → Performs (objectSizes G) (L G) (heapOf G s) drop (variables ext s 0 e ++ (variable ext s e ∷ [])) (heapOf G s) (variables ext s 0 e)

@@ -15,6 +15,7 @@ use Rattle.trees.specs.Tree.{Tree, nop, leaf, seq}
 use Rattle.layout.specs.declared.config.Shape.{Shape}
 use Rattle.layout.specs.Config.{blockWords, linkWord, positions, fstOffset, stackOffset}
 use Rattle.layout.specs.Positions.{location}
+use Rattle.layout.specs.Frame.{stackWord}
 use Rattle.machine_step.specs.Step.{Config}
 use Rattle.machine_step.specs.View.{upd}
 use Rattle.memory.specs.Objects.{loadLink, capacity, restore, loadValues, loadBody, loadBlock}
@@ -22,7 +23,6 @@ use Rattle.heap.specs.Blocks.{pointers}
 use Rattle.heap.proofs.WordLemmas.{cells-agree}
 use Rattle.heap.specs.Words.{wordAt}
 use Rattle.layout_proof.specs.Held.{held, Keeps, Placed}
-use Rattle.layout.specs.Frame.{stackWord}
 use Rattle.layout_proof.proofs.Operands.{withRegister, withSpill, withHeap, blockAddress}
 use Rattle.layout_proof.proofs.HeldLemmas.{upd-other, held-register, register-other, register-same, spill-other, spill-same, keeps-refl, keeps-trans, keeps-sub, keeps-put, keeps-register, placed-keeps, in-frame, location-low, location-high, location-fits, location-apart, location-free, position-low, position-high}
 use Rattle.layout_proof.proofs.RecordLemmas.{register-MOV, block-MOVS, spill-MOVL, spill-MOVS}

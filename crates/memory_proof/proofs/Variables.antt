@@ -6,11 +6,11 @@ use Prim.Native.Nat.{ℕ, zero, suc, _+_, _*_, _≤_, _<_}
 use native.Mathlib.Omega.{arith}
 use lib.ListN.{length}
 use Rattle.layout.specs.Positions.{location}
+use Rattle.layout.specs.Frame.{variableIn, variablesIn}
 use Rattle.machine_step.specs.Step.{Config}
 use Rattle.heap.specs.Blocks.{Cell, pointers}
 use Rattle.heap.proofs.CountingLemmas.{pointers-length}
 use Rattle.layout_proof.specs.Held.{held, Keeps}
-use Rattle.layout.specs.Frame.{variableIn, variablesIn}
 
 module _ (ext : ℕ → Bool) where
   abbrev pub variable : Config → ℕ → Cell

@@ -8,6 +8,7 @@ use lib.Dec.{ltb, leb}
 use lib.ListN.{length}
 use borrow.Author.Tests.{ltb-true, leb-true}
 use Rattle.records.proofs.Conditions.{and-left, and-right}
+use Rattle.records.specs.Names.{lastLabel}
 use Rattle.trees.specs.Tree.{Tree, labels, size, flat}
 use Rattle.trees.proofs.Flat.{length-flat}
 use Rattle.emit.specs.declared.cursor.Cursor.{Cursor}
@@ -15,7 +16,6 @@ use Rattle.emit.specs.declared.answer.Answer.the-variants.{Written}
 use Rattle.emit.specs.Emitted.{Emits}
 use Rattle.emit.specs.Answers.{granted, Answers}
 use Rattle.emit.proofs.Wrote.{answers, written-whole, granted-all}
-use Rattle.records.specs.Names.{lastLabel}
 
 pub at-once : {o o′ : List ℕ} {p q : Cursor} (t : Tree) (counter : ℕ) → Emits o p o′ q t → p .at ≡ 0 → p .counter ≡ counter
     → counter + labels t ≤ lastLabel → 24 * size t ≤ length o

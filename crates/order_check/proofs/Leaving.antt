@@ -12,8 +12,8 @@ use Rattle.records.specs.declared.order.Calculation.{Calculation}
 use Rattle.records.specs.declared.order.Order.{Order}
 use Rattle.records.specs.declared.order.Order.the-variants.{Put, Compute, Copy, Drop, Store, Load, Print}
 use Rattle.records.proofs.Storing.{sets-then}
-use Rattle.order_spec.specs.Writes.{made, madeAll, kindAt, contextAfter}
 use Rattle.records.specs.Orders.{wanted}
+use Rattle.order_spec.specs.Writes.{made, madeAll, kindAt, contextAfter}
 use Rattle.order_check.specs.After.{countAfter}
 use Rattle.order_check.proofs.Making.{binding-long, made-long}
 

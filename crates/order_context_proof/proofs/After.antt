@@ -13,12 +13,12 @@ use Rattle.records.specs.declared.binding.Kind.the-variants.{Linked, Ext}
 use Rattle.records.specs.declared.order.Order.{Order}
 use Rattle.records.specs.declared.order.Order.the-variants.{Put, Compute, Copy, Drop, Store, Load, Print}
 use Rattle.records.specs.Contexts.{checkedContext, extAt}
+use Rattle.records.specs.Orders.{wanted}
 use Rattle.heap.specs.Values.{Value, integer, object, Values, nil, cons, countOf, appended, firstOf, restOf, valueAt, copies, KindsFrom}
 use Rattle.heap.specs.Orders.{listOf}
 use Rattle.order_spec.specs.Writes.{made, madeAll, kindAt, contextAfter, present, asked}
-use Rattle.records.specs.Orders.{wanted}
-use Rattle.word.specs.Results.{result}
 use Rattle.order_spec.specs.Plain.{integerOf, plainly, AsStored, OwedKinds}
+use Rattle.word.specs.Results.{result}
 use Rattle.order_context_proof.proofs.Bindings.{good-length, good-append, good-take, good-made, good-made-all}
 use Rattle.order_context_proof.proofs.KindsAfter.{ext-left, ext-right, ext-take, isExt, ext-made, ext-made-all, kind-at}
 use Rattle.order_context_proof.proofs.ValueKinds.{count-joined, count-first, count-copies, isInteger, kinds-at, kinds-joined, kinds-first, kinds-copies, kinds-cons, kinds-moved}

@@ -10,6 +10,7 @@ use Rattle.records.specs.declared.code.Code.{Code}
 use Rattle.records.specs.ReadBack.{Each, WellFormedCode, joined, codeBytes}
 use Rattle.records.proofs.CodesBack.{code-laws}
 use Rattle.records.proofs.ReadBack.{records-read-back}
+use Rattle.records.specs.Names.{lastLabel}
 use Rattle.trees.specs.Tree.{Tree, labels, size, flat}
 use Rattle.trees.proofs.Flat.{length-flat}
 use Rattle.machine_step.specs.View.{View}
@@ -17,7 +18,6 @@ use Rattle.machine_step.specs.Memory.{heapOk}
 use Rattle.machine.specs.Run.{codesOf, started, ran}
 use Rattle.order_formed_proof.proofs.Formed.{Formed}
 use Rattle.order_formed_proof.proofs.Records.{formed-records}
-use Rattle.records.specs.Names.{lastLabel}
 
 -- the instructions of the bytes of a list are the list
 pub codes-back : (xs : List Code) → Each WellFormedCode xs → codesOf (length xs) (joined codeBytes xs) ≡ xs

@@ -10,10 +10,10 @@ use Rattle.records.specs.Codes.{fieldsOf}
 use Rattle.records.specs.Instructions.{labelHeld, labelOk}
 use Rattle.records.specs.ReadBack.{WellFormedCode}
 use Rattle.records.proofs.CodesBack.{labelled, ok-fields}
+use Rattle.records.specs.Names.{firstUnnamed}
 use Rattle.code.specs.declared.emitters.Condition.{Condition}
 use Rattle.code.specs.declared.emitters.Condition.the-variants.{Equal, NotEqual, Less, LessOrEqual, Greater, GreaterOrEqual}
 use Rattle.code.specs.Code.{jumpIf}
-use Rattle.records.specs.Names.{firstUnnamed}
 
 -- a label that a record may hold
 pub record Held (l : ℕ) : Type 0 where

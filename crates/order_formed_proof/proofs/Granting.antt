@@ -11,6 +11,7 @@ use Rattle.records.specs.declared.context.ContextRead.the-variants as checked
 use Rattle.records.specs.Contexts.{checkedContext, countedOn, onContext}
 use Rattle.records.proofs.Conditions.{never, chosen, passed}
 use Rattle.records.proofs.ContextsRead.{counted-good}
+use Rattle.records.specs.Names.{lastLabel, mostCount}
 use Rattle.trees.specs.Tree.{Tree, labels}
 use Rattle.layout.specs.declared.config.Shape.{Shape}
 use Rattle.layout.specs.Config.{Supported, positions}
@@ -22,7 +23,6 @@ use Rattle.memory.specs.Answered.{treeAnswer, eraseAnswer, shareAnswer, storeTr
 use Rattle.memory.specs.Blocks.{eraseBlock, shareBlock}
 use Rattle.memory.specs.LoadAnswered.{loadFits, loadAnswer}
 use Rattle.memory.specs.Objects.{extIn, loadObject}
-use Rattle.records.specs.Names.{lastLabel, mostCount}
 
 on-good : (c : ContextRead) (f : ℕ → Answer) → accepted (onContext c f Context) ≡ true → (k : ℕ) × (c ≡ checked.Good k) × (accepted (f k) ≡ true)
 on-good (checked.Good k) f e = (k, refl, e)

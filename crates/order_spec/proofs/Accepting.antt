@@ -3,7 +3,6 @@ use Prim.Native.Nat.{ℕ, _+_, _*_, _/_, _≤_}
 use mathlib.Core.Path.{_≡_, refl, sym, ap, _∙_}
 use mathlib.Core.Bool.{Bool, true, false, cond}
 use mathlib.Core.List.{List}
-use native.Mathlib.Omega.{arith}
 use lib.Dec.{ltb, leb, eqb}
 use lib.ListN.{length}
 use borrow.Author.Tests.{eqb-true, ltb-false, leb-true}
@@ -11,8 +10,9 @@ use Rattle.records.specs.declared.context.ContextRead.{ContextRead}
 use Rattle.records.specs.declared.context.ContextRead.the-variants as checked
 use Rattle.records.specs.Contexts.{checkedContext, countedOn, onContext}
 use Rattle.records.specs.Orders.{orderStarts, wanted}
-use Rattle.records.proofs.Conditions.{chosen, passed}
+use Rattle.records.proofs.Conditions.{chosen, passed, never}
 use Rattle.records.proofs.ContextsRead.{counted-good}
+use Rattle.records.specs.Names.{lastLabel}
 use Rattle.trees.specs.Tree.{Tree, labels, size}
 use Rattle.layout.specs.declared.config.Shape.{Shape}
 use Rattle.layout.specs.Config.{positions}
@@ -20,7 +20,6 @@ use Rattle.order_spec.specs.declared.answer.OrderAnswer.{OrderAnswer}
 use Rattle.order_spec.specs.declared.answer.OrderAnswer.the-variants.{Accepted, Context, Malformed, Frame, Missing, Kind, Count, Position, Labels, Room}
 use Rattle.order_spec.specs.Writes.{countOk, treeOf, contextAfter, present, kindsOk, asked}
 use Rattle.order_spec.specs.Answered.{Asked, orderAccepted, orderIs, fitting, orderGranted, decided, answerTo, unframedOrder}
-use Rattle.records.specs.Names.{lastLabel}
 
 -- the answer to an accepted order of records t and the context after them
 abbrev pub acceptance : Asked → Tree → List ℕ → OrderAnswer
@@ -41,7 +40,7 @@ pub record Taken (G : Shape) (context : List ℕ) (q : Asked) (k : ℕ) : Type 0
 
 on-good : (c : ContextRead) (f : ℕ → OrderAnswer) → orderAccepted (onContext c f Context) ≡ true → (k : ℕ) × (c ≡ checked.Good k) × (orderAccepted (f k) ≡ true)
 on-good (checked.Good k) f e = (k, refl, e)
-on-good (checked.Bad flaw) f e = let z : _≡_ {A = ℕ} 0 1 = cc in absurd (omega arith)
+on-good (checked.Bad flaw) f e = never e
 
 -- what an accepted answer says of 9 and 10
 module _ (counter room contextRoom n drawn after : ℕ) where

@@ -1,16 +1,17 @@
--- What an order is answered with, on every input. From the scope, 'Causes and numbers', in rising order, and the scope, 'Job 2': 15 to 17, for the context and then for
+-- What an order is answered with, on every input. From the scope, 'Causes and numbers', in rising order, and 'Job 2': 15 to 17, for the context and then for
 -- the bindings, come before 2.
 use Prim.Native.Nat.{ℕ, _+_, _*_, _/_}
 use mathlib.Core.Bool.{Bool, true, false, cond}
 use mathlib.Core.List.{List, [], _∷_}
 use lib.Dec.{ltb, leb, eqb}
-use lib.ListN.{length, getD}
+use lib.ListN.{length}
 use lib.Seq.{sets}
 use Rattle.records.specs.Causes.{ACCEPTED, MALFORMED, OPERAND, MISSING, KIND, COUNT, POSITION, LABELS, ROOM, EDITION}
 use Rattle.records.specs.declared.order.Order.{Order}
 use Rattle.records.specs.Contexts.{checkedContext, countedOn, flawCause, onContext, bindingsIn}
 use Rattle.records.specs.Orders.{orderOf, orderIn, orderStarts, wanted}
 use Rattle.records.specs.ReadBack.{joined, codeBytes}
+use Rattle.records.specs.Names.{lastLabel}
 use Rattle.trees.specs.Tree.{Tree, labels, size, flat}
 use Rattle.layout.specs.declared.config.Shape.{Shape}
 use Rattle.layout.specs.declared.config.Shaped.{Shaped}
@@ -18,7 +19,6 @@ use Rattle.layout.specs.Config.{inShape, positions}
 use Rattle.order_spec.specs.declared.answer.OrderAnswer.{OrderAnswer}
 use Rattle.order_spec.specs.declared.answer.OrderAnswer.the-variants.{Accepted, Context, Malformed, Frame, Missing, Kind, Count, Position, Labels, Room, Edition}
 use Rattle.order_spec.specs.Writes.{countOk, treeOf, contextAfter, present, kindsOk, asked}
-use Rattle.records.specs.Names.{lastLabel}
 
 -- the scope's number and values for each answer: 0, with the records, the bindings and the counter after them, where the order is accepted
 abbrev pub orderAnswerCause : OrderAnswer → List ℕ

@@ -10,13 +10,13 @@ use Rattle.records.specs.declared.binding.Kind.the-variants.{Linked, Ext}
 use Rattle.records.specs.declared.order.Order.{Order}
 use Rattle.records.specs.declared.order.Order.the-variants.{Put, Compute, Copy, Drop, Store, Load, Print}
 use Rattle.records.specs.Contexts.{bindingBytes, extAt}
+use Rattle.records.specs.Names.{mostCount}
 use Rattle.trees.specs.Tree.{Tree, nop, seq}
 use Rattle.layout.specs.declared.config.Shape.{Shape}
 use Rattle.code.specs.Code.{loadImmediate, movTree, arithmetic}
 use Rattle.memory.specs.Blocks.{eraseBlock, shareBlock}
 use Rattle.memory.specs.Objects.{fst, snd, extIn, storeObject, loadObject}
 use Rattle.print_i64.specs.Print.{printI64}
-use Rattle.records.specs.Names.{mostCount}
 
 -- the bytes of a made variable's binding
 abbrev pub made : Kind → ℕ → List ℕ

@@ -18,16 +18,16 @@ use Rattle.plan_line.specs.declared.wrong.Wrong.{Wrong}
 use Rattle.plan_line.specs.declared.words.Sought.the-variants.{Byte}
 use Rattle.plan_line.specs.declared.orders.Line.{Line}
 use Rattle.plan_line.specs.declared.orders.Line.the-variants.{Empty, Asks, Faulty}
+use Rattle.plan_line.specs.Words.{soughtIn, before, found, part, parts, wordsIn, linesOf}
+use Rattle.plan_line.specs.Orders.{Words, lineOf}
+use Rattle.plan_line.proofs.Searching.{drop-past, take-before, part-found, drop-found, parts-first, rest}
 use Rattle.plan.specs.declared.lines.Step.{Step}
 use Rattle.plan.specs.declared.lines.Step.the-variants.{Next, Stop}
 use Rattle.plan.specs.declared.lines.Laid.{Laid}
 use Rattle.plan.specs.declared.lines.Laid.the-variants.{Whole, BadLine}
 use Rattle.plan.specs.declared.Planned.the-variants.{Written, Bad, Room, Long}
-use Rattle.plan_line.specs.Words.{soughtIn, before, found, part, parts, wordsIn, linesOf}
-use Rattle.plan_line.specs.Orders.{Words, lineOf}
 use Rattle.plan.specs.Plan.{Plan, records, bad, ontoPlan, withLine, planRecords, lineWords, planFrom, planOf, longestPlan, planAnswer, planBytes, planned, plannedBytes}
 use Rattle.plan.specs.Steps.{mostLine, PutsLine, Stepped, next, stop, PutsPlan, LaidOut, laid, bad-line}
-use Rattle.plan_line.proofs.Searching.{drop-past, take-before, part-found, drop-found, parts-first, rest}
 use Rattle.plan.proofs.Putting.{append-nil}
 
 -- what stands before a comment

@@ -14,10 +14,10 @@ use Rattle.text.specs.Text.{ascii}
 use Rattle.plan_line.specs.declared.wrong.Wrong.{Wrong}
 use Rattle.plan_line.specs.declared.orders.Line.{Line}
 use Rattle.plan_line.specs.declared.orders.Line.the-variants.{Empty, Asks, Faulty}
-use Rattle.plan.specs.declared.Planned.{Planned}
-use Rattle.plan.specs.declared.Planned.the-variants.{Written, Bad, Room, Long}
 use Rattle.plan_line.specs.Words.{sameBytes, linesOf, uncommented, wordsIn}
 use Rattle.plan_line.specs.Orders.{Words, lineOf}
+use Rattle.plan.specs.declared.Planned.{Planned}
+use Rattle.plan.specs.declared.Planned.the-variants.{Written, Bad, Room, Long}
 
 -- e is an integer, l is linked
 unfoldable pub kindOfWord : List ℕ → Kind

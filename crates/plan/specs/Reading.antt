@@ -5,7 +5,6 @@ use mathlib.Core.List.{List, [], _∷_}
 use lib.ListN.{take, drop}
 use Rattle.records.specs.declared.context.ContextRead.the-variants.{Good}
 use Rattle.records.specs.declared.order.Order.{Order}
-use Rattle.records.specs.declared.order.Order.the-variants.{Put, Compute, Copy, Drop, Store, Load, Print}
 use Rattle.records.specs.declared.order.OrderRead.the-variants.{Whole}
 use Rattle.records.specs.Contexts.{checkedContext}
 use Rattle.records.specs.Orders.{orderRead, wanted}

@@ -4,13 +4,13 @@ use mathlib.Core.Path.{_≡_}
 use mathlib.Core.List.{List, []}
 use Rattle.text.specs.Putting.{Puts}
 use Rattle.plan_line.specs.declared.wrong.Wrong.{Wrong}
+use Rattle.plan_line.specs.declared.orders.Line.{Line}
+use Rattle.plan_line.specs.declared.orders.Line.the-variants.{Empty, Asks, Faulty}
+use Rattle.plan_line.specs.Orders.{Words, lineOf}
 use Rattle.plan.specs.declared.lines.Step.{Step}
 use Rattle.plan.specs.declared.lines.Step.the-variants.{Next, Stop}
 use Rattle.plan.specs.declared.lines.Laid.{Laid}
 use Rattle.plan.specs.declared.lines.Laid.the-variants.{Whole, BadLine}
-use Rattle.plan_line.specs.declared.orders.Line.{Line}
-use Rattle.plan_line.specs.declared.orders.Line.the-variants.{Empty, Asks, Faulty}
-use Rattle.plan_line.specs.Orders.{Words, lineOf}
 use Rattle.plan.specs.Plan.{Plan, records, bad, planRecords, planBytes, planOf}
 
 -- a bound on an order's records: its own and 2^32 bindings

@@ -14,9 +14,9 @@ use Rattle.layout.specs.declared.config.Shaped.the-variants.{In, NoFrame, NoEdi
 use Rattle.layout.specs.declared.config.Shape.{Shape}
 use Rattle.layout.specs.Config.{stackDepth, blockWords}
 use Rattle.machine.specs.declared.run.RunAnswer.{RunAnswer}
+use Rattle.machine.specs.Run.{ran, Leaves}
 use Rattle.machine_step.specs.View.{View}
 use Rattle.machine_step.specs.Memory.{heapOk}
-use Rattle.machine.specs.Run.{ran, Leaves}
 use Rattle.port_numbers.specs.Run.{runNumbers}
 use Rattle.port.specs.Run.{startState, StartsRun, unrun, Gives}
 

@@ -14,6 +14,7 @@ use Rattle.records.specs.Contexts.{checkedContext, countedOn, bindingsIn, onCon
 use Rattle.records.specs.Orders.{orderStarts, wanted}
 use Rattle.records.proofs.Conditions.{never}
 use Rattle.records.proofs.ContextsRead.{counted-good, context-long}
+use Rattle.records.specs.Names.{lastLabel}
 use Rattle.trees.specs.Tree.{Tree, labels, size}
 use Rattle.layout.specs.declared.config.Shape.{Shape}
 use Rattle.layout.specs.Config.{Supported, positions, mostVariables}
@@ -25,7 +26,6 @@ use Rattle.order_spec.proofs.Accepting.{all-passed, all-judged}
 use Rattle.order_check.proofs.Leaving.{after-long}
 use Rattle.port_rooms_proof.specs.Sizes.{roomForRecords, roomForContext}
 use Rattle.port_rooms_proof.proofs.OrderSizes.{order-most, few-left}
-use Rattle.records.specs.Names.{lastLabel}
 
 -- before 9
 early : OrderAnswer → Bool

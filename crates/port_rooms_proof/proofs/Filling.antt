@@ -18,6 +18,7 @@ use Rattle.records.specs.Orders.{orderOf, orderReaders, orderOk, orderOperandsO
 use Rattle.records.specs.ReadBack.{Each, WellFormedBinding, WellFormedOrder}
 use Rattle.records.proofs.OrdersBack.{order-laws}
 use Rattle.records.proofs.ReadBack.{records-read-back}
+use Rattle.records.proofs.ContextsRead.{context-long}
 use Rattle.trees.specs.Tree.{labels}
 use Rattle.layout.specs.declared.config.Shape.{Shape}
 use Rattle.layout.specs.Config.{Supported, frameOf, editionOf, shapeOf, positions, mostVariables}
@@ -28,7 +29,6 @@ use Rattle.order_spec.specs.declared.answer.OrderAnswer.the-variants.{Room}
 use Rattle.order_spec.specs.Writes.{countOk, treeOf, contextAfter, present, kindsOk, asked}
 use Rattle.order_spec.specs.Answered.{Asked, orderIs, orderGranted, answerTo}
 use Rattle.order_spec.proofs.Accepting.{all-passed, all-judged}
-use Rattle.records.proofs.ContextsRead.{context-long}
 use Rattle.order_check.proofs.Leaving.{after-long}
 use Rattle.port_rooms_proof.specs.Sizes.{variables, storeOfAll, roomForRecords, roomForContext}
 use Rattle.port_rooms_proof.specs.Claims.{askedWith, RoomsByShape, OrdersFill}

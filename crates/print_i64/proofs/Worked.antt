@@ -3,10 +3,10 @@ use mathlib.Core.Path.{_≡_, refl}
 use mathlib.Core.Bool.{true, false}
 use mathlib.Core.List.{[], _∷_}
 use Rattle.records.specs.declared.code.Code.the-variants.{ADDI, SUBI, MOV, MOVL, PUSH, POP, CALL}
+use Rattle.records.specs.Names.{PRINTI64, PRINTLNI64}
 use Rattle.trees.specs.Tree.{size, flat}
 use Rattle.layout.specs.Config.{base, stackOffset}
 use Rattle.print_i64.specs.Print.{printI64}
-use Rattle.records.specs.Names.{PRINTI64, PRINTLNI64}
 
 -- 'print, one Ext: 6 records; six Ext: 12'
 one-integer : flat (printI64 base false 5 (λ v. true) 1) 0

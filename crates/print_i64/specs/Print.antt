@@ -11,6 +11,7 @@ use Rattle.records.specs.declared.context.ContextRead.the-variants.{Good, Bad}
 use Rattle.records.specs.declared.code.Code.{Code}
 use Rattle.records.specs.declared.code.Code.the-variants.{ADDI, SUBI, MOV, MOVL, PUSH, POP, CALL}
 use Rattle.records.specs.Contexts.{checkedContext, extAt}
+use Rattle.records.specs.Names.{PRINTI64, PRINTLNI64}
 use Rattle.trees.specs.Tree.{Tree, straight, nop, leaf, seq, size, flat}
 use Rattle.emit.specs.declared.answer.Answer.{Answer}
 use Rattle.emit.specs.declared.answer.Answer.the-variants.{Context, Operand}
@@ -19,7 +20,6 @@ use Rattle.layout.specs.declared.config.Shape.{Shape}
 use Rattle.layout.specs.Config.{STACK, TEMP, stackOffset, inFrame, registerFor}
 use Rattle.layout.specs.Positions.{operandOk}
 use Rattle.print_i64.specs.Registers.{registersToSave, firstBackup, backupsUsed}
-use Rattle.records.specs.Names.{PRINTI64, PRINTLNI64}
 
 -- each register into the next free one, from f on
 abbrev pub moves : ℕ → List ℕ → Tree

@@ -1,5 +1,5 @@
 -- Which registers a print call may change, as a list and as a set, and where they are kept meanwhile.
--- From the scope: '`print_i64` saves registers 4..11 of the first four variables, an Ext's Snd alone, in free registers 12..15, then by pushes', and
+-- From the scope, 'Operations': print_i64 saves registers 4..11 of the first four variables, an Ext's Snd alone, in free registers 12..15, then by pushes; and
 -- code.rs, caller_save_registers_info and save_caller_save_registers.
 use Prim.Native.Nat.{ℕ, zero, suc, _+_, _*_, _-_, _/_, _%_, _^_, min, max}
 use mathlib.Core.Bool.{Bool, cond}

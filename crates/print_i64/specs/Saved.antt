@@ -1,12 +1,11 @@
 -- Registers saved and restored as lists of records, register by register of a set.
-use Prim.Native.Nat.{ℕ, zero, suc, _+_, _-_}
+use Prim.Native.Nat.{ℕ, zero, suc, _+_}
 use mathlib.Core.Bool.{Bool, cond}
 use mathlib.Core.List.{List, [], _∷_, _++_}
 use lib.Dec.{leb, ltb}
-use lib.ListN.{length}
 use Rattle.records.specs.declared.code.Code.{Code}
 use Rattle.records.specs.declared.code.Code.the-variants.{MOV, PUSH, POP}
-use Rattle.print_i64.specs.Registers.{bit, members}
+use Rattle.print_i64.specs.Registers.{bit}
 
 -- register r to the free register f, or back
 abbrev pub near : Bool → ℕ → ℕ → List Code

@@ -16,6 +16,7 @@ use Rattle.trees.specs.Tree.{nop, leaf, seq}
 use Rattle.layout.specs.declared.config.Shape.{Shape}
 use Rattle.layout.specs.Config.{Supported, STACK, TEMP, operands, positions, framePointer, stackOffset}
 use Rattle.layout.specs.Positions.{location}
+use Rattle.layout.specs.Frame.{stackWord}
 use Rattle.word.specs.Words.{choose}
 use Rattle.print_i64.specs.Registers.{registersToSave, firstBackup, backupsUsed}
 use Rattle.print_i64.proofs.Sizes.{registers-most}
@@ -23,7 +24,6 @@ use Rattle.print_i64.specs.Print.{saveRegisters, restoreRegisters, printName, p
 use Rattle.machine_step.specs.View.{View}
 use Rattle.machine_step.specs.Step.{Call, Config}
 use Rattle.layout_proof.specs.Held.{held, PlacedAt, Placed}
-use Rattle.layout.specs.Frame.{stackWord}
 use Rattle.layout_proof.proofs.Operands.{withRegister}
 use Rattle.layout_proof.proofs.HeldLemmas.{upd-other, held-register, held-spill, location-low, location-high, location-fits}
 use Rattle.layout_proof.proofs.RecordLemmas.{spill-MOVL}

@@ -1,5 +1,5 @@
--- What the crate promises of print_i64, from the scope: '`print_i64` has its source in register 7 at the CALL and keeps all variables, if the source is a position
--- of its context', with STACK where the routine's setup leaves it. Variable v has its Fst at position 2v and its Snd at 2v+1; an integer's Fst is no part of it.
+-- What the crate promises of print_i64, from the scope, 'Operations': it has its source in register 7 at the CALL and keeps all variables, if the source is a position
+-- of its context, with STACK where the routine's setup leaves it. Variable v has its Fst at position 2v and its Snd at 2v+1; an integer's Fst is no part of it.
 -- A call is told by its name and by the word in register 7; the nine words that a print leaves in registers 1 and 4..11 are any.
 use Prim.Native.Nat.{ℕ, _+_, _*_, _≤_, _<_}
 use mathlib.Core.Path.{_≡_}

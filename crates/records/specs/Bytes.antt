@@ -1,4 +1,4 @@
--- Numbers as bytes, lowest first, and bytes stored in an output. From the scope: 'Fields are little-endian'.
+-- Numbers as bytes, lowest first, and bytes stored in an output. As the scope has all fields: little-endian.
 use Prim.Native.Nat.{ℕ, zero, suc, _+_, _*_, _/_, _%_}
 use mathlib.Core.Bool.{cond}
 use mathlib.Core.List.{List, [], _∷_}

@@ -1,4 +1,4 @@
--- The causes of a refusal and their numbers, from the scope, 'Causes and numbers', and the scope. The one table of them: what gives an answer's number and values cites it.
+-- The causes of a refusal and their numbers, from the scope, 'Causes and numbers'. The one table of them: what gives an answer's number and values cites it.
 -- Checked in rising order, but for 23, which comes first, and 15 to 17, which come next.
 use Prim.Native.Nat.{ℕ}
 

@@ -1,5 +1,5 @@
 -- The first bad or surplus record of a list of bytes, for records of any kind and size.
--- From the scope: 'The place is the first bad or surplus record's', 'record places count from 1'.
+-- From the scope, 'Instruction record': the place is the first bad or surplus record's, and record places count from 1.
 use Prim.Native.Nat.{ℕ, zero, suc, _+_, _*_, _-_, _/_}
 use mathlib.Core.Bool.{Bool, _&&_, cond}
 use mathlib.Core.List.{List, [], _∷_}

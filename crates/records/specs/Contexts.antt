@@ -1,4 +1,4 @@
--- Binding records: their 8 bytes, which are well formed, and contexts of them. From the scope, 'Binding record', and the scope, 'Job 2': what is bad in a context, and where.
+-- Binding records: their 8 bytes, which are well formed, and contexts of them. From the scope, 'Binding record', and 'Job 2': what is bad in a context, and where.
 use Prim.Native.Nat.{ℕ, zero, suc, _+_, _*_, _/_, _%_}
 use mathlib.Core.Bool.{Bool, _&&_, cond}
 use mathlib.Core.List.{List, [], _∷_}

@@ -1,4 +1,4 @@
--- What the contracts of `records` cite, from the scope. Lemmas stand in `proofs`.
+-- What the contracts of `records` cite, from the scope, 'Binding record', 'Instruction record', 'Order record'.
 pub mod Bytes  -- little-endian numbers, and bytes stored in an output
 pub mod Causes  -- the causes and their numbers
 pub mod Answers  -- what a function ensures whose answer is an enum

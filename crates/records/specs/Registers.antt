@@ -1,5 +1,5 @@
 -- The registers' names in the Rust's sequence, and the number by which the processor encodes each.
--- From the scope: registers 0..15 are rsp, rcx, rbx, rbp, rax, rdx, rsi, rdi, r8..r15; the numbers are the Intel 64 manual's.
+-- From the scope, 'Instruction record': registers 0..15 are rsp, rcx, rbx, rbp, rax, rdx, rsi, rdi, r8..r15; the numbers are the Intel 64 manual's.
 use Prim.Native.Nat.{ℕ}
 use mathlib.Core.Bool.{cond}
 use mathlib.Core.List.{List, [], _∷_}

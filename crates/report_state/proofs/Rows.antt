@@ -17,9 +17,9 @@ use Rattle.word.specs.Words.{choose}
 use Rattle.layout.specs.declared.config.Shape.{Shape}
 use Rattle.layout.specs.Config.{positions, mostVariables}
 use Rattle.layout.specs.Positions.{location}
+use Rattle.layout.specs.Frame.{heldIn, variableIn, variablesIn}
 use Rattle.machine_step.specs.View.{wordsOf, fromEnd}
 use Rattle.heap.specs.Blocks.{cell}
-use Rattle.layout.specs.Frame.{heldIn, variableIn, variablesIn}
 use Rattle.report_state.specs.Cells.{cellWords, cellLine, cellLines, variableLine, firstLines, variableLines}
 
 -- the word of a spill, which the stack holds

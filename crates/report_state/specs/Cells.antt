@@ -9,10 +9,10 @@ use Rattle.records.specs.Contexts.{extAt}
 use Rattle.text.specs.Text.{ascii, decimal, signedDecimal}
 use Rattle.layout.specs.declared.config.Shape.{Shape}
 use Rattle.layout.specs.Config.{inShape, positions, shapeOn, blockBytes}
+use Rattle.layout.specs.Frame.{variableIn, variablesIn}
 use Rattle.machine_step.specs.View.{wordsOf, fromEnd}
 use Rattle.machine_step.specs.Memory.{heapStart}
 use Rattle.heap.specs.Blocks.{Cell}
-use Rattle.layout.specs.Frame.{variableIn, variablesIn}
 use Rattle.order_spec.specs.Answered.{placesIn}
 use Rattle.report.specs.Parts.{counted}
 

@@ -13,8 +13,8 @@ use Rattle.text.specs.Text.{ascii, signedDecimal}
 use Rattle.layout.specs.declared.config.Shape.{Shape}
 use Rattle.layout.specs.Config.{inChoice, positions, frameOn}
 use Rattle.layout.specs.Positions.{location}
-use Rattle.machine_step.specs.View.{wordsOf, fromEnd}
 use Rattle.layout.specs.Frame.{heldIn}
+use Rattle.machine_step.specs.View.{wordsOf, fromEnd}
 
 -- the integer, and a newline if asked
 unfoldable pub printedText : Bool → ℕ → List ℕ

@@ -11,13 +11,13 @@ use Rattle.records.specs.declared.code.Code.{Code}
 use Rattle.records.specs.declared.code.Code.the-variants.{ADDI, SUBI, MOV, PUSH, POP, RET, LAB, NOEXECSTACK, TEXT, GLOBAL, EXTERN}
 use Rattle.records.specs.Instructions.{checkedCodes}
 use Rattle.records.specs.ReadBack.{joined, codeBytes}
+use Rattle.records.specs.Names.{ASMMAIN, CLEANUP, PRINTI64, PRINTLNI64}
+use Rattle.records.specs.Checked.{onChecked}
 use Rattle.emit.specs.declared.answer.Answer.{Answer}
 use Rattle.emit.specs.declared.answer.Answer.the-variants.{Body, Operand, Arguments, Edition}
 use Rattle.emit.specs.Answers.{causeOf, granted, accepted}
 use Rattle.layout.specs.declared.config.Shape.{Shape}
 use Rattle.layout.specs.Config.{STACK, HEAP, FREE, blockBytes, shapeOf, inShape}
-use Rattle.records.specs.Names.{ASMMAIN, CLEANUP, PRINTI64, PRINTLNI64}
-use Rattle.records.specs.Checked.{onChecked}
 
 -- the register that a function's argument is passed in: rdi, rsi, rdx, rcx, r8, r9
 abbrev pub argument : ℕ → ℕ

@@ -12,6 +12,7 @@ use lib.Seq.{drop-at}
 use borrow.Author.Tests.{ne-eqb, eqb-true, eqb-false}
 use Rattle.records.specs.declared.code.Code.{Code}
 use Rattle.records.specs.declared.code.Code.the-variants.{ADDI, SUBI, MOV, PUSH, POP, RET, LAB}
+use Rattle.records.specs.Names.{CLEANUP}
 use Rattle.layout.specs.declared.config.Shape.{Shape}
 use Rattle.layout.specs.Config.{Supported, STACK, framePointer, blockWords, blockBytes}
 use Rattle.word.specs.Words.{sum, difference}
@@ -31,7 +32,6 @@ use Rattle.emit_proof.proofs.Routines.{items-length, few-arguments, routine-rea
 use Rattle.routine_proof.specs.Claims.{SavedIn, SetUp, Returned, routine, Frames, RoutineReturns}
 use Rattle.routine_proof.proofs.Depth.{reached-deep}
 use Rattle.routine_proof.proofs.Through.{through, passes, reached, ended}
-use Rattle.records.specs.Names.{CLEANUP}
 
 -- a state whose STACK is known, with that number written in
 abbrev pointed : View → ℕ → View

@@ -81,19 +81,12 @@ fn item(order: &[u8], bindings: &[u8], heap: &mut [u64], records: &mut [u8], g: 
     }
 }
 
-fn least(a: usize, b: usize) -> usize
-    ensures { λ r. ⌜ r ≤ a ⌝ }
-    ensures { λ r. ⌜ r ≤ b ⌝ }
-{
-    if a < b { a } else { b }
-}
-
 // At most so many bytes of the file, as far as there is space: how many were read.
 fn read_some(file: i32, space: &mut [u8], bytes: usize) -> usize
     ensures { λ r. ⌜ r ≤ bytes ⌝ }
     ensures { λ r. ⌜ r ≤ length (now (space .entry)) ⌝ }
 {
-    let size = least(bytes, space.len());
+    let size = records::bytes::least(bytes, space.len());
     io::read_full(file, &mut space[..size])
 }
 

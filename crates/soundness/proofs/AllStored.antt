@@ -15,6 +15,7 @@ use Rattle.records.specs.Bytes.{le, number}
 use Rattle.records.specs.Contexts.{bindingBytes, checkedContext}
 use Rattle.records.specs.Orders.{orderBytes, orderIn, orderOf, orderReaders, orderOk, orderOperandsOk, usedByOrder, orderStarts}
 use Rattle.records.proofs.Conditions.{never, both-ways}
+use Rattle.records.specs.Names.{lastLabel}
 use Rattle.trees.specs.Tree.{Tree, labels, size}
 use Rattle.layout.specs.declared.config.Shape.{Shape}
 use Rattle.layout.specs.Config.{Supported, positions, mostVariables}
@@ -28,11 +29,10 @@ use Rattle.order_spec.specs.Plain.{plainly}
 use Rattle.order_spec.specs.Writes.{made, treeOf, contextAfter, present, kindsOk, asked}
 use Rattle.order_spec.proofs.Accepting.{all-passed, all-judged}
 use Rattle.soundness.specs.Claims.{Item, reached, values, acquired, AllOwed, After, HeapStaysSoundOnAcquired}
-use Rattle.channel_step.specs.Playing.{isAccepted}
 use Rattle.soundness.specs.Example.{putSeven}
 use Rattle.soundness.proofs.Induction.{heap-stays-sound-on-acquired}
 use Rattle.soundness.specs.Puts.{puts, sevens}
-use Rattle.records.specs.Names.{lastLabel}
+use Rattle.channel_step.specs.Playing.{isAccepted}
 
 count-sevens : (n : ℕ) → countOf (sevens n) ≡ n
 count-sevens zero = refl

@@ -27,8 +27,8 @@ use Rattle.code_proof.proofs.Puts.{Given, given, puts-sets}
 use Rattle.code_proof.proofs.Records.{immediate-does}
 use Rattle.code_proof.proofs.Operated.{arithmetic-does, arithmetic-stops}
 use Rattle.memory_proof.proofs.Shown.{L, heapOf}
-use Rattle.memory.specs.Objects.{objectSizes}
 use Rattle.memory_proof.proofs.Variables.{variable, variables, variables-snoc, variables-kept, variables-kinds}
+use Rattle.memory.specs.Objects.{objectSizes}
 
 module _ (G : Shape) where
   -- what an order that changes something leaves: the abstract order performed, STACK and the heap's size as they were, no call

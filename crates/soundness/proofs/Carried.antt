@@ -6,13 +6,13 @@ use mathlib.Core.Path.{_≡_, refl, sym, _∙_, ap, subst}
 use Prim.Native.Nat.{ℕ, suc, _+_, _-_, _*_, _≤_, _<_}
 use native.Mathlib.Omega.{arith}
 use lib.ListN.{length}
-use Rattle.layout.specs.declared.config.Shape.{Shape}
-use Rattle.layout.specs.Config.{positions}
 use Rattle.records.specs.declared.context.ContextRead.the-variants.{Good}
 use Rattle.records.specs.declared.order.Order.{Order}
 use Rattle.records.specs.declared.order.Order.the-variants.{Put, Compute, Copy, Drop, Store, Load, Print}
 use Rattle.records.specs.Contexts.{checkedContext, extAt, bindingsIn}
 use Rattle.records.proofs.Conditions.{never}
+use Rattle.layout.specs.declared.config.Shape.{Shape}
+use Rattle.layout.specs.Config.{positions}
 use Rattle.machine_step.specs.Step.{Config}
 use Rattle.heap.specs.Blocks.{pointers}
 use Rattle.heap.specs.Claims.{AbstractHeapStaysSound, HeapAfter, Reaches}
@@ -28,16 +28,16 @@ use Rattle.heap.specs.Values.{integer, object, Value, Values, countOf, valueAt,
 use Rattle.layout_proof.specs.Held.{Placed}
 use Rattle.memory_proof.proofs.Acquiring.{Within}
 use Rattle.memory_proof.proofs.Shown.{L, heapOf}
-use Rattle.memory.specs.Objects.{objectSizes}
 use Rattle.memory_proof.proofs.Variables.{variables}
+use Rattle.memory.specs.Objects.{objectSizes}
 use Rattle.order_spec.specs.Answered.{placesIn}
-use Rattle.word.specs.Results.{result}
 use Rattle.order_spec.specs.Plain.{integerOf, plainly, AsStored, OwedKinds}
+use Rattle.word.specs.Results.{result}
 use Rattle.channel_step.specs.Playing.{Channel}
 use Rattle.soundness.specs.Claims.{stateOf, SoundAt, acquires, changes, Owed}
-use Rattle.machine.specs.Run.{starting}
 use Rattle.soundness.proofs.Appending.{Performed}
 use Rattle.soundness.proofs.Rooms.{represents-within}
+use Rattle.machine.specs.Run.{starting}
 
 -- the abstract heap's order; compute puts its result
 abbrev pub abstractly : Order → Values → abstract.HeapOrder

@@ -28,11 +28,11 @@ use Rattle.heap.specs.Values.{Value, integer, object, Values, nil, cons, countO
 use Rattle.heap.specs.Apart.{HoldsApart, HoldAllApart}
 use Rattle.heap.specs.Orders as abstract
 use Rattle.heap.specs.Orders.{HeapState, listOf}
+use Rattle.heap.proofs.OrderLemmas.{storedBy}
 use Rattle.layout_proof.specs.Held.{held, Keeps}
 use Rattle.layout_proof.proofs.Runs.{Does, so}
 use Rattle.memory_proof.proofs.Acquiring.{Within}
 use Rattle.memory_proof.proofs.Attempting.{Attempts, apart, does, attempt-weaken, attempt-why}
-use Rattle.heap.proofs.OrderLemmas.{storedBy}
 use Rattle.memory_proof.proofs.Shown.{heapOf}
 use Rattle.memory_proof.proofs.Variables.{variable, variables, variables-length}
 use Rattle.order_context_proof.proofs.Bindings.{good-length}
@@ -43,12 +43,12 @@ use Rattle.order_spec.specs.Plain.{integerOf, plainly, AsStored, OwedKinds, Owe
 use Rattle.order_spec.specs.Writes.{made, madeAll, kindAt, treeOf, contextAfter, present, kindsOk, asked}
 use Rattle.channel_step.specs.Playing.{Channel}
 use Rattle.soundness.specs.Claims.{changes, Owed}
-use Rattle.machine.specs.Run.{starting}
 use Rattle.soundness.proofs.Appending.{Performed, put-does, compute-does, compute-stops}
 use Rattle.soundness.proofs.Copying.{among, copy-does}
 use Rattle.soundness.proofs.Dropping.{drop-does, store-tries}
 use Rattle.soundness.proofs.Loading.{Below, load-does}
 use Rattle.soundness.proofs.Carried.{Carried, Room, abstractly}
+use Rattle.machine.specs.Run.{starting}
 
 -- an integer variable's Snd is the plain machine's integer
 pub integer-there : (G : Shape) (fields : ℕ → List Cell) (linked : ℕ → ℕ) (ext : ℕ → Bool) (c : Config) (vs : Values) → HoldAllApart (objectSizes G) fields linked vs (variables ext c 0 (countOf vs)) → KindsFrom ext 0 vs

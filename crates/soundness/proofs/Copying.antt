@@ -15,6 +15,7 @@ use Rattle.layout.specs.Config.{positions}
 use Rattle.layout.specs.Positions.{location}
 use Rattle.machine_step.specs.Step.{Config}
 use Rattle.memory.specs.Blocks.{shareBlock}
+use Rattle.memory.specs.Objects.{objectSizes}
 use Rattle.heap.specs.Blocks.{Cell, cell}
 use Rattle.heap.proofs.CountingLemmas.{occ-replicate-other}
 use Rattle.heap.proofs.Invariant.{Represents}
@@ -29,7 +30,6 @@ use Rattle.code_proof.specs.Claims.{Sets}
 use Rattle.code_proof.proofs.Computed.{mov-does}
 use Rattle.memory_proof.proofs.DropOrder.{share-performs}
 use Rattle.memory_proof.proofs.Shown.{L, heapOf}
-use Rattle.memory.specs.Objects.{objectSizes}
 use Rattle.memory_proof.proofs.Variables.{variable, variables, variables-append, variables-length, variables-kept, variables-kinds}
 use Rattle.order_spec.specs.Writes.{copyVariable, copyTo}
 use Rattle.soundness.proofs.Appending.{Performed, heap-same}

@@ -5,9 +5,10 @@ use Prim.Native.Nat.{ℕ, _+_, _*_, _/_, _%_, _≤_}
 use native.Mathlib.Nat.{add-zero, mul-div-cancel-left, div-add-mod}
 use native.Mathlib.Omega.{arith}
 use borrow.Author.Tests.{le-leb}
+use Rattle.records.specs.ReadBack.{joined, codeBytes}
+use Rattle.records.specs.Names.{lastLabel}
 use Rattle.layout.specs.declared.config.Shape.{Shape}
 use Rattle.layout.specs.Config.{blockWords}
-use Rattle.records.specs.ReadBack.{joined, codeBytes}
 use Rattle.trees.specs.Tree.{Tree, labels, size, flat}
 use Rattle.machine_step.specs.Memory.{heapOk}
 use Rattle.machine_step.specs.Step.{Config}
@@ -21,7 +22,6 @@ use Rattle.layout_proof.specs.Held.{Placed}
 use Rattle.layout_proof.proofs.Runs.{Does}
 use Rattle.order_formed_proof.proofs.Formed.{Formed}
 use Rattle.order_formed_proof.proofs.Bytes.{ran-started}
-use Rattle.records.specs.Names.{lastLabel}
 
 module _ (G : Shape) where
   pub heap-ok : (blocks : ℕ) (v : View) → Placed G blocks (starting v) → 2 ≤ blocks → heapOk (blockWords G) (v .size) ≡ true

@@ -22,11 +22,11 @@ use Rattle.order_spec.specs.Answered.{answerTo}
 use Rattle.order_spec.specs.Plain.{plainly}
 use Rattle.order_spec.specs.Writes.{treeOf, contextAfter, present, kindsOk, asked}
 use Rattle.soundness.specs.Claims.{Item, reached, values, acquired, AllOwed, PeakWithin, stateAfter, Ran, AllRan, HeapStaysSound}
-use Rattle.channel_step.specs.Playing.{runOf}
 use Rattle.soundness.specs.Peak.{NoFault, Unfaulted, OneFewerIsTooFew}
 use Rattle.soundness.specs.Example.{putSeven, storeOne, loadReleased}
 use Rattle.soundness.proofs.Induction.{heap-stays-sound, left-by-runs}
 use Rattle.soundness.specs.Fewest.{season, SeasonIsSound}
+use Rattle.channel_step.specs.Playing.{runOf}
 
 three : acquired base 3 season ≡ 3
 unfolding answerTo orderBytes le number checkedContext firstFlaw bindingBytes orderIn orderOf orderReaders orderOk orderOperandsOk usedByOrder orderStarts treeOf contextAfter present kindsOk asked plainly location stackOffset putSeven storeOne loadReleased

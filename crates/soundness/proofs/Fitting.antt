@@ -22,8 +22,8 @@ use Rattle.order_spec.specs.Writes.{treeOf}
 use Rattle.channel_step.specs.Playing.{Channel, isAccepted}
 use Rattle.soundness.specs.Claims.{Item, acquires, changes, stateOf, reached, values, stateAfter, statesBefore, AllOwed, PeakWithin, HeapStaysSound}
 use Rattle.soundness.specs.Peak.{Unfaulted, PeakIsEnough}
-use Rattle.machine.specs.Run.{starting}
 use Rattle.soundness.proofs.Induction.{zeros, StepOn, heap-stays-sound, unfaulted-before, stepped-by-runs, owed-by-runs, left-by-runs, stepped-by-peak}
+use Rattle.machine.specs.Run.{starting}
 
 -- where an accepted order's run has left a configuration
 abbrev leftBy : Channel → Item → Config → Channel

@@ -13,6 +13,7 @@ use Rattle.records.specs.declared.order.Order.{Order}
 use Rattle.records.specs.Contexts.{extAt}
 use Rattle.records.proofs.Conditions.{never, both-ways}
 use Rattle.machine_step.specs.View.{wordsOf}
+use Rattle.machine_step.specs.Step.{Config}
 use Rattle.heap.specs.Blocks.{pointers}
 use Rattle.heap.specs.Claims.{Reaches, ReachesAtMost, AbstractFrontierIsPeak}
 use Rattle.heap.proofs.GrowthLemmas.{nothing-led, reachable-below}
@@ -26,26 +27,25 @@ use Rattle.heap.specs.Words.{byAddress, wordAt, headers, addressOf, blockNumber
 use Rattle.layout.specs.declared.config.Shape.{Shape}
 use Rattle.layout.specs.Config.{Supported, frameOf, editionOf, shapeOf, stackDepth, blockWords}
 use Rattle.layout.proofs.Placing.{no-frame, no-edition, shaped-supported}
-use Rattle.machine_step.specs.Step.{Config}
 use Rattle.machine.specs.declared.run.RunAnswer.the-variants.{Fault}
+use Rattle.machine.specs.Run.{starting}
 use Rattle.trees_proof.specs.Evaluation.{done, evaluate}
 use Rattle.layout_proof.proofs.Runs.{so}
 use Rattle.memory_proof.proofs.Attempting.{surely, unless-faulted}
-use Rattle.order_spec.specs.Writes.{treeOf, contextAfter}
 use Rattle.memory_proof.proofs.Shown.{L, heapOf}
-use Rattle.memory.specs.Objects.{objectSizes}
 use Rattle.memory_proof.proofs.Variables.{variables}
-use Rattle.order_context_proof.proofs.Bindings.{good-none}
+use Rattle.order_spec.specs.Writes.{treeOf, contextAfter}
 use Rattle.order_spec.specs.declared.answer.OrderAnswer.{OrderAnswer}
 use Rattle.order_spec.specs.declared.answer.OrderAnswer.the-variants as answers
 use Rattle.order_spec.specs.Answered.{orderAccepted, orderIs, placesIn, answerTo, orderCounterAfter}
 use Rattle.order_spec.specs.Plain.{OwedKinds}
+use Rattle.order_spec.proofs.Accepting.{Taken, taken}
+use Rattle.memory.specs.Objects.{objectSizes}
+use Rattle.order_context_proof.proofs.Bindings.{good-none}
 use Rattle.channel_step.specs.Playing.{Channel, fresh, isAccepted, runOf}
 use Rattle.soundness.specs.Claims.{Item, reached, values, acquired, changes, PeakWithin, AllOwed, stateAfter, statesBefore, SoundChannel, SoundBefore, AllRan, Refused, AllRefused, After, HeapStaysSound, HeapStaysSoundOnAcquired, acquires, Owed}
 use Rattle.soundness.specs.Peak.{NoFault, LoadsOwed, ReachesWithin, HeapAfterList, PeakOf, Unfaulted, FrontierWithinPeakOfLists, FrontierIsPeak}
 use Rattle.soundness.specs.Shapes.{EveryShapeStaysSound}
-use Rattle.order_spec.proofs.Accepting.{Taken, taken}
-use Rattle.machine.specs.Run.{starting}
 use Rattle.soundness.proofs.Carried.{Carried, heap-after, sound-at, Room, bounded-by-room, bounded-by-run, places-are}
 use Rattle.soundness.proofs.Changing.{changing-tries, result-by-run}
 use Rattle.soundness.proofs.Stepping.{SteppedAt, Way, runAt, not-faulted, stepped}

@@ -7,14 +7,15 @@ use Rattle.records.specs.declared.binding.Kind.the-variants.{Ext}
 use Rattle.records.specs.Bytes.{le, number}
 use Rattle.records.specs.Contexts.{bindingBytes, firstFlaw, checkedContext}
 use Rattle.records.specs.Orders.{orderBytes, orderIn, orderOf, orderReaders, orderOk, orderOperandsOk, usedByOrder, orderStarts}
+use Rattle.records.specs.Names.{mostCount}
 use Rattle.layout.specs.Config.{base, stackOffset}
 use Rattle.layout.proofs.Placing.{base-supported}
 use Rattle.layout.specs.Positions.{location, operandOk}
 use Rattle.emit.specs.Answers.{granted}
 use Rattle.memory.specs.Answered.{eraseAnswer, shareAnswer, storeAnswer}
 use Rattle.memory.specs.LoadAnswered.{loadAnswer}
-use Rattle.heap.specs.Values.{integer, object, nil, cons}
 use Rattle.memory.specs.Objects.{objectSizes}
+use Rattle.heap.specs.Values.{integer, object, nil, cons}
 use Rattle.order_spec.specs.Answered.{answerTo}
 use Rattle.order_spec.specs.Plain.{plainly}
 use Rattle.order_spec.specs.Writes.{made, treeOf, contextAfter, present, kindsOk, asked}
@@ -23,7 +24,6 @@ use Rattle.soundness.specs.Operations.{MemoryDoes, OperationsDoWhatTheyN
 use Rattle.soundness.proofs.Operating.{operations-do-what-they-name-on-acquired}
 use Rattle.soundness.specs.Example.{putSeven, storeOne}
 use Rattle.soundness.specs.Operated.{oneStored, WorkedOperations}
-use Rattle.records.specs.Names.{mostCount}
 
 one : acquired base 4 oneStored ≡ 1
 unfolding answerTo orderBytes le number checkedContext firstFlaw bindingBytes orderIn orderOf orderReaders orderOk orderOperandsOk usedByOrder orderStarts treeOf contextAfter present kindsOk asked plainly location stackOffset putSeven storeOne

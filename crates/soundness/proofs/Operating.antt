@@ -14,6 +14,7 @@ use Rattle.records.specs.declared.binding.Kind.the-variants.{Linked}
 use Rattle.records.specs.declared.order.Order.the-variants.{Store, Load}
 use Rattle.records.specs.declared.context.ContextRead.the-variants.{Good}
 use Rattle.records.specs.Contexts.{checkedContext, extAt}
+use Rattle.records.specs.Names.{lastLabel}
 use Rattle.trees.specs.Tree.{Tree, labels, size}
 use Rattle.layout.specs.declared.config.Shape.{Shape}
 use Rattle.layout.specs.Config.{Supported, positions, mostVariables}
@@ -50,6 +51,7 @@ use Rattle.memory_proof.proofs.Variables.{variable, variables, variables-length
 use Rattle.order_formed_proof.proofs.Formed.{Formed}
 use Rattle.order_formed_proof.proofs.Blocks.{formed-erase, formed-share}
 use Rattle.order_formed_proof.proofs.Objects.{formed-store, formed-load}
+use Rattle.order_formed_proof.proofs.Granting.{erase-granted, share-granted, store-granted, load-granted}
 use Rattle.order_context_proof.proofs.After.{count-within, context-after}
 use Rattle.order_context_proof.proofs.Bindings.{good-length, good-none, good-take}
 use Rattle.order_context_proof.proofs.KindsAfter.{ext-left, ext-right, ext-take, ext-made, ext-in-whole}
@@ -64,10 +66,8 @@ use Rattle.soundness.proofs.Ending.{heap-ok, ends}
 use Rattle.soundness.proofs.Carried.{Carried, sound-at, places-are, Room, bounded-by-room, carried-on}
 use Rattle.soundness.proofs.Changing.{loaded-most, load-keeps}
 use Rattle.soundness.proofs.Copying.{among}
-use Rattle.order_formed_proof.proofs.Granting.{erase-granted, share-granted, store-granted, load-granted}
 use Rattle.soundness.proofs.Induction.{carried-within-peak, carried-on-acquired, peak-room}
 use Rattle.soundness.specs.Operations.{RunLeaves, heldAt, Stay, FieldsStay, SoundFor, Stored, Loaded, Shared, Erased, OperationsDoWhatTheyName, OperationsDoWhatTheyNameOnAcquired}
-use Rattle.records.specs.Names.{lastLabel}
 
 -- what a tree keeps stays
 stays : {G : Shape} {N : ℕ} {P Q : ℕ → Type 0} (c d : Config) → Placed G N c → Keeps P c d → ((l : ℕ) → Q l → P l) → Stay G Q (c .state) (d .state)

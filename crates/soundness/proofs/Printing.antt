@@ -18,14 +18,14 @@ use Rattle.memory_proof.proofs.Shown.{heapOf}
 use Rattle.order_spec.specs.Answered.{orderIs, placesIn}
 use Rattle.order_spec.specs.Plain.{integerOf}
 use Rattle.order_spec.specs.Writes.{present, kindsOk, asked}
-use Rattle.channel_step.specs.Playing.{Channel, isAccepted, runOf}
 use Rattle.order_spec.proofs.Accepting.{Taken, taken}
+use Rattle.channel_step.specs.Playing.{Channel, isAccepted, runOf}
 use Rattle.report_state.specs.Prints.{printedText, wordOf, printsOf, prints}
 use Rattle.soundness.specs.Claims.{Item, reached, values, callsOf, Ran, SoundAt, SoundChannel, SoundBefore, AllRan}
-use Rattle.machine.specs.Run.{starting}
 use Rattle.soundness.proofs.Carried.{places-are}
 use Rattle.soundness.proofs.Changing.{integer-there}
 use Rattle.soundness.specs.Prints.{callTexts, putFor, calledFor, putIn, calledIn, PrintedIsCalled}
+use Rattle.machine.specs.Run.{starting}
 
 -- an accepted order on a sound channel
 module _ {g : Shape} (sup : Supported g) {blocks : ℕ} {past : List HeapState} {ch : Channel} {vs : Values} (it : Item) (s : SoundAt g blocks past ch vs) (t : Taken g (ch .context) (it .asked) (countOf vs)) where

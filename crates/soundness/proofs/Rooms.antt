@@ -14,8 +14,8 @@ use Rattle.heap.proofs.GrowthLemmas.{Bounded}
 use Rattle.heap.proofs.OrderLemmas.{storedBy, represents-same, represents-order}
 use Rattle.memory_proof.proofs.Acquiring.{Within}
 use Rattle.memory_proof.proofs.Shown.{L}
-use Rattle.memory.specs.Objects.{objectSizes}
 use Rattle.memory_proof.proofs.StoringObject.{frontier-within}
+use Rattle.memory.specs.Objects.{objectSizes}
 
 module _ (G : Shape) where
   pub represents-within : {M M′ : Memory} {m N : ℕ} {values : Values} {o : HeapOrder} {variables variables′ : List Cell} → m ≤ N → Performs (objectSizes G) (L G) M o variables M′ variables′ → Legal o values

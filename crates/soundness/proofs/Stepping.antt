@@ -20,10 +20,10 @@ use Rattle.layout.specs.Positions.{location}
 use Rattle.print_i64.specs.Print.{printName}
 use Rattle.machine_step.specs.Step.{Config}
 use Rattle.machine.specs.declared.run.RunAnswer.the-variants.{Ended, Fault}
+use Rattle.machine.specs.Run.{Done, ran, started, starting}
 use Rattle.trees_proof.specs.Evaluation.{Evaluated, done, faulted, evaluate}
 use Rattle.trees_proof.specs.Claims.{RunAnswers, TreeRunsWhole}
 use Rattle.trees_proof.proofs.Trees.{tree-runs-whole}
-use Rattle.machine.specs.Run.{Done, ran, started, starting}
 use Rattle.heap.specs.Claims.{Reaches}
 use Rattle.heap.specs.Orders.{HeapState}
 use Rattle.heap.specs.Values.{Values, countOf}
@@ -38,9 +38,9 @@ use Rattle.print_i64_proof.proofs.Printing.{print-does}
 use Rattle.order_spec.specs.Plain.{plainly}
 use Rattle.order_spec.specs.Writes.{treeOf, contextAfter, present, kindsOk}
 use Rattle.order_spec.specs.Answered.{orderIs}
+use Rattle.order_spec.proofs.Accepting.{Taken}
 use Rattle.channel_step.specs.Playing.{Channel}
 use Rattle.soundness.specs.Claims.{Item, stateOf, Owed, acquires, callsOf, changes}
-use Rattle.order_spec.proofs.Accepting.{Taken}
 use Rattle.soundness.proofs.Ending.{heap-ok, Ends, ends}
 use Rattle.soundness.proofs.Carried.{Carried, abstractly, BoundedAfter, reaches-on, carried-on, state-same, carried-same}
 use Rattle.soundness.proofs.Changing.{integer-held}

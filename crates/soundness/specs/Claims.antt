@@ -14,16 +14,15 @@ use Rattle.records.specs.Contexts.{checkedContext, extAt}
 use Rattle.records.specs.ReadBack.{Bytes}
 use Rattle.layout.specs.declared.config.Shape.{Shape}
 use Rattle.layout.specs.Config.{Supported, stackDepth, blockWords, STACK, HEAP, FREE}
+use Rattle.layout.specs.Frame.{variablesIn}
 use Rattle.print_i64.specs.Print.{printName}
 use Rattle.machine_step.specs.Step.{Call}
 use Rattle.machine.specs.declared.run.RunAnswer.the-variants.{Ended}
-use Rattle.machine.specs.Run.{Done}
 use Rattle.heap.specs.Values.{Values, nil, countOf, valueAt, KindsFrom}
 use Rattle.heap.specs.Words.{memoryOf, layout}
 use Rattle.heap.specs.Orders.{HeapState}
 use Rattle.heap.specs.Claims.{HeapAfter, Reaches}
 use Rattle.memory.specs.Objects.{objectSizes}
-use Rattle.layout.specs.Frame.{variablesIn}
 use Rattle.order_spec.specs.Answered.{Asked, orderIs, placesIn, answerTo, recordsOutput, contextOutput, orderCounterAfter}
 use Rattle.order_spec.specs.Plain.{integerOf, plainly, OwedKinds, OwedResult}
 use Rattle.channel_step.specs.Playing.{Channel, fresh, isAccepted, recordCount, runOf, next}

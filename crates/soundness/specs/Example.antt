@@ -14,11 +14,11 @@ use Rattle.records.specs.Contexts.{bindingBytes}
 use Rattle.records.specs.Orders.{orderBytes, recordOf}
 use Rattle.records.specs.ReadBack.{Bytes}
 use Rattle.heap.specs.Values.{integer, object, Values, nil, cons}
+use Rattle.heap.specs.Blocks.{Cell, cell}
 use Rattle.order_spec.specs.Answered.{Asked}
 use Rattle.order_spec.specs.Writes.{made, asked}
 use Rattle.soundness.specs.Claims.{Item, values, acquired, stateAfter, After}
 use Rattle.layout.specs.Config.{base}
-use Rattle.heap.specs.Blocks.{Cell, cell}
 
 -- a list of bytes, by a test of each
 unfoldable pub below : List ℕ → Bool

@@ -3,6 +3,7 @@ use mathlib.Core.List.{List, [], _∷_}
 use mathlib.Core.Path.{_≡_}
 use Prim.Native.Nat.{ℕ}
 use Rattle.records.specs.declared.binding.Kind.the-variants.{Ext}
+use Rattle.records.specs.Names.{mostCount}
 use Rattle.trees.specs.Tree.{Tree}
 use Rattle.layout.specs.Config.{base}
 use Rattle.layout.specs.Positions.{location}
@@ -17,7 +18,6 @@ use Rattle.channel_step.specs.Playing.{Channel}
 use Rattle.soundness.specs.Claims.{Item, reached, values, statesBefore}
 use Rattle.soundness.specs.Operations.{RunLeaves, Stored, Loaded, Shared, Erased}
 use Rattle.soundness.specs.Example.{putSeven, storeOne}
-use Rattle.records.specs.Names.{mostCount}
 
 -- newest first
 abbrev pub oneStored : List Item

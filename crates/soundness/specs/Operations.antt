@@ -15,16 +15,17 @@ use Rattle.trees.specs.Tree.{Tree, size, flat}
 use Rattle.layout.specs.declared.config.Shape.{Shape}
 use Rattle.layout.specs.Config.{Supported, blockWords, TEMP, HEAP, FREE, spill, positions}
 use Rattle.layout.specs.Positions.{location}
+use Rattle.layout.specs.Frame.{heldIn, variableIn, variablesIn}
 use Rattle.emit.specs.Answers.{accepted}
 use Rattle.memory.specs.Answered.{eraseAnswer, shareAnswer, storeTree, storeAnswer}
 use Rattle.memory.specs.Blocks.{eraseBlock, shareBlock}
 use Rattle.memory.specs.LoadAnswered.{loadTree, loadAnswer}
+use Rattle.memory.specs.Objects.{objectSizes}
 use Rattle.machine_step.specs.View.{View}
 use Rattle.machine.specs.declared.run.RunAnswer.the-variants.{Ended}
 use Rattle.machine.specs.Run.{Done, ran}
-use Rattle.heap.specs.Blocks.{Cell, pointers, children, Memory}
+use Rattle.heap.specs.Blocks.{Cell, pointers, Memory}
 use Rattle.heap.specs.Claims.{Sound, Reaches}
-use Rattle.heap.specs.Counting.{occ, refs}
 use Rattle.heap.specs.Operations.{Elsewhere, Erase}
 use Rattle.heap.specs.Orders.{HeapState}
 use Rattle.heap.specs.Values as values
@@ -32,8 +33,6 @@ use Rattle.heap.specs.Values.{Values, countOf, firstOf, restOf, valueAt, copies
 use Rattle.heap.specs.Apart.{LinksApart}
 use Rattle.heap.specs.Words.{stride, wordAt, memoryOf, layout}
 use Rattle.layout_proof.specs.Held.{NoSpill}
-use Rattle.layout.specs.Frame.{heldIn, variableIn, variablesIn}
-use Rattle.memory.specs.Objects.{objectSizes}
 use Rattle.order_spec.specs.Answered.{placesIn}
 use Rattle.order_spec.specs.Plain.{plainly, AsStored}
 use Rattle.order_spec.specs.Writes.{made}

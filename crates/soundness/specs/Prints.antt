@@ -5,9 +5,9 @@ use mathlib.Core.Path.{_≡_}
 use mathlib.Core.Bool.{true, cond}
 use mathlib.Core.List.{List, [], _∷_, _++_}
 use lib.Dec.{eqb}
+use Rattle.records.specs.Orders.{orderRead}
 use Rattle.layout.specs.declared.config.Shape.{Shape}
 use Rattle.layout.specs.Config.{Supported}
-use Rattle.records.specs.Orders.{orderRead}
 use Rattle.print_i64.specs.Print.{printName}
 use Rattle.machine_step.specs.Step.{Call}
 use Rattle.channel_step.specs.Playing.{Channel, isAccepted, runOf}

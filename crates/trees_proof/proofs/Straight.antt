@@ -8,8 +8,8 @@ use Rattle.records.specs.declared.code.Code.the-variants.{ADD, ADDRM, ADDMR, AD
 use Rattle.records.proofs.Conditions.{never, both-ways}
 use Rattle.trees.specs.Tree.{straight}
 use Rattle.machine_step.specs.Step.{Config, Outcome, next, jump, end, fault, isPrintName, step}
-use Rattle.machine.specs.Run.{isLab}
 use Rattle.machine_step.proofs.Flow.{Flow, plain, jumps, branches, mark, calling, returning, stops, flow, plainly, byFlow, step-by-flow}
+use Rattle.machine.specs.Run.{isLab}
 
 abbrev goesOn : Flow → Bool
 goesOn plain = true

@@ -1,4 +1,4 @@
--- Arithmetic of 64-bit words. From the scope: 'Sums, differences and products wrap at 2^64', 'IDIV truncates toward zero'.
+-- Arithmetic of 64-bit words. From the scope, 'Machine': sums, differences and products wrap at 2^64, IDIV truncates toward zero.
 -- A word of 2^63 and above stands for that number less 2^64.
 use Prim.Native.Nat.{ℕ, _+_, _-_, _*_, _/_, _%_, _^_}
 use mathlib.Core.Bool.{Bool, true, false, not, _&&_}

@@ -1,5 +1,5 @@
--- The scope, 'Worked numbers': the starred ones, line by line, by the definitions that the contracts cite; and from the scope
--- the same lines in the frame of 512 spills, job 8, and in blocks of seven fields, job 11.
+-- The scope, 'Worked numbers': the starred ones, line by line, by the definitions that the contracts cite; and
+-- the same lines in the frame of 512 spills, 'Job 8', and in blocks of seven fields, 'Job 11'.
 -- Outputs hold 65,536 records, counters start at 0, and contexts are of integers.
 use Prim.Native.Nat.{ℕ, _*_, _≤_, _<_}
 use mathlib.Core.Path.{_≡_}

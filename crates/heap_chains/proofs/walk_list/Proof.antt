@@ -1,10 +1,9 @@
-use Prim.Native.Nat.{_+_}
+use Prim.Native.Nat.{_+_, _-_}
 use mathlib.Core.Path.{_≡_, ap}
 use borrow.Author.Needs.{needs}
 use native.Mathlib.Omega.{arith}
 use Rattle.machine_step.specs.View.{wordsOf}
 use Rattle.heap.specs.Words.{headers}
-use Prim.Native.Nat.{_-_}
 use Rattle.heap_chains.specs.Blocks.{listLength}
 use Rattle.heap_chains.proofs.Walks.{list-ends, list-goes, list-stays}
 use Rattle.heap_chains.proofs.walk_list.Statement.{statement}

@@ -3,8 +3,8 @@ use Prim.Native.Nat.{_≤_}
 use mathlib.Core.Bool.{Bool, true, false}
 use mathlib.Core.Path.{refl}
 use native.Mathlib.Omega.{arith}
-use Rattle.emit.proofs.Laws.{_⨟_, grown}
 use Rattle.records.specs.declared.code.Code.the-variants.{MOVL}
+use Rattle.emit.proofs.Laws.{_⨟_, grown}
 use Rattle.trees.specs.Tree.{leaf}
 use Rattle.layout.specs.declared.config.Shape.{Shape}
 use Rattle.layout.specs.Config.{STACK, RETURN1}

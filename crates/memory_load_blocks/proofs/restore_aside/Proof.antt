@@ -1,7 +1,7 @@
 use borrow.Author.Needs.{needs}
 use mathlib.Core.Path.{refl}
-use Rattle.emit.proofs.Laws.{grown, emits-nop}
 use Rattle.records.specs.declared.code.Code.the-variants.{MOVL}
+use Rattle.emit.proofs.Laws.{grown, emits-nop}
 use Rattle.trees.specs.Tree.{leaf}
 use Rattle.layout.specs.Config.{STACK, RETURN1}
 use Rattle.memory_load_blocks.proofs.restore_aside.Statement.{statement}

@@ -13,8 +13,8 @@ returns : tie.Need-returns
 returns c =
     let r = c .before .before .read-full in
     let size = c .before .before .before .before .least in
-    let lent = length-take-le (size .result) (c .before .before .before .before .before .before .args .space .now) (omega (arith, size .ensures .1)) in
-    (omega (arith, r .ensures .0, r .kept .1 .0, lent, size .ensures .0), omega (arith, r .ensures .0, r .kept .1 .0, lent, size .ensures .1))
+    let lent = length-take-le (size .result) (c .before .before .before .before .before .before .args .space .now) (omega (arith, size .ensures)) in
+    (omega (arith, r .ensures .0, r .kept .1 .0, lent, size .ensures), omega (arith, r .ensures .0, r .kept .1 .0, lent, size .ensures))
 
 pub read-some-spec : {M : Type 1} → statement M
 read-some-spec =

@@ -1,8 +1,8 @@
 use borrow.Author.Needs.{needs}
 use Rattle.listing.specs.Listing.{line}
-use Rattle.text.proofs.Putting.{_⨟_}
 use Rattle.listing.proofs.lines.put_line.Statement.{statement}
 use Rattle.listing.proofs.lines.put_line.Tie as tie
+use Rattle.text.proofs.Putting.{_⨟_}
 
 pub put-line-spec : {M : Type 1} → statement M
 unfolding line

@@ -2,12 +2,12 @@ use Prim.Native.Nat.{_*_, _-_, _≤_}
 use native.Mathlib.Omega.{arith}
 use Rattle.listing.specs.Names.{codeNames}
 use Rattle.listing.specs.Listing.{lines}
-use Rattle.text.specs.Putting.{Puts}
-use Rattle.text.proofs.Putting.{same-length}
 use Rattle.listing.proofs.Accepted.{few-records, record-whole, record-code}
 use Rattle.listing.proofs.Parts.{no-lines, line-more, all-lines}
 use Rattle.listing.proofs.lines.put_lines.Statement.{statement}
 use Rattle.listing.proofs.lines.put_lines.Tie as tie
+use Rattle.text.specs.Putting.{Puts}
+use Rattle.text.proofs.Putting.{same-length}
 
 abbrev Inv-loop : tie.InvT-loop
 Inv-loop text₀ at records count next₀ k₀ text next k = (k ≤ count) × Puts (140 * k) text₀ at text next (lines codeNames records k)

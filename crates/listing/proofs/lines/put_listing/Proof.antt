@@ -1,10 +1,10 @@
 use borrow.Author.Needs.{needs}
 use native.Mathlib.Omega.{arith}
 use Rattle.listing.specs.Listing.{listing}
-use Rattle.text.proofs.Putting.{at-most, _⨟_}
 use Rattle.listing.proofs.Accepted.{few-records}
 use Rattle.listing.proofs.lines.put_listing.Statement.{statement}
 use Rattle.listing.proofs.lines.put_listing.Tie as tie
+use Rattle.text.proofs.Putting.{at-most, _⨟_}
 
 pub put-listing-spec : {M : Type 1} → statement M
 unfolding listing

@@ -1,8 +1,8 @@
 use borrow.Author.Needs.{needs}
 use Rattle.listing.specs.Listing.{operandsText}
-use Rattle.text.proofs.Putting.{_⨟_}
 use Rattle.listing.proofs.lines.put_operands.Statement.{statement}
 use Rattle.listing.proofs.lines.put_operands.Tie as tie
+use Rattle.text.proofs.Putting.{_⨟_}
 
 pub put-operands-spec : {M : Type 1} → statement M
 unfolding operandsText

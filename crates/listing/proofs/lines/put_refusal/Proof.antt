@@ -1,7 +1,7 @@
 use borrow.Author.Needs.{needs}
 use Rattle.text.specs.Text.{digits}
-use Rattle.listing.specs.Listing.{listingRefusal}
 use Rattle.text.proofs.Putting.{_⨟_}
+use Rattle.listing.specs.Listing.{listingRefusal}
 use Rattle.listing.proofs.lines.put_refusal.Statement.{statement}
 use Rattle.listing.proofs.lines.put_refusal.Tie as tie
 

@@ -1,10 +1,10 @@
 use borrow.Author.Needs.{needs}
 use native.Mathlib.Omega.{arith}
 use Rattle.listing.specs.Names.{codeNames}
-use Rattle.text.proofs.Putting.{_⨟_}
 use Rattle.listing.proofs.NameTable.{name-short, part-short, puts-name}
 use Rattle.listing.proofs.names.put_spaced_name.Statement.{statement}
 use Rattle.listing.proofs.names.put_spaced_name.Tie as tie
+use Rattle.text.proofs.Putting.{_⨟_}
 
 pub put-spaced-name-spec : {M : Type 1} → statement M
 unfolding codeNames

@@ -1,8 +1,8 @@
 use borrow.Author.Needs.{needs}
 use Rattle.machine_step.specs.View.{wordsOf}
+use Rattle.machine_step.proofs.Instructions.{passes, jumps, faults, goes-as}
 use Rattle.machine.specs.Tables.{performed}
 use Rattle.machine.proofs.Tables.{fault-form, arithmetic-form}
-use Rattle.machine_step.proofs.Instructions.{passes, jumps, faults, goes-as}
 use Rattle.machine.proofs.step.perform.Statement.{statement}
 use Rattle.machine.proofs.step.perform.Tie as tie
 

@@ -1,7 +1,7 @@
 use borrow.Author.Needs.{needs}
 use mathlib.Core.Path.{refl}
-use Rattle.emit.proofs.Laws.{_⨟_, grown}
 use Rattle.records.specs.declared.code.Code.the-variants.{MOVL}
+use Rattle.emit.proofs.Laws.{_⨟_, grown}
 use Rattle.trees.specs.Tree.{leaf}
 use Rattle.layout.specs.Config.{HEAP, TEMP}
 use Rattle.memory.proofs.block.erase_child.Statement.{statement}

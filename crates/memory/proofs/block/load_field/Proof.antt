@@ -1,8 +1,8 @@
 use borrow.Author.Needs.{needs}
 use mathlib.Core.Path.{refl}
 use borrow.Author.Tests.{lt-ltb, le-ltb}
-use Rattle.emit.proofs.Laws.{grown}
 use Rattle.records.specs.declared.code.Code.the-variants.{MOVS, MOVL}
+use Rattle.emit.proofs.Laws.{grown}
 use Rattle.trees.specs.Tree.{leaf, seq}
 use Rattle.layout.specs.Config.{STACK, TEMP}
 use Rattle.memory.proofs.block.load_field.Statement.{statement}

@@ -2,6 +2,7 @@ use borrow.Author.Needs.{needs}
 use mathlib.Core.Path.{refl}
 use native.Mathlib.Omega.{arith}
 use borrow.Author.Tests.{lt-ltb, le-ltb}
+use Rattle.records.specs.Names.{mostCount}
 use Rattle.emit.proofs.Wrote.{refused, room-for, not-written, wrote}
 use Rattle.layout.proofs.Placing.{operand-range}
 use Rattle.memory.specs.Blocks.{shareBlock}
@@ -9,7 +10,6 @@ use Rattle.memory.specs.Answered.{shareAnswer}
 use Rattle.memory.proofs.Sizes.{share-size}
 use Rattle.memory.proofs.block.share_block_n_in.Statement.{statement}
 use Rattle.memory.proofs.block.share_block_n_in.Tie as tie
-use Rattle.records.specs.Names.{mostCount}
 
 pub share-block-n-in-spec : {M : Type 1} → statement M
 unfolding shareAnswer

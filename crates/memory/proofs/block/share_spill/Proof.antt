@@ -1,7 +1,7 @@
 use borrow.Author.Needs.{needs}
 use mathlib.Core.Path.{refl}
-use Rattle.emit.proofs.Laws.{_⨾_, counted, grown}
 use Rattle.records.specs.declared.code.Code.the-variants.{ADDIM, MOVL, CMPIM}
+use Rattle.emit.proofs.Laws.{_⨾_, counted, grown}
 use Rattle.trees.specs.Tree.{leaf, seq, skip-if-zero}
 use Rattle.layout.specs.Config.{STACK, TEMP}
 use Rattle.memory.proofs.block.share_spill.Statement.{statement}

@@ -1,8 +1,8 @@
 use borrow.Author.Needs.{needs}
 use mathlib.Core.Path.{refl}
 use native.Mathlib.Omega.{arith}
-use Rattle.emit.proofs.Laws.{_⨟_, grown}
 use Rattle.records.specs.declared.code.Code.the-variants.{ADDIM}
+use Rattle.emit.proofs.Laws.{_⨟_, grown}
 use Rattle.trees.specs.Tree.{leaf}
 use Rattle.layout.specs.Config.{MINUSONE}
 use Rattle.memory_load.proofs.load.load_shared.Statement.{statement}

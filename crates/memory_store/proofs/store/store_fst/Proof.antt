@@ -1,7 +1,7 @@
 use borrow.Author.Needs.{needs}
 use mathlib.Core.Path.{refl}
-use Rattle.emit.proofs.Laws.{grown}
 use Rattle.records.specs.declared.code.Code.the-variants.{MOVIM}
+use Rattle.emit.proofs.Laws.{grown}
 use Rattle.trees.specs.Tree.{leaf}
 use Rattle.layout.specs.Config.{HEAP}
 use Rattle.memory_store.proofs.store.store_fst.Statement.{statement}

@@ -5,9 +5,9 @@ use native.Mathlib.Omega.{arith}
 use native.Mathlib.Nat.{le-antisymm}
 use native.Mathlib.Numerals.{add-one}
 use lib.ListN.{length}
+use Rattle.records.specs.declared.code.Code.the-variants.{MOVIM}
 use Rattle.emit.specs.Emitted.{Emits}
 use Rattle.emit.proofs.Laws.{_⨟_, grown, emits-nop}
-use Rattle.records.specs.declared.code.Code.the-variants.{MOVIM}
 use Rattle.trees.specs.Tree.{leaf}
 use Rattle.layout.specs.Config.{HEAP}
 use Rattle.memory.specs.Objects.{storeZeros}

@@ -18,7 +18,7 @@ entry c = c .before .before .before .before .before .before
 abbrev the-k : tie.After-m → tie.After-k
 the-k c = c .before .before .before .before
 
--- what is known once the context, the bindings and the order's first byte are read
+-- what each check that is passed says
 context-good : (c : tie.After-k) → checkedContext (entry c .args .context .now) ≡ Good (c .k .given .0 .0)
 context-good c = sym (c .before .before .check-context .ensures .answer) ∙ c .k .given .1
 
@@ -42,7 +42,10 @@ bad-bindings c =
     bindings-bad _ _ _ _ (context-good (checked .before .before)) _ (sym (checked .check-after .ensures .answer) ∙ told .flaw2 .given .1)
 
 bad-order : tie.Need-returns-3
-bad-order c = let m = c .before .before .before in order-bad _ _ _ _ (context-good (the-k m)) _ (bindings-good m) (sym (c .before .order-starts .ensures) ∙ c .if1 .left)
+bad-order c =
+    let told = c .before in
+    let m = told .before .before in
+    order-bad _ _ _ _ (context-good (the-k m)) _ (bindings-good m) (sym (told .order-starts .ensures) ∙ c .if1 .left)
 
 a-whole-record : tie.Need-order-in-requires
 a-whole-record c κs = order-whole _ (starts c)

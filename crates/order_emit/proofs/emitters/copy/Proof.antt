@@ -1,9 +1,9 @@
 use borrow.Author.Needs.{needs}
 use mathlib.Core.Bool.{cond}
 use native.Mathlib.Omega.{arith}
+use Rattle.records.specs.Contexts.{extAt}
 use Rattle.trees.specs.Tree.{nop}
 use Rattle.emit.proofs.Laws.{_⨟_}
-use Rattle.records.specs.Contexts.{extAt}
 use Rattle.memory.specs.Blocks.{shareBlock}
 use Rattle.memory.specs.Objects.{fst}
 use Rattle.order_check.proofs.Asking.{copies-fit, share-fits}

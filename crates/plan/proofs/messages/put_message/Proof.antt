@@ -1,8 +1,8 @@
 use borrow.Author.Needs.{needs}
 use Rattle.plan.specs.Messages.{message}
-use Rattle.text.proofs.Putting.{_⨟_}
 use Rattle.plan.proofs.messages.put_message.Statement.{statement}
 use Rattle.plan.proofs.messages.put_message.Tie as tie
+use Rattle.text.proofs.Putting.{_⨟_}
 
 pub put-message-spec : {M : Type 1} → statement M
 unfolding message

@@ -1,7 +1,7 @@
 use borrow.Author.Needs.{needs}
 use mathlib.Core.Path.{refl, sym, _∙_}
-use Rattle.emit.proofs.Wrote.{refused}
 use Rattle.records.proofs.ContextsRead.{context-within}
+use Rattle.emit.proofs.Wrote.{refused}
 use Rattle.print_i64.proofs.code.print_i64_in.Statement.{statement}
 use Rattle.print_i64.proofs.code.print_i64_in.Tie as tie
 

@@ -1,9 +1,9 @@
 use borrow.Author.Needs.{needs}
 use mathlib.Core.Path.{refl, sym, _∙_}
 use Rattle.routine.proofs.Assembling.{refused}
-use Rattle.layout.proofs.Placing.{shaped-supported}
 use Rattle.routine.proofs.into_routine.into_x86_64_routine.Statement.{statement}
 use Rattle.routine.proofs.into_routine.into_x86_64_routine.Tie as tie
+use Rattle.layout.proofs.Placing.{shaped-supported}
 
 in-shape : tie.Need-returns
 in-shape c = rw (sym (c .before .before .before .before .before .before .before .shape-of .ensures) ∙ c .before .before .before .before .before .g .given .1) (c .before .before .routine-in .ensures)
