@@ -1,7 +1,7 @@
 -- What an accepted order says of its context, its bindings, its operands and its outputs.
 use Prim.Native.Nat.{ℕ, _+_, _*_, _/_, _≤_}
 use mathlib.Core.Path.{_≡_, refl, sym, ap, _∙_}
-use mathlib.Core.Bool.{Bool, true, false, cond}
+use mathlib.Core.Bool.{true}
 use mathlib.Core.List.{List}
 use lib.Dec.{ltb, leb, eqb}
 use lib.ListN.{length}
@@ -17,9 +17,9 @@ use Rattle.trees.specs.Tree.{Tree, labels, size}
 use Rattle.layout.specs.declared.config.Shape.{Shape}
 use Rattle.layout.specs.Config.{positions}
 use Rattle.order_spec.specs.declared.answer.OrderAnswer.{OrderAnswer}
-use Rattle.order_spec.specs.declared.answer.OrderAnswer.the-variants.{Accepted, Context, Malformed, Frame, Missing, Kind, Count, Position, Labels, Room}
+use Rattle.order_spec.specs.declared.answer.OrderAnswer.the-variants.{Accepted, Context, Malformed, Missing, Kind, Count, Position, Labels, Room}
 use Rattle.order_spec.specs.Writes.{countOk, treeOf, contextAfter, present, kindsOk, asked}
-use Rattle.order_spec.specs.Answered.{Asked, orderAccepted, orderIs, fitting, orderGranted, decided, answerTo, unframedOrder}
+use Rattle.order_spec.specs.Answered.{Asked, orderAccepted, orderIs, fitting, orderGranted, decided, answerTo}
 
 -- the answer to an accepted order of records t and the context after them
 abbrev pub acceptance : Asked → Tree → List ℕ → OrderAnswer
@@ -136,20 +136,3 @@ taken G context q k good e =
   where
     good-same : {j : ℕ} → checked.Good j ≡ checked.Good k → j ≡ k
     good-same e = cc
-
--- no order is accepted where there is no such frame
-pub unframed-refused : (context : List ℕ) (q : Asked) → orderAccepted (unframedOrder context q) ≡ false
-unfolding unframedOrder
-unframed-refused context q =
-    on-any (checkedContext context) _
-    (λ k. on-any (countedOn k (checkedContext (q .bindings))) _ (λ m. read-any (orderStarts (q .order)) (eqb m (wanted (orderIs q))) (eqb (length (q .order)) 24)))
-  where
-    on-any : (c : ContextRead) (f : ℕ → OrderAnswer) → ((k : ℕ) → orderAccepted (f k) ≡ false) → orderAccepted (onContext c f Context) ≡ false
-    on-any (checked.Good k) f h = h k
-    on-any (checked.Bad flaw) f h = refl
-
-    read-any : (a b d : Bool) → orderAccepted (cond a (cond b (cond d Frame (Malformed 2)) (Malformed 1)) (Malformed 1)) ≡ false
-    read-any true true true = refl
-    read-any true true false = refl
-    read-any true false d = refl
-    read-any false b d = refl
