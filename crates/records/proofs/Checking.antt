@@ -9,11 +9,15 @@ use native.Mathlib.Omega.{arith}
 use native.Mathlib.Decide.{ℕ-discrete}
 use lib.Dec.{ltb}
 use lib.ListN.{length, drop, length-drop}
-use borrow.Author.Tests.{lt-ltb, le-ltb, ltb-true}
+use borrow.Author.Tests.{lt-ltb, ltb-true}
 use Rattle.records.specs.declared.check.Checked.{Checked}
 use Rattle.records.specs.declared.check.Checked.the-variants.{Good, Malformed}
 use Rattle.records.specs.Checked.{firstBad, places, checked}
 use Rattle.records.proofs.Conditions.{both}
+
+not-both : (a b : Bool) → (a ≡ true → b ≡ false) → a && b ≡ false
+not-both true b r = r refl
+not-both false b r = refl
 
 module _ (ok : List ℕ → Bool) (size limit : ℕ) (s : List ℕ) where
   pub begun : checked ok size limit s ≡ firstBad ok size limit s 0 (places size s - 0)
@@ -26,9 +30,12 @@ module _ (ok : List ℕ → Bool) (size limit : ℕ) (s : List ℕ) where
     unfolding firstBad
     turn h l e t = let m : n - k ≡ suc (n - (k + 1)) = omega arith in so-far ∙ rw (m, add-one, lt-ltb k limit l, ← here, ← e, t)
 
-    pub surplus : k < n → limit ≤ k → Malformed (k + 1) ≡ all
+    -- past the limit, or not whole
+    pub left-over : k < n → (k < limit → ok (drop i s) ≡ false) → Malformed (k + 1) ≡ all
     unfolding firstBad
-    surplus h l = let m : n - k ≡ suc (n - (k + 1)) = omega arith in rw (so-far, m, add-one, le-ltb k limit l)
+    left-over h r =
+        let m : n - k ≡ suc (n - (k + 1)) = omega arith in
+        rw (so-far, m, add-one, ← here, not-both (ltb k limit) (ok (drop i s)) (λ t. r (ltb-true k limit t)))
 
     pub bad : {b : Bool} → k < n → k < limit → b ≡ ok (drop i s) → b ≡ false → Malformed (k + 1) ≡ all
     unfolding firstBad

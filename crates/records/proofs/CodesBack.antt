@@ -1,7 +1,7 @@
 -- An instruction written as a record and read back, and a record read as an instruction and written again.
-use Prim.Native.Nat.{ℕ, _-_, _/_, _%_, _≤_}
+use Prim.Native.Nat.{ℕ, _≤_}
 use mathlib.Core.Path.{_≡_, refl, _∙_}
-use mathlib.Core.Bool.{Bool, true, _&&_}
+use mathlib.Core.Bool.{Bool, true, _&&_, _||_}
 use mathlib.Core.List.{List, _++_}
 use native.Mathlib.Omega.{arith}
 use lib.Dec.{leb, ltb, eqb}
@@ -18,12 +18,15 @@ use Rattle.records.proofs.Conditions.{and-right, both}
 use Rattle.records.proofs.CodesRead.{ok-code}
 use Rattle.records.proofs.Digits.{number-le, le-number, first-four}
 use Rattle.records.proofs.Joined.{Laws}
-use Rattle.records.proofs.Uses.{usesTable}
 use Rattle.records.proofs.Kept.{kept, kept-whole, kept-last, read-at}
 
--- whether a code uses a label
+-- the codes that use a label: jmpl to leal, the six conditional jumps, call, lab, global and extern
+abbrev labels : ℕ → Bool
+labels code = (leb 17 code && leb code 19) || (leb 30 code && leb code 35) || eqb code 38 || eqb code 40 || leb 43 code
+
+-- whether an instruction uses a label
 abbrev pub labelled : Code → Bool
-labelled c = eqb (getD usesTable (fieldsOf c .code - 1) 0 / 4 % 2) 1
+labelled c = labels (fieldsOf c .code)
 
 -- an instruction is that of its fields, which are well formed by their bounds: what its code does not use is zero in its record
 code-facts : (c : Code) → (codeOf (fieldsOf c) ≡ c) × (fieldsOk (fieldsOf c) ≡ ltb (fieldsOf c .a) 16 && ltb (fieldsOf c .b) 16 && labelOk (labelled c) (fieldsOf c .label) && true && true)

@@ -1,4 +1,4 @@
--- Conditions joined by `&&`, a condition that is true and false, and choices: what both parts have, and of which one part is a refusal.
+-- Conditions joined by `&&`, a condition that is true and false, two that agree, and choices: what both parts have, and of which one part is a refusal.
 use mathlib.Core.Path.{_≡_, refl, sym, _∙_}
 use mathlib.Core.Bool.{Bool, true, false, false≢true, _&&_, cond}
 
@@ -16,6 +16,12 @@ and-right false false e = e
 
 pub both : (a b : Bool) → a && b ≡ true → (a ≡ true) × (b ≡ true)
 both a b e = (and-left a b e, and-right a b e)
+
+-- two conditions that follow from each other
+pub agree : (a b : Bool) → (a ≡ true → b ≡ true) → (b ≡ true → a ≡ true) → a ≡ b
+agree true b f g = sym (f refl)
+agree false true f g = g refl
+agree false false f g = refl
 
 -- what is so of both parts of a choice is so of the choice
 pub both-ways : {A : Type 0} (P : A → Type 0) (b : Bool) {x y : A} → P x → P y → P (cond b x y)

@@ -1,9 +1,9 @@
 -- A context that is checked: what a turn of the check keeps, what each end of it answers, and what an accepted context is.
 use Prim.Native.Nat.{ℕ, zero, suc, _+_, _*_, _-_, _/_, _%_, _≤_, _<_}
-use mathlib.Core.Path.{_≡_, refl, _∙_}
+use mathlib.Core.Path.{_≡_, refl, sym, _∙_}
 use mathlib.Core.Bool.{Bool, true, false, _&&_, cond}
 use mathlib.Core.List.{List}
-use native.Mathlib.Nat.{zero-add, add-comm, mul-suc}
+use native.Mathlib.Nat.{zero-add, add-zero, add-comm, mul-suc}
 use native.Mathlib.Numerals.{add-one}
 use native.Mathlib.Omega.{arith}
 use lib.Dec.{leb, eqb}
@@ -14,8 +14,10 @@ use Rattle.records.specs.declared.context.Flaw.{Flaw}
 use Rattle.records.specs.declared.context.Flaw.the-variants.{Length, Mark, Kind}
 use Rattle.records.specs.declared.context.ContextRead.{ContextRead}
 use Rattle.records.specs.declared.context.ContextRead.the-variants.{Good, Bad}
+use Rattle.records.specs.Bytes.{number}
 use Rattle.records.specs.Contexts.{marked, kindOk, bindingStarts, firstFlaw, lengthOk, countedOn, checkedContext}
-use Rattle.records.proofs.Conditions.{both}
+use Rattle.records.proofs.Conditions.{both, agree}
+use Rattle.records.proofs.Numbers.{number-drop}
 use Rattle.records.proofs.Starting.{first-byte}
 
 module _ (s : List ℕ) (i : ℕ) where
@@ -25,11 +27,62 @@ module _ (s : List ℕ) (i : ℕ) where
   pub unmarked : (getD s i 0 ≡ 0xA7 → ⊥) → false ≡ marked (drop i s)
   unmarked n = rw (first-byte s i, ne-eqb (getD s i 0) 0xA7 n)
 
-  pub zero-byte : getD s (i + 2) 0 ≤ 1 → eqb (getD s (i + 3) 0) 0 ≡ kindOk (drop i s)
-  zero-byte h = rw (getD-drop i s 2 0, getD-drop i s 3 0, le-leb (getD s (i + 2) 0) 1 h)
+abbrev formed : List ℕ → Bool
+formed s = marked s && kindOk s
 
-  pub kindless : 1 < getD s (i + 2) 0 → false ≡ kindOk (drop i s)
-  kindless h = rw (getD-drop i s 2 0, lt-leb (getD s (i + 2) 0) 1 h)
+-- the halves of the first four bytes, as a number: the mark, and the kind with the zero byte
+module _ (s : List ℕ) (byte : (j : ℕ) → getD s j 0 < 256) where
+  low-half : eqb (number 4 s 0 % 65536) 0x1A7 ≡ marked s
+  unfolding number
+  low-half = agree (eqb (number 4 s 0 % 65536) 0x1A7) (marked s) there back
+    where
+      there : eqb (number 4 s 0 % 65536) 0x1A7 ≡ true → marked s ≡ true
+      there t =
+          let e = eqb-true (number 4 s 0 % 65536) 0x1A7 t in
+          let b = byte 0 in
+          let c = byte 1 in
+          rw (eq-eqb (getD s 0 0) 0xA7 (omega arith), eq-eqb (getD s 1 0) 0x01 (omega arith))
+
+      back : marked s ≡ true → eqb (number 4 s 0 % 65536) 0x1A7 ≡ true
+      back t =
+          let m = both (eqb (getD s 0 0) 0xA7) (eqb (getD s 1 0) 0x01) t in
+          let e = eqb-true (getD s 0 0) 0xA7 (m .0) in
+          let f = eqb-true (getD s 1 0) 0x01 (m .1) in
+          eq-eqb (number 4 s 0 % 65536) 0x1A7 (omega arith)
+
+  high-half : leb (number 4 s 0 / 65536) 1 ≡ kindOk s
+  unfolding number
+  high-half = agree (leb (number 4 s 0 / 65536) 1) (kindOk s) there back
+    where
+      there : leb (number 4 s 0 / 65536) 1 ≡ true → kindOk s ≡ true
+      there t =
+          let e = leb-true (number 4 s 0 / 65536) 1 t in
+          rw (le-leb (getD s 2 0) 1 (omega arith), eq-eqb (getD s 3 0) 0 (omega arith))
+
+      back : kindOk s ≡ true → leb (number 4 s 0 / 65536) 1 ≡ true
+      back t =
+          let k = both (leb (getD s 2 0) 1) (eqb (getD s 3 0) 0) t in
+          let e = leb-true (getD s 2 0) 1 (k .0) in
+          let f = eqb-true (getD s 3 0) 0 (k .1) in
+          let b = byte 0 in
+          let c = byte 1 in
+          le-leb (number 4 s 0 / 65536) 1 (omega arith)
+
+module _ (s : List ℕ) (i : ℕ) (byte : (j : ℕ) → getD s j 0 < 256) {n : ℕ} (e : n ≡ number 4 s i) where
+  same-head : number 4 (drop i s) 0 ≡ n
+  same-head = number-drop s i 4 0 ∙ rw add-zero (sym e)
+
+  by-mark : eqb (n % 65536) 0x1A7 ≡ marked (drop i s)
+  by-mark = rw same-head at (low-half (drop i s) (λ j. rw getD-drop (byte (i + j))))
+
+  by-kind : leb (n / 65536) 1 ≡ kindOk (drop i s)
+  by-kind = rw same-head at (high-half (drop i s) (λ j. rw getD-drop (byte (i + j))))
+
+  pub mark-missing : (n % 65536 ≡ 0x1A7 → ⊥) → false ≡ formed (drop i s)
+  mark-missing f = rw (← by-mark, ne-eqb (n % 65536) 0x1A7 f)
+
+  pub mark-there : n % 65536 ≡ 0x1A7 → leb (n / 65536) 1 ≡ formed (drop i s)
+  mark-there f = rw (← by-mark, eq-eqb (n % 65536) 0x1A7 f) by-kind
 
 pub after-next : (s : List ℕ) (k : ℕ) → drop 8 (drop (8 * k) s) ≡ drop (8 * (k + 1)) s
 after-next s k = rw (drop-drop, add-one, mul-suc)
@@ -45,14 +98,20 @@ module _ (before : ℕ) (s : List ℕ) (k n : ℕ) {all : ContextRead} (so-far :
     unfolding firstFlaw
     bad-mark t = let m : n - k ≡ suc (n - (k + 1)) = omega arith in rw (so-far, m, add-one, ← e, t)
 
-    module _ (t : b ≡ true) {c : Bool} (f : c ≡ kindOk (drop (8 * k) s)) where
-      pub bad-kind : c ≡ false → Bad (Kind (before + (k + 1))) ≡ all
-      unfolding firstFlaw
-      bad-kind u = let m : n - k ≡ suc (n - (k + 1)) = omega arith in rw (so-far, m, add-one, ← e, t, ← f, u)
+    pub bad-kind : {c : Bool} → b ≡ true → c ≡ formed (drop (8 * k) s) → c ≡ false → Bad (Kind (before + (k + 1))) ≡ all
+    unfolding firstFlaw
+    bad-kind t f u =
+        let m : n - k ≡ suc (n - (k + 1)) = omega arith in
+        let q = rw (← e, t) at (sym f ∙ u) in
+        rw (so-far, m, add-one, ← e, t, q)
 
-      pub turn : c ≡ true → all ≡ countedOn before (firstFlaw (k + 1) (n - (k + 1)) (drop (8 * (k + 1)) s))
-      unfolding firstFlaw
-      turn u = let m : n - k ≡ suc (n - (k + 1)) = omega arith in so-far ∙ rw (m, ← e, t, ← f, u, after-next, add-one)
+  pub turn : {c : Bool} → k < n → c ≡ formed (drop (8 * k) s) → c ≡ true
+      → all ≡ countedOn before (firstFlaw (k + 1) (n - (k + 1)) (drop (8 * (k + 1)) s))
+  unfolding firstFlaw
+  turn h f u =
+      let m : n - k ≡ suc (n - (k + 1)) = omega arith in
+      let p = both (marked (drop (8 * k) s)) (kindOk (drop (8 * k) s)) (sym f ∙ u) in
+      so-far ∙ rw (m, p .0, p .1, after-next, add-one)
 
 -- the length comes first
 module _ (before : ℕ) (s : List ℕ) where
@@ -97,9 +156,6 @@ no-flaw false c x f h e = (cc, cc)
 length-passed : (b : Bool) (x : ContextRead) {m : ℕ} → cond b x (Bad Length) ≡ Good m → (b ≡ true) × (x ≡ Good m)
 length-passed true x e = (refl, e)
 length-passed false x e = (cc, cc)
-
-abbrev formed : List ℕ → Bool
-formed s = marked s && kindOk s
 
 -- a check that ends well
 passes : (s : List ℕ) (k n m : ℕ) → firstFlaw k n s ≡ Good m → (m ≡ k + n) × ((i : ℕ) → i < n → formed (drop (8 * i) s) ≡ true)

@@ -1,10 +1,10 @@
 pub mod Answers  -- an answer that is the one expected
 pub mod Table  -- a table's rule, from one computed test over its entries
-pub mod Conditions  -- conditions joined by `&&`, one that is true and false, and choices: what both parts have, and of which one part is a refusal
+pub mod Conditions  -- conditions joined by `&&`, one that is true and false, two that agree, and choices: what both parts have, and of which one part is a refusal
 pub mod Matched  -- a number that is none of those that a `match` names
 pub mod Numbers  -- a number's bytes read one by one, in two halves, and from a part of a list
 pub mod Starting  -- what stands at the start of a part of a list
-pub mod Uses  -- which fields each code uses
+pub mod Uses  -- each field by the largest value that its code's use of it allows
 pub mod Storing  -- stores one after the other are one
 pub mod Copying  -- bytes copied one after the other
 pub mod Checking  -- the turns and the ends of a check of a list

@@ -1,45 +1,32 @@
 -- An order that is read or written: which fields it uses, its parts in bytes, and the answer.
-use Prim.Native.Nat.{ℕ, suc, _+_, _-_, _≤_, _<_}
-use mathlib.Core.Path.{_≡_, _∙_}
-use mathlib.Core.Bool.{Bool, true, false, _&&_}
+use Prim.Native.Nat.{ℕ, zero, suc, _+_, _-_, _≤_, _<_}
+use mathlib.Core.Path.{_≡_, refl, _∙_}
+use mathlib.Core.Bool.{Bool, true, false, _&&_, cond}
 use mathlib.Core.List.{List, [], _∷_, _++_}
 use native.Mathlib.Omega.{arith}
-use lib.Dec.{T, leb, ltb, eqb, eqb→eq}
+use lib.Dec.{leb, ltb, eqb, leb→le, leb·suc-suc}
 use lib.ListN.{length, getD}
 use lib.Seq.{sets}
-use borrow.Author.Tests.{eq-eqb, ne-eqb, le-leb, lt-leb, lt-ltb, le-ltb, leb-true}
+use borrow.Author.Tests.{eq-eqb, ne-eqb, le-leb, lt-leb, leb-true}
 use Rattle.records.specs.declared.order.Order.{Order}
 use Rattle.records.specs.declared.order.OrderFields.{OrderFields}
+use Rattle.records.specs.declared.order.OrderStart.the-variants as start
 use Rattle.records.specs.declared.order.OrderRead.the-variants.{Whole, Malformed}
 use Rattle.records.specs.Bytes.{le, stored}
-use Rattle.records.specs.Orders.{orderReaders, orderOf, flags, usedByOrder, orderBits, orderOperandsOk, orderOk, orderBytes, orderIn, orderStarts, orderRead}
+use Rattle.records.specs.Orders.{orderOf, flags, usedByOrder, largestInOrder, orderOperandsOk, orderOk, orderBytes, orderIn, orderStarts, orderStart, orderRead}
 use Rattle.records.proofs.Conditions.{and-left, and-right}
 use Rattle.records.proofs.Storing.{sets-then, stored-whole, stored-nothing}
 use Rattle.records.proofs.Table.{at}
-use Rattle.records.proofs.Uses.{also}
+use Rattle.records.proofs.Uses.{word-most}
 
-abbrev pub orderUses : List ℕ
-orderUses = 8 ∷ 3 ∷ 5 ∷ 0 ∷ 12 ∷ 4 ∷ 1 ∷ []
-
-same : OrderFields → OrderFields → Bool
-same u v = eqb (u .a) (v .a) && (eqb (u .b) (v .b) && (eqb (u .n) (v .n) && eqb (u .value) (v .value)))
-
-same-uses : (u v f : OrderFields) → T (same u v) → orderOperandsOk u f ≡ orderOperandsOk v f
-unfolding same orderOperandsOk
-same-uses u v f t =
-    let r₀ = also (u .a) (v .a) _ t in
-    let r₁ = also (u .b) (v .b) _ (r₀ .1) in
-    let r₂ = also (u .n) (v .n) _ (r₁ .1) in
-    rw (r₀ .0, r₁ .0, r₂ .0, eqb→eq (u .value) (v .value) (r₂ .1))
-
-right : ℕ → ℕ → Bool
-right k m = same (orderBits (suc k) m) (usedByOrder (suc k))
-
-table-uses : (code : ℕ) (f : OrderFields) → 1 ≤ code → code ≤ 7 → orderOperandsOk (orderBits code (getD orderUses (code - 1) 0)) f ≡ orderOperandsOk (usedByOrder code) f
-unfolding right same usedByOrder orderOf orderReaders
-table-uses code f l h =
-    let e : suc (code - 1) ≡ code = omega arith in
-    rw e at (same-uses (orderBits (suc (code - 1)) (getD orderUses (code - 1) 0)) (usedByOrder (suc (code - 1))) f (at right orderUses tt (code - 1) (omega arith)))
+-- each code has a flag, so that one below their number is at most the last
+flag-most : (code flag : ℕ) → 1 ≤ code → code ≤ 7 → ltb flag (getD flags (code - 1) 0) ≡ leb flag (getD flags (code - 1) 0 - 1)
+flag-most code flag l h =
+    below (getD flags (code - 1) 0) (leb→le 1 (getD flags (code - 1) 0) (at (λ k x. leb 1 x) flags tt (code - 1) (omega arith)))
+  where
+    below : (n : ℕ) → 1 ≤ n → ltb flag n ≡ leb flag (n - 1)
+    below zero p = absurd (omega arith)
+    below (suc n) p = let e : suc n - 1 ≡ n = omega arith in rw e (leb·suc-suc flag n)
 
 module _ (f : OrderFields) where
   pub code-zero : f .code ≡ 0 → false ≡ orderOk f
@@ -50,16 +37,24 @@ module _ (f : OrderFields) where
   unfolding orderOk
   code-above h = rw (le-leb 1 (f .code) (omega arith), lt-leb (f .code) 7 h)
 
-  module _ (nz : f .code ≡ 0 → ⊥) (h : f .code ≤ 7) where
-    pub flag-above : getD flags (f .code - 1) 0 ≤ f .flag → false ≡ orderOk f
-    unfolding orderOk
-    flag-above n = rw (le-leb 1 (f .code) (omega arith), le-leb (f .code) 7 h, le-ltb (f .flag) (getD flags (f .code - 1) 0) n)
-
-    pub code-listed : {b : Bool} → f .flag < getD flags (f .code - 1) 0 → b ≡ orderOperandsOk (orderBits (f .code) (getD orderUses (f .code - 1) 0)) f → b ≡ orderOk f
-    unfolding orderOk
-    code-listed n e =
-        let l : 1 ≤ f .code = omega arith in
-        rw (le-leb 1 (f .code) l, le-leb (f .code) 7 h, lt-ltb (f .flag) (getD flags (f .code - 1) 0) n, ← (table-uses (f .code) f l h)) e
+  -- where m has the largest values
+  pub by-most : {m : OrderFields} → (f .code ≡ 0 → ⊥) → f .code ≤ 7 → m ≡ largestInOrder (f .code)
+      → f .a ≤ 4294967295 → f .b ≤ 4294967295 → f .n ≤ 4294967295 → f .value ≤ 18446744073709551615
+      → orderOk f ≡ (leb (f .flag) (m .flag) && (leb (f .a) (m .a) && leb (f .b) (m .b) && leb (f .n) (m .n) && leb (f .value) (m .value)))
+  unfolding orderOk orderOperandsOk largestInOrder
+  by-most nz h e af bf nf vf =
+      let u = usedByOrder (f .code) in
+      let l : 1 ≤ f .code = omega arith in
+      rw (
+        e,
+        le-leb 1 (f .code) l,
+        le-leb (f .code) 7 h,
+        flag-most (f .code) (f .flag) l h,
+        word-most (eqb (u .a) 1) (f .a) 4294967295 af,
+        word-most (eqb (u .b) 1) (f .b) 4294967295 bf,
+        word-most (eqb (u .n) 1) (f .n) 4294967295 nf,
+        word-most (eqb (u .value) 1) (f .value) 18446744073709551615 vf,
+      )
 
   pub ok-code : orderOk f ≡ true → (1 ≤ f .code) × (f .code ≤ 7)
   unfolding orderOk
@@ -92,17 +87,41 @@ module _ (s : List ℕ) where
     unfolding orderStarts
     marked m z q e = rw (le-leb 24 (length s) h, eq-eqb (getD s 0 0) 0xA8 m, eq-eqb (getD s 3 0) 0 z, ← q) e
 
-  pub read-bad : {b : Bool} → b ≡ orderStarts s → b ≡ false → Malformed 1 ≡ orderRead s
-  unfolding orderRead
-  read-bad e t = rw (← e, t)
+  pub not-started : false ≡ orderStarts s → start.Malformed ≡ orderStart s
+  unfolding orderStart
+  not-started e = rw (← e)
 
-  pub read-surplus : {b : Bool} → b ≡ orderStarts s → b ≡ true → (length s ≡ 24 → ⊥) → Malformed 2 ≡ orderRead s
-  unfolding orderRead
-  read-surplus e t n = rw (← e, t, ne-eqb (length s) 24 n)
+  pub started : {o : Order} {f : OrderFields} → true ≡ orderStarts s → f ≡ orderIn s → o ≡ orderOf f → start.Starts o ≡ orderStart s
+  unfolding orderStart
+  started e q p = rw (← e, p, q)
 
-  pub read-whole : {o : Order} {f : OrderFields} {b : Bool} → b ≡ orderStarts s → b ≡ true → length s ≡ 24 → f ≡ orderIn s → o ≡ orderOf f → Whole o ≡ orderRead s
+  pub told : {o : Order} → orderStart s ≡ start.Starts o → (orderStarts s ≡ true) × (o ≡ orderOf (orderIn s))
+  unfolding orderStart
+  told {o} e = by (orderStarts s) e
+    where
+      by : (b : Bool) → cond b (start.Starts (orderOf (orderIn s))) start.Malformed ≡ start.Starts o → (b ≡ true) × (o ≡ orderOf (orderIn s))
+      by true e = (refl, cc)
+      by false e = (cc, cc)
+
+  pub none-told : orderStart s ≡ start.Malformed → orderStarts s ≡ false
+  unfolding orderStart
+  none-told e = by (orderStarts s) e
+    where
+      by : (b : Bool) → cond b (start.Starts (orderOf (orderIn s))) start.Malformed ≡ start.Malformed → b ≡ false
+      by true e = cc
+      by false e = refl
+
+  pub read-bad : orderStarts s ≡ false → Malformed 1 ≡ orderRead s
   unfolding orderRead
-  read-whole e t n q p = rw (← e, t, eq-eqb (length s) 24 n, p, q)
+  read-bad t = rw t
+
+  pub read-surplus : orderStarts s ≡ true → (length s ≡ 24 → ⊥) → Malformed 2 ≡ orderRead s
+  unfolding orderRead
+  read-surplus t n = rw (t, ne-eqb (length s) 24 n)
+
+  pub read-whole : {o : Order} → orderStarts s ≡ true → o ≡ orderOf (orderIn s) → length s ≡ 24 → Whole o ≡ orderRead s
+  unfolding orderRead
+  read-whole t p n = rw (t, eq-eqb (length s) 24 n, p)
 
 -- the five parts of an order
 module _ (o : List ℕ) (i : ℕ) (f : OrderFields) where

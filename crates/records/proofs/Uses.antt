@@ -1,49 +1,46 @@
--- Which fields each code uses: the table agrees with the instructions' own records, by one computed test.
-use Prim.Native.Nat.{ℕ, suc, _-_, _<_, _≤_}
-use mathlib.Core.Path.{_≡_}
-use mathlib.Core.Bool.{Bool, false, _&&_}
-use mathlib.Core.List.{List, [], _∷_}
+-- Each field as its code uses it, told by the largest value that it may hold.
+use Prim.Native.Nat.{ℕ, zero, suc, _≤_, _<_}
+use mathlib.Core.Path.{_≡_, refl, sym}
+use mathlib.Core.Bool.{Bool, true, false, _&&_, cond}
 use native.Mathlib.Omega.{arith}
-use lib.Dec.{T, eqb, eqb→eq}
-use lib.ListN.{getD}
+use lib.Dec.{leb, eqb, leb·suc-suc, leb·suc-zero, eqb·suc-zero}
 use borrow.Author.Tests.{le-leb, lt-leb}
 use Rattle.records.specs.declared.code.Fields.{Fields}
-use Rattle.records.specs.Codes.{fields, readers, codeOf}
-use Rattle.records.specs.Instructions.{used, bitsOf, operandsOk, fieldsOk}
-use Rattle.records.proofs.Table.{both-left, both-right, at}
+use Rattle.records.specs.Instructions.{used, registerOk, labelOk, wordOk, largest, labelWithin, operandsOk, fieldsOk}
 
-abbrev pub usesTable : List ℕ
-usesTable = 3 ∷ 11 ∷ 11 ∷ 17 ∷ 25 ∷ 3 ∷ 11 ∷ 11 ∷ 17 ∷ 3 ∷ 11 ∷ 11 ∷ 1 ∷ 9 ∷ 0 ∷ 1 ∷ 4 ∷ 4 ∷ 5 ∷ 3 ∷ 11 ∷ 11 ∷ 17 ∷ 25 ∷ 3 ∷ 11 ∷ 11 ∷ 17 ∷ 25 ∷ 4 ∷ 4 ∷ 4 ∷ 4 ∷ 4 ∷ 4 ∷ 1 ∷ 1 ∷ 4 ∷ 0 ∷ 4 ∷ 0 ∷ 0 ∷ 4 ∷ 4 ∷ []
+zero-most : (x : ℕ) → eqb x 0 ≡ leb x 0
+zero-most zero = refl
+zero-most (suc x) = rw (eqb·suc-zero x, leb·suc-zero x)
 
-pub also : (m n : ℕ) (b : Bool) → T (eqb m n && b) → (m ≡ n) × T b
-also m n b t = (eqb→eq m n (both-left (eqb m n) b t), both-right (eqb m n) b t)
+register-most : (b : Bool) (r : ℕ) → registerOk b r ≡ leb r (cond b 15 0)
+register-most true r = leb·suc-suc r 15
+register-most false r = zero-most r
 
--- two records, field by field
-same : Fields → Fields → Bool
-same f g = eqb (f .code) (g .code) && (eqb (f .a) (g .a) && (eqb (f .b) (g .b) && (eqb (f .label) (g .label) && (eqb (f .offset) (g .offset) && eqb (f .value) (g .value)))))
+pub word-most : (b : Bool) (w most : ℕ) → w ≤ most → wordOk b w ≡ leb w (cond b most 0)
+word-most true w most h = sym (le-leb w most h)
+word-most false w most h = zero-most w
 
-same-fields : (f g : Fields) → T (same f g) → f ≡ g
-unfolding same
-same-fields f g t =
-    let r₀ = also (f .code) (g .code) _ t in
-    let r₁ = also (f .a) (g .a) _ (r₀ .1) in
-    let r₂ = also (f .b) (g .b) _ (r₁ .1) in
-    let r₃ = also (f .label) (g .label) _ (r₂ .1) in
-    let r₄ = also (f .offset) (g .offset) _ (r₃ .1) in
-    alike (r₀ .0) (r₁ .0) (r₂ .0) (r₃ .0) (r₄ .0) (eqb→eq (f .value) (g .value) (r₄ .1))
-  where
-    alike : f .code ≡ g .code → f .a ≡ g .a → f .b ≡ g .b → f .label ≡ g .label → f .offset ≡ g .offset → f .value ≡ g .value
-        → fields (f .code) (f .a) (f .b) (f .label) (f .offset) (f .value) ≡ fields (g .code) (g .a) (g .b) (g .label) (g .offset) (g .value)
-    alike e₀ e₁ e₂ e₃ e₄ e₅ = rw (e₀, e₁, e₂, e₃, e₄, e₅)
+label-most : (b : Bool) (l : ℕ) → l ≤ 4294967295 → labelOk b l ≡ labelWithin (cond b 4294967295 0) l
+label-most true zero h = refl
+label-most true (suc l) h = rw (eqb·suc-zero l, le-leb (suc l) 4294967295 h, le-leb 1 (suc l) (omega arith))
+label-most false zero h = refl
+label-most false (suc l) h = rw (eqb·suc-zero l, leb·suc-zero l)
 
-right : ℕ → ℕ → Bool
-right k m = same (bitsOf (suc k) m) (used (suc k))
-
-pub table-uses : (code : ℕ) → 1 ≤ code → code ≤ 44 → bitsOf code (getD usesTable (code - 1) 0) ≡ used code
-unfolding right same used codeOf readers
-table-uses code l h =
-    let e : suc (code - 1) ≡ code = omega arith in
-    rw e at (same-fields (bitsOf (suc (code - 1)) (getD usesTable (code - 1) 0)) (used (suc (code - 1))) (at right usesTable tt (code - 1) (omega arith)))
+-- the operands of f, where m has the largest values
+module _ (u f : Fields) {m : Fields} (e : m ≡ largest u) where
+  pub by-most : f .label ≤ 4294967295 → f .offset ≤ 18446744073709551615 → f .value ≤ 18446744073709551615
+      → operandsOk u f
+      ≡ (leb (f .a) (m .a) && leb (f .b) (m .b) && labelWithin (m .label) (f .label) && leb (f .offset) (m .offset) && leb (f .value) (m .value))
+  unfolding operandsOk largest
+  by-most lf of vf =
+      rw (
+        e,
+        register-most (eqb (u .a) 1) (f .a),
+        register-most (eqb (u .b) 1) (f .b),
+        label-most (eqb (u .label) 1) (f .label) lf,
+        word-most (eqb (u .offset) 1) (f .offset) 18446744073709551615 of,
+        word-most (eqb (u .value) 1) (f .value) 18446744073709551615 vf,
+      )
 
 module _ (f : Fields) where
   pub code-zero : f .code ≡ 0 → false ≡ fieldsOk f
@@ -54,8 +51,6 @@ module _ (f : Fields) where
   unfolding fieldsOk
   code-above h = rw (le-leb 1 (f .code) (omega arith), lt-leb (f .code) 44 h)
 
-  pub code-listed : {b : Bool} → (f .code ≡ 0 → ⊥) → f .code ≤ 44 → b ≡ operandsOk (bitsOf (f .code) (getD usesTable (f .code - 1) 0)) f → b ≡ fieldsOk f
+  pub code-listed : {b : Bool} → (f .code ≡ 0 → ⊥) → f .code ≤ 44 → b ≡ operandsOk (used (f .code)) f → b ≡ fieldsOk f
   unfolding fieldsOk
-  code-listed n h e =
-      let l : 1 ≤ f .code = omega arith in
-      rw (le-leb 1 (f .code) l, le-leb (f .code) 44 h, ← (table-uses (f .code) l h)) e
+  code-listed n h e = rw (le-leb 1 (f .code) (omega arith), le-leb (f .code) 44 h) e

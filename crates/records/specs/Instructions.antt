@@ -1,5 +1,5 @@
 -- Instruction records: their 24 bytes, which are well formed, and what is read from them. From the scope, 'Instruction record'.
-use Prim.Native.Nat.{ℕ, suc, _*_, _/_, _%_, min}
+use Prim.Native.Nat.{ℕ, suc, _*_, _%_, min}
 use mathlib.Core.Bool.{Bool, true, not, _&&_, _||_, cond}
 use mathlib.Core.List.{List, [], _∷_, _++_}
 use lib.Dec.{leb, ltb, eqb}
@@ -26,17 +26,16 @@ fieldsIn s = fields (getD s 1 0) (getD s 2 0) (getD s 3 0) (number 4 s 4) (numbe
 unfoldable pub used : ℕ → Fields
 used code = fieldsOf (codeOf (fields code 1 1 1 1 1))
 
--- the same as a number's bits: 1 a, 2 b, 4 label, 8 offset, 16 value
-abbrev pub bitsOf : ℕ → ℕ → Fields
-bitsOf code m = fields code (m % 2) (m / 2 % 2) (m / 4 % 2) (m / 8 % 2) (m / 16 % 2)
-
 -- a register is 0 to 15; one that is not used is zero
 abbrev pub registerOk : Bool → ℕ → Bool
 registerOk uses r = cond uses (ltb r 16) (eqb r 0)
 
 -- a label is not 0 and not 2^31 plus 4..15
+abbrev pub outsideUnnamed : ℕ → Bool
+outsideUnnamed l = ltb l firstUnnamed || ltb lastUnnamed l
+
 abbrev pub labelHeld : ℕ → Bool
-labelHeld l = not (eqb l 0) && (ltb l firstUnnamed || ltb lastUnnamed l)
+labelHeld l = not (eqb l 0) && outsideUnnamed l
 
 abbrev pub labelOk : Bool → ℕ → Bool
 labelOk uses l = cond uses (labelHeld l) (eqb l 0)
@@ -44,6 +43,20 @@ labelOk uses l = cond uses (labelHeld l) (eqb l 0)
 -- an offset or a value is any 64 bits
 abbrev pub wordOk : Bool → ℕ → Bool
 wordOk uses w = cond uses true (eqb w 0)
+
+-- the largest value of a field, where u is 1 if it is used
+abbrev pub mostIf : ℕ → ℕ → ℕ
+mostIf u most = cond (eqb u 1) most 0
+
+-- the largest value of each field, where u has a 1 in those that are used: 15 in a register, and all bits set in the others
+unfoldable pub largest : Fields → Fields
+largest u =
+    fields (u .code) (mostIf (u .a) 15) (mostIf (u .b) 15) (mostIf (u .label) 4294967295)
+    (mostIf (u .offset) 18446744073709551615) (mostIf (u .value) 18446744073709551615)
+
+-- a label by the largest value of its field: 0 where that is 0; else that is odd, and the label is not 0
+abbrev pub labelWithin : ℕ → ℕ → Bool
+labelWithin most l = leb l most && leb (most % 2) l && outsideUnnamed l
 
 -- each field as its use asks, where u has a 1 in those that are used
 unfoldable pub operandsOk : Fields → Fields → Bool

@@ -1,5 +1,5 @@
 -- Order records: what each order's record holds, its 24 bytes, and which are well formed. From the scope, 'Order record'.
-use Prim.Native.Nat.{ℕ, _-_, _/_, _%_}
+use Prim.Native.Nat.{ℕ, _-_}
 use mathlib.Core.Bool.{Bool, true, false, _&&_, cond}
 use mathlib.Core.List.{List, [], _∷_, _++_}
 use lib.Dec.{leb, ltb, eqb}
@@ -10,10 +10,12 @@ use Rattle.records.specs.declared.order.Calculation.the-variants.{Add, S
 use Rattle.records.specs.declared.order.Order.{Order}
 use Rattle.records.specs.declared.order.Order.the-variants.{Put, Compute, Copy, Drop, Store, Load, Print}
 use Rattle.records.specs.declared.order.OrderFields.{OrderFields}
+use Rattle.records.specs.declared.order.OrderStart.{OrderStart}
+use Rattle.records.specs.declared.order.OrderStart.the-variants as start
 use Rattle.records.specs.declared.order.OrderRead.{OrderRead}
 use Rattle.records.specs.declared.order.OrderRead.the-variants.{Whole, Malformed}
 use Rattle.records.specs.Bytes.{le, number}
-use Rattle.records.specs.Instructions.{wordOk}
+use Rattle.records.specs.Instructions.{wordOk, mostIf}
 
 -- an order's fields: code, flag, a, b, n, value
 abbrev pub orderFields : ℕ → ℕ → ℕ → ℕ → ℕ → ℕ → OrderFields
@@ -69,9 +71,12 @@ flags = 1 ∷ 5 ∷ 1 ∷ 1 ∷ 1 ∷ 1 ∷ 2 ∷ []
 unfoldable pub usedByOrder : ℕ → OrderFields
 usedByOrder code = orderFieldsOf (orderOf (orderFields code 1 1 1 1 1))
 
--- the same as a number's bits: 1 a, 2 b, 4 n, 8 value
-abbrev pub orderBits : ℕ → ℕ → OrderFields
-orderBits code m = orderFields code 0 (m % 2) (m / 2 % 2) (m / 4 % 2) (m / 8 % 2)
+-- the largest value of each field of an order with a code from 1 to 7: its last flag, and all bits set in the others that it uses
+unfoldable pub largestInOrder : ℕ → OrderFields
+largestInOrder code =
+    let u = usedByOrder code in
+    orderFields code (getD flags (code - 1) 0 - 1) (mostIf (u .a) 4294967295) (mostIf (u .b) 4294967295) (mostIf (u .n) 4294967295)
+    (mostIf (u .value) 18446744073709551615)
 
 -- each field but the flag as its use asks, where u has a 1 in those that are used
 unfoldable pub orderOperandsOk : OrderFields → OrderFields → Bool
@@ -99,6 +104,10 @@ orderIn s = orderFields (getD s 1 0) (getD s 2 0) (number 4 s 4) (number 4 s 8) 
 -- whether a list starts with a whole, well-formed order
 unfoldable pub orderStarts : List ℕ → Bool
 orderStarts s = leb 24 (length s) && eqb (getD s 0 0) 0xA8 && eqb (getD s 3 0) 0 && orderOk (orderIn s)
+
+-- the order that starts a list, where a whole, well-formed one does
+unfoldable pub orderStart : List ℕ → OrderStart
+orderStart s = cond (orderStarts s) (start.Starts (orderOf (orderIn s))) start.Malformed
 
 -- an order goes in alone: a bad or part record is at place 1, a surplus one at place 2
 unfoldable pub orderRead : List ℕ → OrderRead

@@ -6,6 +6,11 @@ ghost use lib.ListN.{length, take};
 ghost use lib.Seq.{sets};
 ghost use Rattle.records.specs.Bytes.{le, number};
 
+// The largest numbers of 4 and of 8 bytes.
+pub const MOST4: u32 = 4294967295;
+
+pub const MOST8: u64 = 18446744073709551615;
+
 fn quad(a: u8, b: u8, c: u8, d: u8) -> u32
     ensures { λ r. ⌜ r ≡ a + 256 * (b + 256 * (c + 256 * d)) ⌝ }
 {

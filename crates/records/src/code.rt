@@ -6,8 +6,10 @@ ghost use Rattle.records.specs.Answers.{AnswersBy};
 ghost use Rattle.records.specs.Bytes.{stored};
 ghost use Rattle.records.specs.Checked.{checkedCause};
 ghost use Rattle.records.specs.Codes.{fieldsOf, codeOf};
-ghost use Rattle.records.specs.Instructions.{bitsOf, fieldsBytes, fieldsIn, registerOk, labelHeld, labelOk, wordOk, operandsOk, fieldsOk, labWith, codeStarts, checkedCodes, codeAt, codeCause};
+ghost use Rattle.records.specs.Instructions.{fieldsBytes, fieldsIn, used, outsideUnnamed, labelHeld, largest, labelWithin, operandsOk, fieldsOk, labWith, codeStarts, checkedCodes, codeAt, codeCause};
 use crate::bytes;
+use crate::bytes::MOST4;
+use crate::bytes::MOST8;
 use crate::check::Checked;
 use crate::name::FIRST_UNNAMED;
 use crate::name::LAST_UNNAMED;
@@ -195,58 +197,69 @@ fn code_of(f: Fields) -> Code
     }
 }
 
-// Which fields each code uses: 1 a, 2 b, 4 label, 8 offset, 16 value.
-const USES: [u8; 44] = [
-    3,
-    11,
-    11,
-    17,
-    25,
-    3,
-    11,
-    11,
-    17,
-    3,
-    11,
-    11,
-    1,
-    9,
-    0,
-    1,
-    4,
-    4,
-    5,
-    3,
-    11,
-    11,
-    17,
-    25,
-    3,
-    11,
-    11,
-    17,
-    25,
-    4,
-    4,
-    4,
-    4,
-    4,
-    4,
-    1,
-    1,
-    4,
-    0,
-    4,
-    0,
-    0,
-    4,
-    4,
-];
+const LAST_REGISTER: u8 = 15;
 
-fn register_ok(used: bool, r: u8) -> bool
-    ensures { λ ok. ⌜ ok ≡ registerOk used r ⌝ }
+// The largest value of each field of a record with this code: 0 where the code does not use it. Of one arm for each code the compiler makes read-only tables.
+fn most_of(code: u8) -> Fields
+    requires { ⌜ (1 ≤ code) × (code ≤ 44) ⌝ }
+    ensures { λ r. ⌜ r ≡ largest (used code) ⌝ }
 {
-    if used { r < 16 } else { r == 0 }
+    match code {
+        1 => Fields::of(code, LAST_REGISTER, LAST_REGISTER, 0, 0, 0),
+        2 => Fields::of(code, LAST_REGISTER, LAST_REGISTER, 0, MOST8, 0),
+        3 => Fields::of(code, LAST_REGISTER, LAST_REGISTER, 0, MOST8, 0),
+        4 => Fields::of(code, LAST_REGISTER, 0, 0, 0, MOST8),
+        5 => Fields::of(code, LAST_REGISTER, 0, 0, MOST8, MOST8),
+        6 => Fields::of(code, LAST_REGISTER, LAST_REGISTER, 0, 0, 0),
+        7 => Fields::of(code, LAST_REGISTER, LAST_REGISTER, 0, MOST8, 0),
+        8 => Fields::of(code, LAST_REGISTER, LAST_REGISTER, 0, MOST8, 0),
+        9 => Fields::of(code, LAST_REGISTER, 0, 0, 0, MOST8),
+        10 => Fields::of(code, LAST_REGISTER, LAST_REGISTER, 0, 0, 0),
+        11 => Fields::of(code, LAST_REGISTER, LAST_REGISTER, 0, MOST8, 0),
+        12 => Fields::of(code, LAST_REGISTER, LAST_REGISTER, 0, MOST8, 0),
+        13 => Fields::of(code, LAST_REGISTER, 0, 0, 0, 0),
+        14 => Fields::of(code, LAST_REGISTER, 0, 0, MOST8, 0),
+        15 => Fields::of(code, 0, 0, 0, 0, 0),
+        16 => Fields::of(code, LAST_REGISTER, 0, 0, 0, 0),
+        17 => Fields::of(code, 0, 0, MOST4, 0, 0),
+        18 => Fields::of(code, 0, 0, MOST4, 0, 0),
+        19 => Fields::of(code, LAST_REGISTER, 0, MOST4, 0, 0),
+        20 => Fields::of(code, LAST_REGISTER, LAST_REGISTER, 0, 0, 0),
+        21 => Fields::of(code, LAST_REGISTER, LAST_REGISTER, 0, MOST8, 0),
+        22 => Fields::of(code, LAST_REGISTER, LAST_REGISTER, 0, MOST8, 0),
+        23 => Fields::of(code, LAST_REGISTER, 0, 0, 0, MOST8),
+        24 => Fields::of(code, LAST_REGISTER, 0, 0, MOST8, MOST8),
+        25 => Fields::of(code, LAST_REGISTER, LAST_REGISTER, 0, 0, 0),
+        26 => Fields::of(code, LAST_REGISTER, LAST_REGISTER, 0, MOST8, 0),
+        27 => Fields::of(code, LAST_REGISTER, LAST_REGISTER, 0, MOST8, 0),
+        28 => Fields::of(code, LAST_REGISTER, 0, 0, 0, MOST8),
+        29 => Fields::of(code, LAST_REGISTER, 0, 0, MOST8, MOST8),
+        30 => Fields::of(code, 0, 0, MOST4, 0, 0),
+        31 => Fields::of(code, 0, 0, MOST4, 0, 0),
+        32 => Fields::of(code, 0, 0, MOST4, 0, 0),
+        33 => Fields::of(code, 0, 0, MOST4, 0, 0),
+        34 => Fields::of(code, 0, 0, MOST4, 0, 0),
+        35 => Fields::of(code, 0, 0, MOST4, 0, 0),
+        36 => Fields::of(code, LAST_REGISTER, 0, 0, 0, 0),
+        37 => Fields::of(code, LAST_REGISTER, 0, 0, 0, 0),
+        38 => Fields::of(code, 0, 0, MOST4, 0, 0),
+        39 => Fields::of(code, 0, 0, 0, 0, 0),
+        40 => Fields::of(code, 0, 0, MOST4, 0, 0),
+        41 => Fields::of(code, 0, 0, 0, 0, 0),
+        42 => Fields::of(code, 0, 0, 0, 0, 0),
+        43 => Fields::of(code, 0, 0, MOST4, 0, 0),
+        _ => Fields::of(code, 0, 0, MOST4, 0, 0),
+    }
+}
+
+// Not 2^31 plus 4 to 15.
+fn outside_unnamed(l: u32) -> bool
+    ensures { λ ok. ⌜ ok ≡ outsideUnnamed l ⌝ }
+{
+    if l < FIRST_UNNAMED {
+        return true;
+    }
+    LAST_UNNAMED < l
 }
 
 // Not 0, and not 2^31 plus 4 to 15.
@@ -256,40 +269,40 @@ pub fn label_held(l: u32) -> bool
     if l == 0 {
         return false;
     }
-    if l < FIRST_UNNAMED {
-        return true;
-    }
-    LAST_UNNAMED < l
+    outside_unnamed(l)
 }
 
-fn label_ok(used: bool, l: u32) -> bool
-    ensures { λ ok. ⌜ ok ≡ labelOk used l ⌝ }
+// 0 where `most` is 0, and held where it is MOST4, which is odd. No branch asks whether `most` is 0: the compiler would make `most_of` a jump by the code.
+fn label_within(most: u32, l: u32) -> bool
+    ensures { λ ok. ⌜ ok ≡ labelWithin most l ⌝ }
 {
-    if used { label_held(l) } else { l == 0 }
+    if l <= most {} else {
+        return false;
+    }
+    if most % 2 <= l {} else {
+        return false;
+    }
+    outside_unnamed(l)
 }
 
-pub fn word_ok(used: bool, w: u64) -> bool
-    ensures { λ ok. ⌜ ok ≡ wordOk used w ⌝ }
+fn operands_ok(f: Fields) -> bool
+    requires { ⌜ (1 ≤ f .code) × (f .code ≤ 44) ⌝ }
+    ensures { λ ok. ⌜ ok ≡ operandsOk (used (f .code)) f ⌝ }
 {
-    if used { true } else { w == 0 }
-}
-
-fn operands_ok(uses: u8, f: Fields) -> bool
-    ensures { λ ok. ⌜ ok ≡ operandsOk (bitsOf (f .code) uses) f ⌝ }
-{
-    if register_ok(uses % 2 == 1, f.a) {} else {
+    let m = most_of(f.code);
+    if f.a <= m.a {} else {
         return false;
     }
-    if register_ok(uses / 2 % 2 == 1, f.b) {} else {
+    if f.b <= m.b {} else {
         return false;
     }
-    if label_ok(uses / 4 % 2 == 1, f.label) {} else {
+    if label_within(m.label, f.label) {} else {
         return false;
     }
-    if word_ok(uses / 8 % 2 == 1, f.offset) {} else {
+    if f.offset <= m.offset {} else {
         return false;
     }
-    word_ok(uses / 16 % 2 == 1, f.value)
+    f.value <= m.value
 }
 
 pub fn fields_ok(f: Fields) -> bool
@@ -302,7 +315,7 @@ pub fn fields_ok(f: Fields) -> bool
     if 44 < code {
         return false;
     }
-    operands_ok(USES[(code as usize) - 1], f)
+    operands_ok(f)
 }
 
 // The fields of the record at byte `at`.
@@ -334,36 +347,32 @@ pub fn is_label(s: &[u8], at: usize, label: u32) -> bool
     bytes::number4(s, at + 4) == label
 }
 
-// Whether a whole, well-formed record starts at byte `at`.
+// Whether the 24 bytes from byte `at` on are a well-formed record.
 fn code_starts(s: &[u8], at: usize) -> bool
-    requires { ⌜ at ≤ length (now s) ⌝ }
+    requires { ⌜ at + 24 ≤ length (now s) ⌝ }
     ensures { λ r. ⌜ r ≡ codeStarts (drop at (now (s .entry))) ⌝ }
 {
-    if s.len() - at < 24 {
-        return false;
-    }
     if s[at] == 0xA9 {} else {
         return false;
     }
     fields_ok(fields_at(s, at))
 }
 
-// A list of at most 65,536 records, or of `most` where that is fewer.
+// A list of at most 65,536 records, or of `most` where that is fewer. What is left after the whole ones is a part of one, or past the limit.
 pub fn check_codes(s: &[u8], most: usize) -> Checked
     ensures { λ r. ⌜ AnswersBy checkedCause r (checkedCodes most (now (s .entry))) ⌝ }
 {
     let limit = bytes::least(most, 65536);
-    let mut at = 0;
+    let n = bytes::least(s.len() / 24, limit);
     let mut k = 0;
-    while at < s.len() {
-        if limit <= k {
+    while k < n {
+        if code_starts(s, 24 * k) {} else {
             return Checked::Malformed(k + 1);
         }
-        if code_starts(s, at) {} else {
-            return Checked::Malformed(k + 1);
-        }
-        at += 24;
         k += 1;
+    }
+    if 24 * k < s.len() {
+        return Checked::Malformed(k + 1);
     }
     Checked::Good(k)
 }

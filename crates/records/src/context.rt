@@ -1,9 +1,11 @@
 // Contexts, and the bindings that follow an order: what is bad in them, and where.
 ghost use mathlib.Core.Path.{_≡_};
+ghost use mathlib.Core.Bool.{_&&_};
 ghost use Prim.Native.Nat.{_+_, _*_, _≤_};
 ghost use lib.ListN.{length, drop};
 ghost use Rattle.records.specs.Answers.{AnswersBy};
 ghost use Rattle.records.specs.Contexts.{marked, kindOk, firstFlaw, countedOn, checkedContext, contextCause};
+use crate::bytes;
 
 // What is bad; places count from 1.
 pub enum Flaw {
@@ -29,16 +31,19 @@ fn marked(s: &[u8], at: usize) -> bool
     if s[at] == 0xA7 { s[at + 1] == 1 } else { false }
 }
 
-// Whether the binding at byte `at` has one of the two kinds, and its zero byte.
-fn kind_ok(s: &[u8], at: usize) -> bool
+// The two bytes that mark a binding, as a number.
+const MARK: u32 = 0x1A7;
+
+// Whether the binding at byte `at` has its mark, one of the two kinds, and its zero byte.
+fn sound(s: &[u8], at: usize) -> bool
     requires { ⌜ at + 8 ≤ length (now s) ⌝ }
-    ensures { λ r. ⌜ r ≡ kindOk (drop at (now (s .entry))) ⌝ }
+    ensures { λ r. ⌜ r ≡ (marked (drop at (now (s .entry))) && kindOk (drop at (now (s .entry)))) ⌝ }
 {
-    if s[at + 2] <= 1 {
-        s[at + 3] == 0
-    } else {
-        false
+    let head = bytes::number4(s, at);
+    if head % 65536 == MARK {} else {
+        return false;
     }
+    head / 65536 <= 1
 }
 
 // The earliest bad one of n bindings that come after `before` others.
@@ -48,11 +53,11 @@ fn first_flaw(before: usize, s: &[u8], n: usize) -> ContextRead
 {
     let mut k = 0;
     while k < n {
-        if marked(s, 8 * k) {} else {
+        if sound(s, 8 * k) {} else {
+            if marked(s, 8 * k) {
+                return ContextRead::Bad(Flaw::Kind(before + (k + 1)));
+            }
             return ContextRead::Bad(Flaw::Mark(before + (k + 1)));
-        }
-        if kind_ok(s, 8 * k) {} else {
-            return ContextRead::Bad(Flaw::Kind(before + (k + 1)));
         }
         k += 1;
     }

@@ -4,9 +4,10 @@ ghost use Prim.Native.Nat.{_+_, _≤_};
 ghost use lib.ListN.{length};
 ghost use Rattle.records.specs.Answers.{AnswersBy};
 ghost use Rattle.records.specs.Bytes.{stored};
-ghost use Rattle.records.specs.Orders.{flagOf, operationOf, newlineFlag, orderFieldsOf, orderOf, orderBits, orderOperandsOk, orderOk, orderBytes, orderIn, orderStarts, orderRead, orderCause, wanted};
+ghost use Rattle.records.specs.Orders.{flagOf, operationOf, newlineFlag, orderFieldsOf, orderOf, largestInOrder, orderOk, orderBytes, orderIn, orderStart, orderRead, orderCause, wanted};
 use crate::bytes;
-use crate::code;
+use crate::bytes::MOST4;
+use crate::bytes::MOST8;
 
 pub enum Calculation {
     Add,
@@ -41,6 +42,12 @@ pub struct OrderFields {
     pub b: u32,
     pub n: u32,
     pub value: u64,
+}
+
+// The order that starts some bytes, where a whole one does.
+pub enum OrderStart {
+    Starts(Order),
+    Malformed,
 }
 
 // One whole order, or the place of the first bad or surplus record.
@@ -109,7 +116,7 @@ pub fn order_fields_of(o: Order) -> OrderFields
 }
 
 // The order of a record's fields.
-pub fn order_of(f: OrderFields) -> Order
+fn order_of(f: OrderFields) -> Order
     requires { ⌜ (1 ≤ f .code) × (f .code ≤ 7) ⌝ }
     ensures { λ r. ⌜ r ≡ orderOf f ⌝ }
 {
@@ -125,25 +132,20 @@ pub fn order_of(f: OrderFields) -> Order
     }
 }
 
-// How many flags each code has.
-const FLAGS: [u8; 7] = [1, 5, 1, 1, 1, 1, 2];
-
-// Which fields each code uses: 1 a, 2 b, 4 n, 8 value.
-const USES: [u8; 7] = [8, 3, 5, 0, 12, 4, 1];
-
-fn order_operands_ok(uses: u8, f: OrderFields) -> bool
-    ensures { λ ok. ⌜ ok ≡ orderOperandsOk (orderBits (f .code) uses) f ⌝ }
+// The largest value of each field of an order with this code: 0 where the code does not use it.
+fn most_in(code: u8) -> OrderFields
+    requires { ⌜ (1 ≤ code) × (code ≤ 7) ⌝ }
+    ensures { λ r. ⌜ r ≡ largestInOrder code ⌝ }
 {
-    if code::word_ok(uses % 2 == 1, f.a as u64) {} else {
-        return false;
+    match code {
+        1 => OrderFields::of(code, 0, 0, 0, 0, MOST8),
+        2 => OrderFields::of(code, 4, MOST4, MOST4, 0, 0),
+        3 => OrderFields::of(code, 0, MOST4, 0, MOST4, 0),
+        4 => OrderFields::of(code, 0, 0, 0, 0, 0),
+        5 => OrderFields::of(code, 0, 0, 0, MOST4, MOST8),
+        6 => OrderFields::of(code, 0, 0, 0, MOST4, 0),
+        _ => OrderFields::of(code, 1, MOST4, 0, 0, 0),
     }
-    if code::word_ok(uses / 2 % 2 == 1, f.b as u64) {} else {
-        return false;
-    }
-    if code::word_ok(uses / 4 % 2 == 1, f.n as u64) {} else {
-        return false;
-    }
-    code::word_ok(uses / 8 % 2 == 1, f.value)
 }
 
 fn order_ok(f: OrderFields) -> bool
@@ -156,15 +158,24 @@ fn order_ok(f: OrderFields) -> bool
     if 7 < code {
         return false;
     }
-    let k = (code as usize) - 1;
-    if f.flag < FLAGS[k] {} else {
+    let m = most_in(code);
+    if f.flag <= m.flag {} else {
         return false;
     }
-    order_operands_ok(USES[k], f)
+    if f.a <= m.a {} else {
+        return false;
+    }
+    if f.b <= m.b {} else {
+        return false;
+    }
+    if f.n <= m.n {} else {
+        return false;
+    }
+    f.value <= m.value
 }
 
 // The fields of the order that starts `s`.
-pub fn order_in(s: &[u8]) -> OrderFields
+fn order_in(s: &[u8]) -> OrderFields
     requires { ⌜ 24 ≤ length (now s) ⌝ }
     ensures { λ r. ⌜ r ≡ orderIn (now (s .entry)) ⌝ }
 {
@@ -182,31 +193,36 @@ pub fn order_in(s: &[u8]) -> OrderFields
     }
 }
 
-// Whether a whole, well-formed order starts `s`.
-pub fn order_starts(s: &[u8]) -> bool
-    ensures { λ r. ⌜ r ≡ orderStarts (now (s .entry)) ⌝ }
+// The order that starts `s`, where a whole, well-formed one does.
+pub fn read_start(s: &[u8]) -> OrderStart
+    ensures { λ r. ⌜ r ≡ orderStart (now (s .entry)) ⌝ }
 {
     if s.len() < 24 {
-        return false;
+        return OrderStart::Malformed;
     }
     if s[0] == 0xA8 {} else {
-        return false;
+        return OrderStart::Malformed;
     }
     if s[3] == 0 {} else {
-        return false;
+        return OrderStart::Malformed;
     }
-    order_ok(order_in(s))
+    let f = order_in(s);
+    if order_ok(f) {
+        OrderStart::Starts(order_of(f))
+    } else {
+        OrderStart::Malformed
+    }
 }
 
 // An order alone: refused at place 1 where it is bad or not whole, at place 2 where more follows.
 pub fn read_order(s: &[u8]) -> OrderRead
     ensures { λ r. ⌜ AnswersBy orderCause r (orderRead (now (s .entry))) ⌝ }
 {
-    if order_starts(s) {} else {
+    let OrderStart::Starts(order) = read_start(s) else {
         return OrderRead::Malformed(1);
-    }
+    };
     if s.len() == 24 {
-        OrderRead::Whole(order_of(order_in(s)))
+        OrderRead::Whole(order)
     } else {
         OrderRead::Malformed(2)
     }

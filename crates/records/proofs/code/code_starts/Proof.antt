@@ -1,17 +1,25 @@
 use borrow.Author.Needs.{needs}
-use native.Mathlib.Omega.{arith}
-use Rattle.records.proofs.CodesRead.{starts-short, starts-unmarked, starts-marked}
+use Rattle.records.proofs.CodesRead.{starts-unmarked, starts-marked}
 use Rattle.records.proofs.code.code_starts.Statement.{statement}
 use Rattle.records.proofs.code.code_starts.Tie as tie
+
+unmarked : tie.Need-returns
+unmarked c =
+    let entry = c .before .before .before in
+    starts-unmarked (entry .args .s .now) (entry .args .at) (entry .pre) (c .if1 .left)
+
+by-fields : tie.Need-returns-2
+by-fields c =
+    let marked = c .before .before in
+    let entry = marked .before .before .before in
+    starts-marked (entry .args .s .now) (entry .args .at) (entry .pre) (marked .if1 .taken) (c .before .fields-at .ensures) (c .fields-ok .ensures)
 
 pub code-starts-spec : {M : Type 1} → statement M
 code-starts-spec =
     tie.close
     (tie.spec
     (λ c. search needs)
-    (λ c. let a = c .before .before .args in starts-short (a .s .now) (a .at) (omega arith) (omega arith))
-    (λ c. search needs)
-    (λ c. let a = c .before .before .before .before .args in starts-unmarked (a .s .now) (a .at) (omega arith) (c .if2 .left))
+    unmarked
     (λ c κs. search needs)
     (λ c κs. search needs)
-    (λ c. let a = c .before .before .before .before .before .before .args in starts-marked (a .s .now) (a .at) (omega arith) (c .before .before .if2 .taken) (c .before .fields-at .ensures) (c .fields-ok .ensures)))
+    by-fields)

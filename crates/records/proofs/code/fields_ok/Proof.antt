@@ -9,8 +9,5 @@ fields-ok-spec =
     (tie.spec
     (λ c. code-zero _ (c .if1 .taken))
     (λ c. code-above _ (c .if2 .taken))
-    (λ c. search needs)
-    (λ c. search needs)
-    (λ c. search needs)
     (λ c κs. search needs)
     (λ c. code-listed _ (c .before .before .if1 .left) (c .before .if2 .left) (c .operands-ok .ensures)))

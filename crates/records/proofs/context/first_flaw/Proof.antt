@@ -14,6 +14,22 @@ Inv-loop before s n k₀ k = (k ≤ n) × (countedOn before (firstFlaw 0 n s) �
 abbrev μ-loop : tie.MeasureT-loop
 μ-loop before s n k₀ k = n - k
 
+kind-told : tie.Need-returns Inv-loop μ-loop
+kind-told c =
+    let checked = c .before .before in
+    let l = checked .before .before .before .loop in
+    bad-kind _ _ _ _ (l .inv .1) (omega arith) (c .before .marked .ensures) (c .if2 .taken) (checked .before .sound .ensures) (checked .if1 .left)
+
+mark-told : tie.Need-returns-2 Inv-loop μ-loop
+mark-told c =
+    let l = c .before .before .before .before .before .loop in
+    bad-mark _ _ _ _ (l .inv .1) (omega arith) (c .before .marked .ensures) (c .if2 .left)
+
+next-turn : tie.Need-loop-again Inv-loop μ-loop
+next-turn c =
+    let l = c .before .before .before .loop in
+    (omega arith, turn _ _ _ _ (l .inv .1) (omega arith) (c .before .sound .ensures) (c .if1 .taken))
+
 pub first-flaw-spec : {M : Type 1} → statement M
 first-flaw-spec =
     tie.close
@@ -24,14 +40,14 @@ first-flaw-spec =
     (λ c. omega arith)
     (λ c κs. omega arith)
     (λ c. omega arith)
-    (λ c. omega arith)
-    (λ c. let l = c .before .before .before .loop in bad-mark _ _ _ _ (l .inv .1) (omega arith) (c .before .marked .ensures) (c .if1 .left))
-    (λ c. omega arith)
     (λ c κs. omega arith)
     (λ c. omega arith)
     (λ c. omega arith)
-    (λ c. let l = c .before .before .before .before .before .loop in bad-kind _ _ _ _ (l .inv .1) (omega arith) (c .before .before .before .marked .ensures) (c .before .before .if1 .taken) (c .before .kind-ok .ensures) (c .if2 .left))
+    kind-told
     (λ c. omega arith)
     (λ c. omega arith)
-    (λ c. let l = c .before .before .before .before .before .loop in (omega arith, turn _ _ _ _ (l .inv .1) (omega arith) (c .before .before .before .marked .ensures) (c .before .before .if1 .taken) (c .before .kind-ok .ensures) (c .if2 .taken)))
+    mark-told
+    (λ c. omega arith)
+    (λ c. omega arith)
+    next-turn
     (λ c. done _ _ _ _ (c .before .loop .inv .1) (omega arith)))
