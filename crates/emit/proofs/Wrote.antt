@@ -1,20 +1,20 @@
 -- From what an emitter leaves to an operation's answer and output.
 use Prim.Native.Nat.{ℕ, _+_, _*_, _/_, _≤_, _<_}
 use mathlib.Core.Bool.{Bool, true, false, cond}
-use mathlib.Core.Path.{_≡_, refl, sym, ap, _∙_}
+use mathlib.Core.Path.{_≡_, refl, sym, ap, _∙_, subst}
 use mathlib.Core.List.{List, [], _∷_}
 use native.Mathlib.Omega.{arith}
-use lib.Dec.{ltb}
+use lib.Dec.{leb, ltb}
 use lib.ListN.{length}
 use lib.Seq.{sets, length-sets}
-use borrow.Author.Tests.{lt-ltb, le-ltb, ltb-false}
+use borrow.Author.Tests.{lt-ltb, le-ltb, ltb-false, leb-true, lt-leb, le-leb}
 use Rattle.records.specs.declared.code.Code.{Code}
 use Rattle.records.specs.declared.code.Fields.{Fields}
 use Rattle.records.specs.Bytes.{le, stored}
 use Rattle.records.specs.Codes.{fieldsOf}
 use Rattle.records.specs.Instructions.{fieldsBytes}
 use Rattle.records.specs.ReadBack.{joined, codeBytes}
-use Rattle.records.proofs.Conditions.{never}
+use Rattle.records.proofs.Conditions.{never, and-left, and-right}
 use Rattle.records.proofs.Storing.{sets-then, stored-whole}
 use Rattle.records.specs.Names.{lastLabel}
 use Rattle.trees.specs.Tree.{Tree, labels, size, flat}
@@ -22,8 +22,9 @@ use Rattle.trees.proofs.Flat.{length-flat}
 use Rattle.emit.specs.declared.cursor.Cursor.{Cursor}
 use Rattle.emit.specs.declared.answer.Answer.{Answer}
 use Rattle.emit.specs.declared.answer.Answer.the-variants.{Written, Labels, Room}
-use Rattle.emit.specs.Emitted.{written, fieldsList, Emits}
-use Rattle.emit.specs.Answers.{causeOf, granted, accepted, output, Answers}
+use Rattle.emit.specs.Emitted.{written, fieldsList, Emitted, Emits}
+use Rattle.emit.specs.Answers.{causeOf, ample, granted, accepted, output, Answers}
+use Rattle.emit.proofs.Laws.{length-fields, listed}
 
 pub bytes-long : (f : Fields) → length (fieldsBytes f) ≡ 24
 unfolding fieldsBytes le
@@ -99,3 +100,39 @@ module _ {o₀ o₁ : List ℕ} {p need : Cursor} (t : Tree) (counter : ℕ) (d 
         let h = room-for t counter (length o) d a c e f g in
         let l = length-flat t counter 0 in
         answers (e ∙ same (length o)) (w .bytes ∙ rw (i, j, ← (e ∙ same (length o)), ← f, g) (written-whole (flat t counter) o 0 (omega arith)))
+
+-- what ample labels and room say
+module _ (counter room most records : ℕ) where
+  pub ample-if : {b : Bool} → b ≡ ample counter room most records → b ≡ true → (counter + most ≤ lastLabel) × (24 * records ≤ room)
+  unfolding ample
+  ample-if e t =
+      let h = sym e ∙ t in
+      let l = leb (counter + most) lastLabel in
+      let r = leb (24 * records) room in
+      (leb-true (counter + most) lastLabel (and-left l r h), leb-true (24 * records) room (and-right l r h))
+
+  pub labels-wanting : lastLabel < counter + most → false ≡ ample counter room most records
+  unfolding ample
+  labels-wanting h = rw (lt-leb (counter + most) lastLabel h)
+
+  pub room-decides : counter + most ≤ lastLabel → leb (24 * records) room ≡ ample counter room most records
+  unfolding ample
+  room-decides h = rw (le-leb (counter + most) lastLabel h)
+
+-- records written at once, where neither labels nor room can be wanting: a list's, and a tree's
+pub at-once-listed : {o o′ : List ℕ} {p q : Cursor} {r : Answer} (cs : List Code) (counter : ℕ) {n : ℕ} → Emitted o p o′ q (fieldsList cs) n → p .at ≡ 0 → p .counter ≡ counter
+    → r ≡ Written (q .at / 24) (q .counter) → counter + n ≤ lastLabel → 24 * length cs ≤ length o
+    → Answers o o′ r (granted counter (length o) (24 * length cs) n) cs
+at-once-listed {o} {q = q} cs counter {n} w i j k l h =
+    let a : q .at ≡ 24 * length cs = omega (arith, w .place, length-fields cs) in
+    let c : q .counter ≡ counter + n = omega (arith, w .drawn) in
+    let e : Written (q .at / 24) (q .counter) ≡ granted counter (length o) (24 * length cs) n = rw (a, c) (granted-all counter (length o) (24 * length cs) n l h) in
+    answers (k ∙ e) (w .bytes ∙ rw (i, ← e) (written-whole cs o 0 (omega arith)))
+
+pub at-once : {o o′ : List ℕ} {p q : Cursor} {r : Answer} (t : Tree) (counter : ℕ) → Emits o p o′ q t → p .at ≡ 0 → p .counter ≡ counter
+    → r ≡ Written (q .at / 24) (q .counter) → counter + labels t ≤ lastLabel → 24 * size t ≤ length o
+    → Answers o o′ r (granted counter (length o) (24 * size t) (labels t)) (flat t counter)
+at-once {o} {o′} {p} {q} t counter w i j k l h =
+    let f = length-flat t counter 0 in
+    let d = subst (λ (m : ℕ). Emitted o p o′ q (fieldsList (flat t m)) (labels t)) j (listed w) in
+    rw f at (at-once-listed (flat t counter) counter d i j k l (omega arith))

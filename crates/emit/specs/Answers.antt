@@ -1,10 +1,10 @@
 -- What an operation answers and leaves in its output, where nothing but the labels or the room can refuse it, and where there is no such frame.
 -- From the scope, 'Causes and numbers', and 'Job 2': 15 to 17 before 3, 9 before 10, a refusal writes nothing, output bytes past the records stay.
-use Prim.Native.Nat.{ℕ, _+_, _/_}
-use mathlib.Core.Bool.{Bool, true, false, cond}
+use Prim.Native.Nat.{ℕ, _+_, _*_, _/_}
+use mathlib.Core.Bool.{Bool, true, false, _&&_, cond}
 use mathlib.Core.Path.{_≡_}
 use mathlib.Core.List.{List, [], _∷_}
-use lib.Dec.{ltb}
+use lib.Dec.{leb, ltb}
 use lib.Seq.{sets}
 use Rattle.records.specs.Causes.{ACCEPTED, MALFORMED, OPERAND, MISSING, ARGUMENTS, COUNT, POSITION, LABELS, ROOM, EDITION}
 use Rattle.records.specs.declared.context.ContextRead.{ContextRead}
@@ -37,6 +37,10 @@ unframed read = onContext read (λ n. Operand) Context
 unfoldable pub granted : ℕ → ℕ → ℕ → ℕ → Answer
 granted counter room bytes n =
     cond (ltb lastLabel (counter + n)) Labels (cond (ltb room bytes) (Room bytes) (Written (bytes / 24) (counter + n)))
+
+-- whether neither labels nor room can be wanting, where at most so many labels and records are asked for
+unfoldable pub ample : ℕ → ℕ → ℕ → ℕ → Bool
+ample counter room labels records = leb (counter + labels) lastLabel && leb (24 * records) room
 
 abbrev pub accepted : Answer → Bool
 accepted (Written n counter) = true

@@ -1,9 +1,10 @@
 // What an operation answers.
 ghost use mathlib.Core.Path.{_≡_};
 ghost use mathlib.Core.Bool.{false};
-ghost use Prim.Native.Nat.{_+_, _<_, _^_};
+ghost use Prim.Native.Nat.{_+_, _/_, _<_, _^_};
 ghost use Rattle.records.specs.Contexts.{checkedContext};
-ghost use Rattle.emit.specs.Answers.{unframed, granted, accepted};
+ghost use Rattle.emit.specs.declared.answer.Answer.the-variants.{Written};
+ghost use Rattle.emit.specs.Answers.{unframed, ample, granted, accepted};
 use crate::cursor::Cursor;
 use records::context::ContextRead;
 use records::context::Flaw;
@@ -42,6 +43,27 @@ pub fn unframed(context: &[u8]) -> Answer
         ContextRead::Good(_) => Answer::Operand,
         ContextRead::Bad(flaw) => Answer::Context(flaw),
     }
+}
+
+// Whether so many labels and records are there to be had. An operation that takes no more is written in one pass, others are sized by a first one.
+pub fn ample(counter: u64, room: usize, labels: u64, records: u64) -> bool
+    requires { ⌜ (labels < 2 ^ 32) × (records < 2 ^ 32) ⌝ }
+    ensures { λ r. ⌜ r ≡ ample counter room labels records ⌝ }
+{
+    if LAST_LABEL < counter {
+        return false;
+    }
+    if LAST_LABEL < counter + labels {
+        return false;
+    }
+    24 * records <= room as u64
+}
+
+// The answer of an operation written from a cursor at 0 to this one.
+pub fn written(q: Cursor) -> Answer
+    ensures { λ r. ⌜ r ≡ Written (q .at / 24) (q .counter) ⌝ }
+{
+    Answer::Written(q.at / 24, q.counter)
 }
 
 // The answer where nothing but labels or room can refuse: need is the cursor past the records, from a cursor at 0 and counter 0.
