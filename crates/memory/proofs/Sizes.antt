@@ -11,9 +11,13 @@ use Rattle.trees.specs.Tree.{Tree, nop, leaf, seq, if-zero, labels, size}
 use Rattle.layout.specs.declared.config.Shape.{Shape}
 use Rattle.layout.specs.Config.{Supported, STACK, TEMP, MINUSONE, stackOffset, registerFor}
 use Rattle.code.specs.Code.{loadImmediate}
-use Rattle.memory.specs.Objects.{fst, snd, storeZeros, storeFst, storeValue, storeValues, storeOther, storeOthers, storeSome, storeObject, chunks, objectRecords, shareLoaded, loadFst, loadValue, loadValues, releaseUnless, loadLink, capacity, setAside, restore, loadBody, loadSpilled, loadBlock, freed, loadOthers, loadSome, loadObject}
+use Rattle.memory.specs.Objects.{fst, snd, storeZeros, storeFst, storeValue, storeValues, storeOther, storeOthers, storeSome, storeObject, chunks, shareLoaded, loadFst, loadValue, loadValues, releaseUnless, loadLink, capacity, setAside, restore, loadBody, loadSpilled, loadBlock, freed, loadOthers, loadSome, loadObject}
 use Rattle.memory.proofs.Flattened.{fields-size}
 use Rattle.memory.specs.Blocks.{eraseBlock, shareBlock, takeBlock, acquireBlock, storeField, loadField}
+
+-- how many records are enough for a store of n variables: for each block those that store its fields and acquire it
+abbrev pub objectRecords : Shape → ℕ → ℕ
+objectRecords g n = (16 * g .fields + 17) * (chunks (g .fields - 1) (n - g .fields) + 1) + 4
 
 -- so many labels, and at most so many records
 abbrev pub Sized : ℕ → ℕ → Tree → Type 0
@@ -88,13 +92,6 @@ object-records-few g s n =
 pub most-loaded : (c m n : ℕ) → 1 ≤ c → c * m < n + c → (8 * c + 7) * m ≤ 15 * (n + c)
 most-loaded c m n h l =
     let a : 1 * m ≤ c * m = mul-le-mul-right m h in
-    let q : (8 * c + 7) * m ≡ 8 * (c * m) + 7 * m = omega arith in
-    omega arith
-
--- a block loaded twice has fewer records than one stored
-twice-loaded : (f c m : ℕ) → f ≡ c + 1 → 2 * ((8 * c + 7) * m) ≤ (16 * f + 17) * m
-twice-loaded f c m e =
-    let p : (16 * f + 17) * m ≡ 16 * (c * m) + 33 * m = omega (arith, ap (λ (x : ℕ). x * m) e) in
     let q : (8 * c + 7) * m ≡ 8 * (c * m) + 7 * m = omega arith in
     omega arith
 
@@ -257,10 +254,3 @@ module _ (g : Shape) (ext : ℕ → Bool) (s : Supported g) (v n : ℕ) where
       let a = some-size g ext false s v n in
       let b = some-size g ext true s v n in
       two-ways (2 * n + 42) (30 * n + 410) (omega arith) (omega arith)
-
-  pub load-object-records : (labels (loadObject g ext v n) ≤ 2 * n + 42) × (size (loadObject g ext v n) ≤ objectRecords g n)
-  load-object-records =
-      let a = some-records g ext false v n in
-      let b = some-records g ext true v n in
-      let t = twice-loaded (g .fields) (g .fields - 1) (chunks (g .fields - 1) (n - g .fields)) (omega (arith, s .some)) in
-      two-ways (2 * n + 42) (objectRecords g n) (omega (arith, some-size g ext false s v n .0, some-size g ext true s v n .0)) (omega arith)

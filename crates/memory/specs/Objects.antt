@@ -47,10 +47,6 @@ abbrev pub objectSizes : Shape → ℕ → List ℕ
 objectSizes g zero = []
 objectSizes g (suc n) = someSizes g (suc n)
 
--- how many records are enough for a store or a load of n variables: for each block those that store its fields and acquire it, since to load them twice takes fewer
-abbrev pub objectRecords : Shape → ℕ → ℕ
-objectRecords g n = (16 * g .fields + 17) * (chunks (g .fields - 1) (n - g .fields) + 1) + 4
-
 -- a variable's pointer into field t of HEAP's block, or zero where it is an integer
 abbrev pub storeFst : Shape → Bool → ℕ → ℕ → Tree
 storeFst g integer v t = cond integer (leaf (MOVIM HEAP (fstOffset t) 0) refl) (storeField g (fst v) HEAP (fstOffset t))

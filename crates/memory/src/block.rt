@@ -4,7 +4,7 @@ ghost use Rattle.emit.specs.Emitted.{fieldsList, Emitted, Emits};
 ghost use lib.ListN.{length};
 ghost use Rattle.emit.specs.Answers.{Answers};
 ghost use Rattle.layout.specs.Config.{Supported, operands};
-ghost use Rattle.memory.specs.Answered.{eraseAnswer, eraseIn, eraseRecordsIn, shareAnswer, shareIn, shareRecordsIn};
+ghost use Rattle.memory.specs.Answered.{treeAnswer, eraseAnswer, eraseIn, eraseRecordsIn, shareAnswer, shareIn, shareRecordsIn};
 ghost use Rattle.memory.specs.NextBlock.{nextBegin, nextEnd};
 ghost use Rattle.trees.specs.Tree.{flat};
 ghost use Rattle.memory.specs.Blocks.{eraseRegister, shareRegister, eraseBlock, shareSpill, shareBlock, eraseChild, eraseFields, takeBlock, nextBlock, acquireBlock, storeField, loadField, releaseBlock};
@@ -30,6 +30,15 @@ use records::number::MOV;
 use records::number::MOVIM;
 use records::number::MOVL;
 use records::number::MOVS;
+
+// The labels that erasing and sharing a block draw, and their most records: of one in a spill.
+const ERASE_LABELS: u64 = 3;
+
+const ERASE_RECORDS: u64 = 12;
+
+const SHARE_LABELS: u64 = 1;
+
+const SHARE_RECORDS: u64 = 5;
 
 pub fn erase_register(out: &mut [u8], p: Cursor, r: u8) -> Cursor
     requires { ⌜ (p .at + 264 < 2 ^ 64) × (p .counter + 3 < 2 ^ 32) ⌝ }
@@ -309,6 +318,18 @@ fn erase_block_in(out: &mut [u8], g: Shape, counter: u64, w: u64) -> Answer
     if layout::utils::operand_ok(g, w) {} else {
         return Answer::Operand;
     }
+    if emit::answer::ample(counter, out.len(), ERASE_LABELS, ERASE_RECORDS) {
+        let q = erase(out, Cursor { at: 0, counter }, g, w);
+        return emit::answer::written(q);
+    }
+    erase_sized(out, g, counter, w)
+}
+
+// A first pass on another output tells the size, and the second writes.
+fn erase_sized(out: &mut [u8], g: Shape, counter: u64, w: u64) -> Answer
+    requires { ⌜ (w < operands g) × Supported g ⌝ }
+    ensures { λ r. ⌜ Answers (now (out .entry)) (now (out .exit)) r (treeAnswer counter (length (now (out .entry))) (eraseBlock g w)) (flat (eraseBlock g w) counter) ⌝ }
+{
     let mut none = [0u8; 1];
     let need = erase(&mut none, Cursor { at: 0, counter: 0 }, g, w);
     let answer = emit::answer::grant(counter, out.len(), need);
@@ -339,6 +360,18 @@ fn share_block_n_in(out: &mut [u8], g: Shape, counter: u64, w: u64, n: u64) -> A
     if MOST_COUNT < n {
         return Answer::Count;
     }
+    if emit::answer::ample(counter, out.len(), SHARE_LABELS, SHARE_RECORDS) {
+        let q = share(out, Cursor { at: 0, counter }, g, w, n);
+        return emit::answer::written(q);
+    }
+    share_sized(out, g, counter, w, n)
+}
+
+// The same in two passes.
+fn share_sized(out: &mut [u8], g: Shape, counter: u64, w: u64, n: u64) -> Answer
+    requires { ⌜ (w < operands g) × Supported g ⌝ }
+    ensures { λ r. ⌜ Answers (now (out .entry)) (now (out .exit)) r (treeAnswer counter (length (now (out .entry))) (shareBlock g w n)) (flat (shareBlock g w n) counter) ⌝ }
+{
     let mut none = [0u8; 1];
     let need = share(&mut none, Cursor { at: 0, counter: 0 }, g, w, n);
     let answer = emit::answer::grant(counter, out.len(), need);

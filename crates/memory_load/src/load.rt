@@ -9,9 +9,8 @@ ghost use Rattle.records.specs.Contexts.{extAt};
 ghost use Rattle.trees.specs.Tree.{nop, leaf, seq, if-zero, flat};
 ghost use Rattle.emit.specs.Emitted.{Emits};
 ghost use Rattle.emit.specs.Answers.{accepted, Answers};
-ghost use Rattle.layout.specs.Config.{Supported, STACK, TEMP, MINUSONE, stackOffset, operands, positions, registerFor};
-ghost use Rattle.layout.specs.Positions.{Table};
-ghost use Rattle.memory.specs.Objects.{extIn, objectRecords, loadSome, loadObject};
+ghost use Rattle.layout.specs.Config.{Supported, STACK, TEMP, MINUSONE, stackOffset, operands, positions};
+ghost use Rattle.memory.specs.Objects.{extIn, loadSome, loadObject};
 ghost use Rattle.memory.specs.Answered.{treeAnswer};
 ghost use Rattle.memory.specs.LoadAnswered.{loadTree, loadFits, loadAfter, loadAnswer, unframedLoad, loadIn, loadRecordsIn};
 ghost use Rattle.memory_load.specs.Linked.{oneIfLinked, linkedIn};
@@ -23,8 +22,6 @@ use layout::config::STACK;
 use layout::config::Shape;
 use layout::config::Shaped;
 use layout::config::TEMP;
-use layout::utils::ENTRIES;
-use memory_store::store;
 use records::context;
 use records::context::ContextRead;
 use records::number::ADDIM;
@@ -54,42 +51,24 @@ fn linked(kinds: &[u8], n: u64) -> u64
 }
 
 // One reference fewer to the object in register r, and its children shared.
-fn load_shared(
-    out: &mut [u8],
-    p: Cursor,
-    g: Shape,
-    table: &[u16; ENTRIES],
-    kinds: &[u8],
-    v: u64,
-    n: u64,
-    r: u8,
-) -> Cursor
-    requires { ⌜ (Table (now table)) × (8 * n ≤ length (now kinds)) × (2 * (v + n) < positions g) × (p .at + 400024 < 2 ^ 64) × (p .counter + 2000 < 2 ^ 32) × Supported g ⌝ }
+fn load_shared(out: &mut [u8], p: Cursor, g: Shape, kinds: &[u8], v: u64, n: u64, r: u8) -> Cursor
+    requires { ⌜ (8 * n ≤ length (now kinds)) × (2 * (v + n) < positions g) × (p .at + 400024 < 2 ^ 64) × (p .counter + 2000 < 2 ^ 32) × Supported g ⌝ }
     ensures { λ q. ⌜ Emits (now (out .entry)) p (now (out .exit)) q (seq (leaf (ADDIM r 0 MINUSONE) refl) (loadSome g (extIn (now (kinds .entry)) v) true v n)) ⌝ }
 {
     let q = emit::cursor::emit(out, p, Row(ADDIM, r, 0, 0, 0, MINUS_ONE));
-    memory_load_blocks::load_some(out, q, g, table, kinds, v, true, v, n)
+    memory_load_blocks::load_some(out, q, g, kinds, v, true, v, n)
 }
 
 // By the count of the object in register r. A load that releases draws no label, one that shares draws one for each linked variable.
-fn load_counted(
-    out: &mut [u8],
-    p: Cursor,
-    g: Shape,
-    table: &[u16; ENTRIES],
-    kinds: &[u8],
-    v: u64,
-    n: u64,
-    r: u8,
-) -> Cursor
-    requires { ⌜ (Table (now table)) × (8 * n ≤ length (now kinds)) × (2 * (v + n) < positions g) × (p .at + 600000 < 2 ^ 64) × (p .counter + 2500 < 2 ^ 32) × Supported g ⌝ }
+fn load_counted(out: &mut [u8], p: Cursor, g: Shape, kinds: &[u8], v: u64, n: u64, r: u8) -> Cursor
+    requires { ⌜ (8 * n ≤ length (now kinds)) × (2 * (v + n) < positions g) × (p .at + 600000 < 2 ^ 64) × (p .counter + 2500 < 2 ^ 32) × Supported g ⌝ }
     ensures { λ q. ⌜ Emits (now (out .entry)) p (now (out .exit)) q (if-zero (CMPIM r 0 0) refl (loadSome g (extIn (now (kinds .entry)) v) false v n) (seq (leaf (ADDIM r 0 MINUSONE) refl) (loadSome g (extIn (now (kinds .entry)) v) true v n))) ⌝ }
 {
     let counter = p.counter + linked(kinds, n) + 2;
     let end = counter as u32;
     let l = end - 1;
     let q = emit::cursor::emit2(out, p, Row(CMPIM, r, 0, 0, 0, 0), Row(JEL, 0, 0, l, 0, 0));
-    let s = load_shared(out, q, g, table, kinds, v, n, r);
+    let s = load_shared(out, q, g, kinds, v, n, r);
     let t = emit::cursor::emit2(out, s, Row(JMPL, 0, 0, end, 0, 0), Row(LAB, 0, 0, l, 0, 0));
     let u = memory_load_blocks::load_some(
         out,
@@ -98,7 +77,6 @@ fn load_counted(
             counter: p.counter,
         },
         g,
-        table,
         kinds,
         v,
         false,
@@ -122,33 +100,16 @@ fn into_register(out: &mut [u8], p: Cursor, g: Shape, w: u64) -> Cursor
 }
 
 // n variables after v, out of the object in the Fst past those.
-pub fn load_object(
-    out: &mut [u8],
-    p: Cursor,
-    g: Shape,
-    table: &[u16; ENTRIES],
-    kinds: &[u8],
-    v: u64,
-    n: u64,
-) -> Cursor
-    requires { ⌜ (Table (now table)) × (8 * n ≤ length (now kinds)) × (loadFits g v n ≡ true) × (p .at + 600024 < 2 ^ 64) × (p .counter + 2500 < 2 ^ 32) × Supported g ⌝ }
+pub fn load_object(out: &mut [u8], p: Cursor, g: Shape, kinds: &[u8], v: u64, n: u64) -> Cursor
+    requires { ⌜ (8 * n ≤ length (now kinds)) × (loadFits g v n ≡ true) × (p .at + 600024 < 2 ^ 64) × (p .counter + 2500 < 2 ^ 32) × Supported g ⌝ }
     ensures { λ q. ⌜ Emits (now (out .entry)) p (now (out .exit)) q (loadObject g (extIn (now (kinds .entry)) v) v n) ⌝ }
 {
     if n == 0 {
         return p;
     }
-    let w = layout::utils::location_at(table, 2 * v);
+    let w = layout::utils::location_of(2 * v);
     let q = into_register(out, p, g, w);
-    load_counted(
-        out,
-        q,
-        g,
-        table,
-        kinds,
-        v,
-        n,
-        layout::utils::register_for(w),
-    )
+    load_counted(out, q, g, kinds, v, n, layout::utils::register_for(w))
 }
 
 // Whether n variables after v have positions.
@@ -163,51 +124,18 @@ fn load_fits(g: Shape, v: u64, n: u64) -> bool
     2 * (v + n) < positions + 1
 }
 
-// Written at once, where neither labels nor room can be wanting.
-fn load_at_once(
-    out: &mut [u8],
-    g: Shape,
-    counter: u64,
-    table: &[u16; ENTRIES],
-    loaded: &[u8],
-    v: u64,
-    n: u64,
-) -> Answer
-    requires { ⌜ (Table (now table)) × (8 * n ≤ length (now loaded)) × (loadFits g v n ≡ true) × (counter < 2147480000) × (24 * objectRecords g n ≤ length (now out)) × Supported g ⌝ }
-    ensures { λ r. ⌜ Answers (now (out .entry)) (now (out .exit)) r (treeAnswer counter (length (now (out .entry))) (loadObject g (extIn (now (loaded .entry)) v) v n)) (flat (loadObject g (extIn (now (loaded .entry)) v) v n) counter) ⌝ }
-{
-    let q = load_object(out, Cursor { at: 0, counter }, g, table, loaded, v, n);
-    Answer::Written(q.at / 24, q.counter)
-}
-
 // A first pass on another output tells the size, and the second writes.
-fn load_sized(
-    out: &mut [u8],
-    g: Shape,
-    counter: u64,
-    table: &[u16; ENTRIES],
-    loaded: &[u8],
-    v: u64,
-    n: u64,
-) -> Answer
-    requires { ⌜ (Table (now table)) × (8 * n ≤ length (now loaded)) × (loadFits g v n ≡ true) × Supported g ⌝ }
+fn load_sized(out: &mut [u8], g: Shape, counter: u64, loaded: &[u8], v: u64, n: u64) -> Answer
+    requires { ⌜ (8 * n ≤ length (now loaded)) × (loadFits g v n ≡ true) × Supported g ⌝ }
     ensures { λ r. ⌜ Answers (now (out .entry)) (now (out .exit)) r (treeAnswer counter (length (now (out .entry))) (loadObject g (extIn (now (loaded .entry)) v) v n)) (flat (loadObject g (extIn (now (loaded .entry)) v) v n) counter) ⌝ }
 {
     let mut none = [0u8; 1];
-    let need = load_object(
-        &mut none,
-        Cursor { at: 0, counter: 0 },
-        g,
-        table,
-        loaded,
-        v,
-        n,
-    );
+    let need = load_object(&mut none, Cursor { at: 0, counter: 0 }, g, loaded, v, n);
     let answer = emit::answer::grant(counter, out.len(), need);
     if emit::answer::is_written(answer) {} else {
         return answer;
     }
-    load_object(out, Cursor { at: 0, counter }, g, table, loaded, v, n);
+    load_object(out, Cursor { at: 0, counter }, g, loaded, v, n);
     answer
 }
 
@@ -219,11 +147,11 @@ fn load_after(out: &mut [u8], g: Shape, counter: u64, loaded: &[u8], v: u64, n: 
     if load_fits(g, v, n) {} else {
         return Answer::Position;
     }
-    let table = layout::utils::positions();
-    if store::ample(g, counter, out.len(), n) {
-        return load_at_once(out, g, counter, &table, loaded, v, n);
+    if memory_bounds::load_ample(g, counter, out.len(), n) {
+        let q = load_object(out, Cursor { at: 0, counter }, g, loaded, v, n);
+        return emit::answer::written(q);
     }
-    load_sized(out, g, counter, &table, loaded, v, n)
+    load_sized(out, g, counter, loaded, v, n)
 }
 
 // The variables of one context, out of the object in the Fst past the existing context.

@@ -1,3 +1,2 @@
 -- Lemmas of the stores' proofs.
 pub mod Answering  -- from a checked context to what a store answers
-pub mod AtOnce  -- an operation that writes at once

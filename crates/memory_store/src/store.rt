@@ -1,9 +1,8 @@
 // Variables stored into an object of as many blocks as they need, from memory.rs.
-// `kinds` is binding records, of which the first is variable `first`'s; `table` gives each position its operand.
+// `kinds` is binding records, of which the first is variable `first`'s.
 ghost use mathlib.Core.Path.{_≡_};
-ghost use mathlib.Core.Bool.{_&&_};
 ghost use Prim.Native.Nat.{_+_, _*_, _-_, _<_, _≤_, _^_};
-ghost use lib.Dec.{ltb, leb};
+ghost use lib.Dec.{ltb};
 ghost use lib.ListN.{length};
 ghost use Rattle.records.specs.declared.context.ContextRead.the-variants.{Good};
 ghost use Rattle.records.specs.Contexts.{checkedContext};
@@ -11,8 +10,7 @@ ghost use Rattle.trees.specs.Tree.{flat};
 ghost use Rattle.emit.specs.Emitted.{Emits};
 ghost use Rattle.emit.specs.Answers.{Answers};
 ghost use Rattle.layout.specs.Config.{Supported, positions};
-ghost use Rattle.layout.specs.Positions.{Table};
-ghost use Rattle.memory.specs.Objects.{extIn, objectRecords, storeZeros, storeFst, storeValue, storeValues, storeOther, storeOthers, storeSome, storeObject};
+ghost use Rattle.memory.specs.Objects.{extIn, storeZeros, storeFst, storeValue, storeValues, storeOther, storeOthers, storeSome, storeObject};
 ghost use Rattle.memory.specs.Answered.{treeAnswer, storeTree, storeHighest, storeAnswer, storeIn, storeRecordsIn};
 use emit::answer::Answer;
 use emit::cursor::Cursor;
@@ -20,7 +18,6 @@ use emit::cursor::Row;
 use layout::config::HEAP;
 use layout::config::Shape;
 use layout::config::Shaped;
-use layout::utils::ENTRIES;
 use memory::block;
 use records::context::ContextRead;
 use records::number::MOVIM;
@@ -39,23 +36,15 @@ fn store_zeros(out: &mut [u8], p: Cursor, n: u64) -> Cursor
 }
 
 // A variable's pointer into field t, or zero where it is an integer.
-fn store_fst(
-    out: &mut [u8],
-    p: Cursor,
-    g: Shape,
-    table: &[u16; ENTRIES],
-    ext: bool,
-    v: u64,
-    t: u64,
-) -> Cursor
-    requires { ⌜ (Table (now table)) × (2 * v + 2 < positions g) × (t < g .fields) × (p .at + 48 < 2 ^ 64) × Supported g ⌝ }
+fn store_fst(out: &mut [u8], p: Cursor, g: Shape, ext: bool, v: u64, t: u64) -> Cursor
+    requires { ⌜ (2 * v + 2 < positions g) × (t < g .fields) × (p .at + 48 < 2 ^ 64) × Supported g ⌝ }
     ensures { λ q. ⌜ Emits (now (out .entry)) p (now (out .exit)) q (storeFst g ext v t) ⌝ }
 {
     let offset = layout::offset::fst_offset(t);
     if ext {
         emit::cursor::emit(out, p, Row(MOVIM, HEAP, 0, 0, offset, 0))
     } else {
-        let w = layout::utils::location_at(table, 2 * v);
+        let w = layout::utils::location_of(2 * v);
         block::store_field(out, p, g, w, HEAP, offset)
     }
 }
@@ -65,20 +54,19 @@ fn store_value(
     out: &mut [u8],
     p: Cursor,
     g: Shape,
-    table: &[u16; ENTRIES],
     kinds: &[u8],
     first: u64,
     v: u64,
     t: u64,
 ) -> Cursor
-    requires { ⌜ (Table (now table)) × (first ≤ v) × (8 * (v - first) + 8 ≤ length (now kinds)) × (2 * v + 2 < positions g) × (t < g .fields) × (p .at + 96 < 2 ^ 64) × Supported g ⌝ }
+    requires { ⌜ (first ≤ v) × (8 * (v - first) + 8 ≤ length (now kinds)) × (2 * v + 2 < positions g) × (t < g .fields) × (p .at + 96 < 2 ^ 64) × Supported g ⌝ }
     ensures { λ q. ⌜ Emits (now (out .entry)) p (now (out .exit)) q (storeValue g (extIn (now (kinds .entry)) first) v t) ⌝ }
 {
     let offset = layout::offset::snd_offset(t);
-    let w = layout::utils::location_at(table, 2 * v + 1);
+    let w = layout::utils::location_of(2 * v + 1);
     let q = block::store_field(out, p, g, w, HEAP, offset);
     let ext = layout::utils::is_ext(kinds, v - first);
-    store_fst(out, q, g, table, ext, v, t)
+    store_fst(out, q, g, ext, v, t)
 }
 
 // The k variables from v on into the last of the first `free` fields, and zeros before them.
@@ -86,21 +74,20 @@ fn store_values(
     out: &mut [u8],
     p: Cursor,
     g: Shape,
-    table: &[u16; ENTRIES],
     kinds: &[u8],
     first: u64,
     v: u64,
     k: u64,
     free: u64,
 ) -> Cursor
-    requires { ⌜ (Table (now table)) × (first ≤ v) × (8 * (v + k - first) ≤ length (now kinds)) × (2 * (v + k) < positions g) × (k ≤ free) × (free ≤ g .fields) × (p .at + 96 * k + 168 < 2 ^ 64) × Supported g ⌝ }
+    requires { ⌜ (first ≤ v) × (8 * (v + k - first) ≤ length (now kinds)) × (2 * (v + k) < positions g) × (k ≤ free) × (free ≤ g .fields) × (p .at + 96 * k + 168 < 2 ^ 64) × Supported g ⌝ }
     ensures { λ q. ⌜ Emits (now (out .entry)) p (now (out .exit)) q (storeValues g (extIn (now (kinds .entry)) first) v k free) ⌝ }
 {
     let mut q = p;
     let mut left = k;
     let mut at = free;
     while 0 < left {
-        q = store_value(out, q, g, table, kinds, first, v + (left - 1), at - 1);
+        q = store_value(out, q, g, kinds, first, v + (left - 1), at - 1);
         left -= 1;
         at -= 1;
     }
@@ -112,21 +99,20 @@ fn store_other(
     out: &mut [u8],
     p: Cursor,
     g: Shape,
-    table: &[u16; ENTRIES],
     kinds: &[u8],
     first: u64,
     each: u64,
     v: u64,
     k: u64,
 ) -> Cursor
-    requires { ⌜ (Table (now table)) × (first ≤ v) × (8 * (v + k - first) ≤ length (now kinds)) × (2 * (v + k) < positions g) × (k ≤ each) × (p .at + 3400 < 2 ^ 64) × (p .counter + 25 < 2 ^ 32) × (each + 1 ≡ g .fields) × Supported g ⌝ }
+    requires { ⌜ (first ≤ v) × (8 * (v + k - first) ≤ length (now kinds)) × (2 * (v + k) < positions g) × (k ≤ each) × (p .at + 3400 < 2 ^ 64) × (p .counter + 25 < 2 ^ 32) × (each + 1 ≡ g .fields) × Supported g ⌝ }
     ensures { λ q. ⌜ Emits (now (out .entry)) p (now (out .exit)) q (storeOther g (extIn (now (kinds .entry)) first) v k) ⌝ }
 {
-    let link = layout::utils::location_at(table, 2 * (v + k));
-    let pointer = layout::utils::location_at(table, 2 * v);
+    let link = layout::utils::location_of(2 * (v + k));
+    let pointer = layout::utils::location_of(2 * v);
     let offset = layout::offset::fst_offset(each);
     let q = block::store_field(out, p, g, link, HEAP, offset);
-    let s = store_values(out, q, g, table, kinds, first, v, k, each);
+    let s = store_values(out, q, g, kinds, first, v, k, each);
     block::acquire_block(out, s, g, pointer)
 }
 
@@ -135,7 +121,6 @@ fn store_others(
     out: &mut [u8],
     p: Cursor,
     g: Shape,
-    table: &[u16; ENTRIES],
     kinds: &[u8],
     first: u64,
     each: u64,
@@ -143,7 +128,7 @@ fn store_others(
     v: u64,
     n: u64,
 ) -> Cursor
-    requires { ⌜ (Table (now table)) × (first ≤ v) × (8 * (v + n - first) ≤ length (now kinds)) × (2 * (v + n) < positions g) × (p .at + 3096 * m + 400 < 2 ^ 64) × (p .counter + 25 * m < 2 ^ 32) × (each + 1 ≡ g .fields) × Supported g ⌝ }
+    requires { ⌜ (first ≤ v) × (8 * (v + n - first) ≤ length (now kinds)) × (2 * (v + n) < positions g) × (p .at + 3096 * m + 400 < 2 ^ 64) × (p .counter + 25 * m < 2 ^ 32) × (each + 1 ≡ g .fields) × Supported g ⌝ }
     ensures { λ q. ⌜ Emits (now (out .entry)) p (now (out .exit)) q (storeOthers g (extIn (now (kinds .entry)) first) m v n) ⌝ }
 {
     let mut q = p;
@@ -151,7 +136,7 @@ fn store_others(
     let mut left = n;
     while 0 < blocks {
         let rest = layout::utils::excess(left, each);
-        q = store_other(out, q, g, table, kinds, first, each, v + rest, left - rest);
+        q = store_other(out, q, g, kinds, first, each, v + rest, left - rest);
         left = rest;
         blocks -= 1;
     }
@@ -163,53 +148,43 @@ pub fn store_some(
     out: &mut [u8],
     p: Cursor,
     g: Shape,
-    table: &[u16; ENTRIES],
     kinds: &[u8],
     first: u64,
     v: u64,
     n: u64,
 ) -> Cursor
-    requires { ⌜ (Table (now table)) × (first ≤ v) × (8 * (v + n - first) ≤ length (now kinds)) × (2 * (v + n) < positions g) × (p .at + 1000000 < 2 ^ 64) × (p .counter + 7000 < 2 ^ 32) × Supported g ⌝ }
+    requires { ⌜ (first ≤ v) × (8 * (v + n - first) ≤ length (now kinds)) × (2 * (v + n) < positions g) × (p .at + 1000000 < 2 ^ 64) × (p .counter + 7000 < 2 ^ 32) × Supported g ⌝ }
     ensures { λ q. ⌜ Emits (now (out .entry)) p (now (out .exit)) q (storeSome g (extIn (now (kinds .entry)) first) v n) ⌝ }
 {
     let fields = g.fields;
     let each = fields - 1;
     let rest = layout::utils::excess(n, fields);
-    let pointer = layout::utils::location_at(table, 2 * (v + rest));
-    let q = store_values(out, p, g, table, kinds, first, v + rest, n - rest, fields);
+    let pointer = layout::utils::location_of(2 * (v + rest));
+    let q = store_values(out, p, g, kinds, first, v + rest, n - rest, fields);
     let s = block::acquire_block(out, q, g, pointer);
     store_others(
         out,
         s,
         g,
-        table,
         kinds,
         first,
         each,
-        (rest + (each - 1)) / each,
+        memory_bounds::other_blocks(g, rest),
         v,
         rest,
     )
 }
 
 // n variables from v on into an object whose pointer goes into variable v's Fst; zero for none.
-pub fn store_object(
-    out: &mut [u8],
-    p: Cursor,
-    g: Shape,
-    table: &[u16; ENTRIES],
-    kinds: &[u8],
-    v: u64,
-    n: u64,
-) -> Cursor
-    requires { ⌜ (Table (now table)) × (8 * (v + n) ≤ length (now kinds)) × (2 * (v + n) < positions g) × (p .at + 1000000 < 2 ^ 64) × (p .counter + 7000 < 2 ^ 32) × Supported g ⌝ }
+pub fn store_object(out: &mut [u8], p: Cursor, g: Shape, kinds: &[u8], v: u64, n: u64) -> Cursor
+    requires { ⌜ (8 * (v + n) ≤ length (now kinds)) × (2 * (v + n) < positions g) × (p .at + 1000000 < 2 ^ 64) × (p .counter + 7000 < 2 ^ 32) × Supported g ⌝ }
     ensures { λ q. ⌜ Emits (now (out .entry)) p (now (out .exit)) q (storeObject g (extIn (now (kinds .entry)) 0) v n) ⌝ }
 {
     if n == 0 {
-        let w = layout::utils::location_at(table, 2 * v);
+        let w = layout::utils::location_of(2 * v);
         code::emitters::emit_load_immediate(out, p, g, w, 0)
     } else {
-        store_some(out, p, g, table, kinds, 0, v, n)
+        store_some(out, p, g, kinds, 0, v, n)
     }
 }
 
@@ -225,72 +200,18 @@ fn store_fits(g: Shape, k: u64, n: u64) -> bool
     2 * k < positions + 1
 }
 
-// How many records suffice for a store or a load of n variables, by its blocks.
-fn object_records(g: Shape, n: u64) -> u64
-    requires { ⌜ (n ≤ 4096) × Supported g ⌝ }
-    ensures { λ r. ⌜ (r ≡ objectRecords g n) × (r ≤ 49 * n + 600) ⌝ }
-{
-    let each = g.fields - 1;
-    let rest = layout::utils::excess(n, g.fields);
-    (16 * g.fields + 17) * ((rest + (each - 1)) / each + 1) + 4
-}
-
-// Whether no store or load of n variables can want labels or room: each draws fewer than 3,000 labels.
-pub fn ample(g: Shape, counter: u64, room: usize, n: u64) -> bool
-    requires { ⌜ (n ≤ 4096) × Supported g ⌝ }
-    ensures { λ r. ⌜ r ≡ (ltb counter 2147480000 && leb (24 * objectRecords g n) room) ⌝ }
-{
-    if counter < 2147480000 {} else {
-        return false;
-    }
-    24 * object_records(g, n) <= room as u64
-}
-
-// Written at once, where neither labels nor room can be wanting.
-fn store_at_once(
-    out: &mut [u8],
-    g: Shape,
-    counter: u64,
-    table: &[u16; ENTRIES],
-    kinds: &[u8],
-    v: u64,
-    n: u64,
-) -> Answer
-    requires { ⌜ (Table (now table)) × (8 * (v + n) ≤ length (now kinds)) × (2 * (v + n) < positions g) × (counter < 2147480000) × (24 * objectRecords g n ≤ length (now out)) × Supported g ⌝ }
-    ensures { λ r. ⌜ Answers (now (out .entry)) (now (out .exit)) r (treeAnswer counter (length (now (out .entry))) (storeObject g (extIn (now (kinds .entry)) 0) v n)) (flat (storeObject g (extIn (now (kinds .entry)) 0) v n) counter) ⌝ }
-{
-    let q = store_object(out, Cursor { at: 0, counter }, g, table, kinds, v, n);
-    Answer::Written(q.at / 24, q.counter)
-}
-
 // A first pass on another output tells the size, and the second writes.
-fn store_sized(
-    out: &mut [u8],
-    g: Shape,
-    counter: u64,
-    table: &[u16; ENTRIES],
-    kinds: &[u8],
-    v: u64,
-    n: u64,
-) -> Answer
-    requires { ⌜ (Table (now table)) × (8 * (v + n) ≤ length (now kinds)) × (2 * (v + n) < positions g) × Supported g ⌝ }
+fn store_sized(out: &mut [u8], g: Shape, counter: u64, kinds: &[u8], v: u64, n: u64) -> Answer
+    requires { ⌜ (8 * (v + n) ≤ length (now kinds)) × (2 * (v + n) < positions g) × Supported g ⌝ }
     ensures { λ r. ⌜ Answers (now (out .entry)) (now (out .exit)) r (treeAnswer counter (length (now (out .entry))) (storeObject g (extIn (now (kinds .entry)) 0) v n)) (flat (storeObject g (extIn (now (kinds .entry)) 0) v n) counter) ⌝ }
 {
     let mut none = [0u8; 1];
-    let need = store_object(
-        &mut none,
-        Cursor { at: 0, counter: 0 },
-        g,
-        table,
-        kinds,
-        v,
-        n,
-    );
+    let need = store_object(&mut none, Cursor { at: 0, counter: 0 }, g, kinds, v, n);
     let answer = emit::answer::grant(counter, out.len(), need);
     if emit::answer::is_written(answer) {} else {
         return answer;
     }
-    store_object(out, Cursor { at: 0, counter }, g, table, kinds, v, n);
+    store_object(out, Cursor { at: 0, counter }, g, kinds, v, n);
     answer
 }
 
@@ -305,11 +226,12 @@ fn store_last(out: &mut [u8], g: Shape, counter: u64, context: &[u8], k: u64, n:
     if store_fits(g, k, n) {} else {
         return Answer::Position;
     }
-    let table = layout::utils::positions();
-    if ample(g, counter, out.len(), n) {
-        return store_at_once(out, g, counter, &table, context, k - n, n);
+    let v = k - n;
+    if memory_bounds::store_ample(g, counter, out.len(), v, n, 0) {
+        let q = store_object(out, Cursor { at: 0, counter }, g, context, v, n);
+        return emit::answer::written(q);
     }
-    store_sized(out, g, counter, &table, context, k - n, n)
+    store_sized(out, g, counter, context, v, n)
 }
 
 // The last n variables of a context into an object, whose pointer goes into the first one's Fst.

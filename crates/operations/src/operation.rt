@@ -1,9 +1,9 @@
 // An operation with its operands: checked, sized, and written into a lent output.
 ghost use mathlib.Core.Path.{_≡_};
 ghost use mathlib.Core.Bool.{true, _&&_};
-ghost use Prim.Native.Nat.{_+_, _<_, _^_};
+ghost use Prim.Native.Nat.{_+_, _*_, _<_, _^_};
 ghost use lib.ListN.{length};
-ghost use Rattle.emit.specs.Answers.{Answers};
+ghost use Rattle.emit.specs.Answers.{granted, Answers};
 ghost use Rattle.emit.specs.Emitted.{fieldsList, Emitted};
 ghost use Rattle.layout.specs.Config.{Supported};
 ghost use Rattle.layout.specs.Positions.{operandOk};
@@ -18,6 +18,9 @@ use layout::config::Shape;
 use records::number::JMPL;
 use records::number::JMPLN;
 use records::number::LAB;
+
+// The most records of an operation: a division's.
+const MOST_RECORDS: u64 = 9;
 
 // The operations of code.rs but print_i64. Operands are words, labels are those of records, immediates 64-bit two's complement.
 pub enum Operation {
@@ -134,6 +137,18 @@ fn operate_in(out: &mut [u8], g: Shape, operation: Operation) -> Answer
     if operands_ok(g, operation) {} else {
         return Answer::Operand;
     }
+    if emit::answer::ample(0, out.len(), 0, MOST_RECORDS) {
+        let q = emit_operation(out, Cursor { at: 0, counter: 0 }, g, operation);
+        return emit::answer::written(q);
+    }
+    operate_sized(out, g, operation)
+}
+
+// A first pass on another output tells the size, and the second writes.
+fn operate_sized(out: &mut [u8], g: Shape, operation: Operation) -> Answer
+    requires { ⌜ (operandsAllowed g operation ≡ true) × Supported g ⌝ }
+    ensures { λ r. ⌜ Answers (now (out .entry)) (now (out .exit)) r (granted 0 (length (now (out .entry))) (24 * length (operationRecords g operation)) 0) (operationRecords g operation) ⌝ }
+{
     let mut none = [0u8; 1];
     let need = emit_operation(&mut none, Cursor { at: 0, counter: 0 }, g, operation);
     let answer = emit::answer::grant(0, out.len(), need);

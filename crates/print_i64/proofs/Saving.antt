@@ -18,7 +18,7 @@ use Rattle.emit.specs.declared.cursor.Cursor.{Cursor}
 use Rattle.emit.specs.Emitted.{fieldsList, Emitted, Emits}
 use Rattle.emit.proofs.Laws.{_⨾_, _⨟_, grown, emits-nop, fields-append}
 use Rattle.layout.specs.Config.{STACK}
-use Rattle.print_i64.specs.Registers.{bit, members}
+use Rattle.print_i64.specs.Registers.{bit, members, CallerSaved}
 use Rattle.print_i64.specs.Print.{moves, movesBack, pushes, pops, ifEven, saveRegisters, restoreRegisters}
 use Rattle.print_i64.proofs.Sizes.{plain-moves, plain-back, plain-pushes, plain-pops}
 use Rattle.print_i64.specs.Saved.{near, far, moveAll, moveOne, popOne}
@@ -33,9 +33,9 @@ pub nothing : {o : List ℕ} {p : Cursor} → Emitted o p o p [] 0
 nothing = record { bytes = refl; place = omega arith; drawn = omega arith }
 
 -- no register yet
-pub none-moved : {o : List ℕ} {p : Cursor} (back : Bool) (f u m : ℕ) → (0 ≡ length (members 0 m)) × Emitted o p o p (fieldsList (moveAll back f u (members 0 m))) 0
-unfolding members moveAll
-none-moved back f u m = (refl, nothing)
+pub none-moved : {o : List ℕ} {p : Cursor} (back : Bool) (f u m : ℕ) → CallerSaved m → (0 ≡ length (members 4 m)) × Emitted o p o p (fieldsList (moveAll back f u (members 4 m))) 0
+unfolding moveAll
+none-moved back f u m saved = rw (saved .0) (refl, nothing)
 
 -- lists of records in a row
 pub joined : {o o₁ o₂ : List ℕ} {p p₁ p₂ : Cursor} (xs ys : List Code) → Emitted o p o₁ p₁ (fieldsList xs) 0 → Emitted o₁ p₁ o₂ p₂ (fieldsList ys) 0
@@ -155,16 +155,24 @@ pops-rest u r (suc k) m c n h =
     let e : r - k ≡ r - suc k + 1 = omega arith in
     pops-rest u r k m c n (omega arith) ∙ rw (e, pops-more u (r - suc k) m c n, append-assoc)
 
-pops-all : (u r m c n : ℕ) → popsDown u r r m ≡ flatAt (pops (drop u (members r m))) c n
-unfolding members
-pops-all u r m c n =
-    let e : r - r ≡ 0 = omega arith in
-    sym (pops-rest u r r m c n (omega arith) ∙ rw (e, drop-nil u, append-nil))
+-- nothing is popped above the highest register
+empty : (xs ys : List Code) → ys ≡ xs ++ ys → xs ≡ []
+empty [] ys e = refl
+empty (x ∷ xs) ys e = absurd (omega (arith, ap length e, length-append (x ∷ xs) ys))
 
-pub popped : {o o′ : List ℕ} {p q : Cursor} (u m : ℕ) {k : ℕ} → k ≡ 16 → Emitted o p o′ q (fieldsList (popsDown u 16 k m)) 0 → Emits o p o′ q (pops (drop u (members 16 m)))
-popped {p = p} u m e d =
+pub none-popped : (u m : ℕ) → CallerSaved m → [] ≡ popsDown u 16 4 m
+none-popped u m saved =
+    let rest = pops-rest u 16 4 m 0 0 (omega arith) in
+    sym (empty (popsDown u 16 4 m) (flatAt (pops (drop u (members 12 m))) 0 0) (ap (λ (l : List ℕ). flatAt (pops (drop u l)) 0 0) (saved .1) ∙ rest))
+
+-- nor below the lowest
+pub popped : {o o′ : List ℕ} {p q : Cursor} (u m : ℕ) {k : ℕ} → CallerSaved m → k ≡ 12 → Emitted o p o′ q (fieldsList (popsDown u 16 k m)) 0
+    → Emits o p o′ q (pops (drop u (members 16 m)))
+popped {p = p} u m saved e d =
+    let rest : flatAt (pops (drop u (members 16 m))) (p .counter) 0 ≡ popsDown u 16 12 m =
+    pops-rest u 16 12 m (p .counter) 0 (omega arith) ∙ rw (saved .0, drop-nil u, append-nil) in
     grown (pops (drop u (members 16 m))) (rw e at d)
-    (ap fieldsList (pops-all u 16 m (p .counter) 0))
+    (ap fieldsList (sym rest))
     (sym (plain-pops (drop u (members 16 m)) .0))
 
 pub pops-most : (u r k m : ℕ) → length (popsDown u r k m) ≤ k

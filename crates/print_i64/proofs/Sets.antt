@@ -12,7 +12,7 @@ use lib.Count.{ones, ones-cat}
 use lib.Dec.{eqb}
 use lib.ListN.{length, length-append}
 use lib.Pow.{pow-mono, pow-pos}
-use Rattle.print_i64.specs.Registers.{registersOf, registersTo, registersToSave, setOf, twoBits, bit, members}
+use Rattle.print_i64.specs.Registers.{registersOf, registersTo, registersToSave, setOf, twoBits, bit, members, CallerSaved}
 
 set-append : (xs ys : List ℕ) → setOf (xs ++ ys) ≡ setOf xs + setOf ys
 set-append [] ys = omega arith
@@ -80,34 +80,36 @@ unfolding members
 members-most zero m = omega arith
 members-most (suc r) m = omega (arith, rw (add-one r) at (members-next r m), members-most r m, mod-lt (m / 2 ^ r) {m = 2} (omega arith))
 
--- the members of the set are the list that it was made of: computed for the four variables' kinds
+-- the members of the set are the list that it was made of, and none is below 4 or above 11: computed for the four variables' kinds
 abbrev four : Bool → Bool → Bool → Bool → ℕ → Bool
 four a b c d v = cond (eqb v 0) a (cond (eqb v 1) b (cond (eqb v 2) c d))
 
 abbrev Same : (ℕ → Bool) → ℕ → Type 0
-Same ext k = members 16 (setOf (registersTo ext k)) ≡ registersTo ext k
+Same ext k =
+    let m = setOf (registersTo ext k) in
+    (members 16 m ≡ registersTo ext k) × CallerSaved m
 
 abbrev AllSame : Bool → Bool → Bool → Bool → Type 0
 AllSame a b c d = Same (four a b c d) 0 × Same (four a b c d) 1 × Same (four a b c d) 2 × Same (four a b c d) 3 × Same (four a b c d) 4
 
 all-same : (a b c d : Bool) → AllSame a b c d
 unfolding members
-all-same true true true true = (refl, refl, refl, refl, refl)
-all-same true true true false = (refl, refl, refl, refl, refl)
-all-same true true false true = (refl, refl, refl, refl, refl)
-all-same true true false false = (refl, refl, refl, refl, refl)
-all-same true false true true = (refl, refl, refl, refl, refl)
-all-same true false true false = (refl, refl, refl, refl, refl)
-all-same true false false true = (refl, refl, refl, refl, refl)
-all-same true false false false = (refl, refl, refl, refl, refl)
-all-same false true true true = (refl, refl, refl, refl, refl)
-all-same false true true false = (refl, refl, refl, refl, refl)
-all-same false true false true = (refl, refl, refl, refl, refl)
-all-same false true false false = (refl, refl, refl, refl, refl)
-all-same false false true true = (refl, refl, refl, refl, refl)
-all-same false false true false = (refl, refl, refl, refl, refl)
-all-same false false false true = (refl, refl, refl, refl, refl)
-all-same false false false false = (refl, refl, refl, refl, refl)
+all-same true true true true = ((refl, (refl, refl)), (refl, (refl, refl)), (refl, (refl, refl)), (refl, (refl, refl)), (refl, (refl, refl)))
+all-same true true true false = ((refl, (refl, refl)), (refl, (refl, refl)), (refl, (refl, refl)), (refl, (refl, refl)), (refl, (refl, refl)))
+all-same true true false true = ((refl, (refl, refl)), (refl, (refl, refl)), (refl, (refl, refl)), (refl, (refl, refl)), (refl, (refl, refl)))
+all-same true true false false = ((refl, (refl, refl)), (refl, (refl, refl)), (refl, (refl, refl)), (refl, (refl, refl)), (refl, (refl, refl)))
+all-same true false true true = ((refl, (refl, refl)), (refl, (refl, refl)), (refl, (refl, refl)), (refl, (refl, refl)), (refl, (refl, refl)))
+all-same true false true false = ((refl, (refl, refl)), (refl, (refl, refl)), (refl, (refl, refl)), (refl, (refl, refl)), (refl, (refl, refl)))
+all-same true false false true = ((refl, (refl, refl)), (refl, (refl, refl)), (refl, (refl, refl)), (refl, (refl, refl)), (refl, (refl, refl)))
+all-same true false false false = ((refl, (refl, refl)), (refl, (refl, refl)), (refl, (refl, refl)), (refl, (refl, refl)), (refl, (refl, refl)))
+all-same false true true true = ((refl, (refl, refl)), (refl, (refl, refl)), (refl, (refl, refl)), (refl, (refl, refl)), (refl, (refl, refl)))
+all-same false true true false = ((refl, (refl, refl)), (refl, (refl, refl)), (refl, (refl, refl)), (refl, (refl, refl)), (refl, (refl, refl)))
+all-same false true false true = ((refl, (refl, refl)), (refl, (refl, refl)), (refl, (refl, refl)), (refl, (refl, refl)), (refl, (refl, refl)))
+all-same false true false false = ((refl, (refl, refl)), (refl, (refl, refl)), (refl, (refl, refl)), (refl, (refl, refl)), (refl, (refl, refl)))
+all-same false false true true = ((refl, (refl, refl)), (refl, (refl, refl)), (refl, (refl, refl)), (refl, (refl, refl)), (refl, (refl, refl)))
+all-same false false true false = ((refl, (refl, refl)), (refl, (refl, refl)), (refl, (refl, refl)), (refl, (refl, refl)), (refl, (refl, refl)))
+all-same false false false true = ((refl, (refl, refl)), (refl, (refl, refl)), (refl, (refl, refl)), (refl, (refl, refl)), (refl, (refl, refl)))
+all-same false false false false = ((refl, (refl, refl)), (refl, (refl, refl)), (refl, (refl, refl)), (refl, (refl, refl)), (refl, (refl, refl)))
 
 module _ (ext : ℕ → Bool) where
   same-to : (k : ℕ) → k ≤ 4 → Same ext k
@@ -122,4 +124,7 @@ module _ (ext : ℕ → Bool) where
       by (suc (suc (suc (suc (suc k))))) h t = absurd (omega arith)
 
   pub members-saved : (n : ℕ) → members 16 (setOf (registersToSave ext n)) ≡ registersToSave ext n
-  members-saved n = same-to (min n 4) (omega arith)
+  members-saved n = same-to (min n 4) (omega arith) .0
+
+  pub saved-within : (n : ℕ) → CallerSaved (setOf (registersToSave ext n))
+  saved-within n = same-to (min n 4) (omega arith) .1

@@ -2,6 +2,7 @@
 -- From the scope, 'Operations': print_i64 saves registers 4..11 of the first four variables, an Ext's Snd alone, in free registers 12..15, then by pushes; and
 -- code.rs, caller_save_registers_info and save_caller_save_registers.
 use Prim.Native.Nat.{ℕ, zero, suc, _+_, _*_, _-_, _/_, _%_, _^_, min, max}
+use mathlib.Core.Path.{_≡_}
 use mathlib.Core.Bool.{Bool, cond}
 use mathlib.Core.List.{List, [], _∷_, _++_}
 use lib.Dec.{eqb}
@@ -36,6 +37,10 @@ bit r m = eqb (m / 2 ^ r % 2) 1
 unfoldable pub members : ℕ → ℕ → List ℕ
 members zero m = []
 members (suc r) m = members r m ++ cond (bit r m) (r ∷ []) []
+
+-- a set of registers 4 to 11 alone, where the first four variables stand
+abbrev pub CallerSaved : ℕ → Type 0
+CallerSaved m = (members 4 m ≡ []) × (members 12 m ≡ members 16 m)
 
 -- the first register past those of n variables, from 12 on
 abbrev pub firstBackup : ℕ → ℕ

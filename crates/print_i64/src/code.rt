@@ -4,9 +4,10 @@ ghost use Prim.Native.Nat.{_+_, _*_, _≤_, _<_, _^_};
 ghost use lib.ListN.{length};
 ghost use Rattle.records.specs.declared.context.ContextRead.the-variants.{Good};
 ghost use Rattle.records.specs.Contexts.{checkedContext, extAt};
-ghost use Rattle.emit.specs.Answers.{Answers};
+ghost use Rattle.trees.specs.Tree.{size, flat};
+ghost use Rattle.emit.specs.Answers.{granted, Answers};
 ghost use Rattle.emit.specs.Emitted.{Emits};
-ghost use Rattle.layout.specs.Config.{Supported, operands, registerFor};
+ghost use Rattle.layout.specs.Config.{Supported, operands};
 ghost use Rattle.print_i64.specs.Print.{sourceToTemp, printName, callPrint, printI64, printAnswer, printRecords, Prints};
 use crate::registers;
 use crate::save;
@@ -26,6 +27,9 @@ use records::number::MOVL;
 
 // The register of a call's first argument.
 const ARG_0: u8 = 7;
+
+// The most records of a print: with eight registers saved, and its source in a spill.
+const MOST_RECORDS: u64 = 21;
 
 // A source in a spill goes to TEMP before STACK is changed.
 fn source_to_temp(out: &mut [u8], p: Cursor, g: Shape, w: u64) -> Cursor
@@ -95,6 +99,18 @@ fn print_checked(
     if layout::utils::operand_ok(g, w) {} else {
         return Answer::Operand;
     }
+    if emit::answer::ample(0, out.len(), 0, MOST_RECORDS) {
+        let q = emit_print_i64(out, Cursor { at: 0, counter: 0 }, g, newline, w, context, n);
+        return emit::answer::written(q);
+    }
+    print_sized(out, g, newline, w, context, n)
+}
+
+// A first pass on another output tells the size, and the second writes.
+fn print_sized(out: &mut [u8], g: Shape, newline: bool, w: u64, context: &[u8], n: usize) -> Answer
+    requires { ⌜ (w < operands g) × (8 * n ≤ length (now context)) × (n ≤ 4096) × Supported g ⌝ }
+    ensures { λ r. ⌜ Answers (now (out .entry)) (now (out .exit)) r (granted 0 (length (now (out .entry))) (24 * size (printI64 g newline w (extAt (now (context .entry))) n)) 0) (flat (printI64 g newline w (extAt (now (context .entry))) n) 0) ⌝ }
+{
     let mut none = [0u8; 1];
     let need = emit_print_i64(
         &mut none,

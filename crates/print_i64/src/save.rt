@@ -6,7 +6,7 @@ ghost use lib.Count.{ones};
 ghost use lib.ListN.{length, drop};
 ghost use Rattle.records.specs.declared.code.Code.the-variants.{ADDI};
 ghost use Rattle.emit.specs.Emitted.{fieldsList, Emitted, Emits};
-ghost use Rattle.print_i64.specs.Registers.{members};
+ghost use Rattle.print_i64.specs.Registers.{members, CallerSaved};
 ghost use Rattle.print_i64.specs.Print.{pops, ifEven, saveRegisters, restoreRegisters};
 ghost use Rattle.print_i64.specs.Saved.{moveOne, moveAll, popOne};
 use emit::cursor::Cursor;
@@ -50,12 +50,12 @@ fn move_one(
 
 // From the lowest register on.
 fn move_all(out: &mut [u8], p: Cursor, back: bool, set: u16, first: u64, used: u64) -> Cursor
-    requires { ⌜ (p .at + 384 < 2 ^ 64) × (used ≤ 16 - first) ⌝ }
+    requires { ⌜ (p .at + 384 < 2 ^ 64) × (used ≤ 16 - first) × CallerSaved set ⌝ }
     ensures { λ q. ⌜ Emitted (now (out .entry)) p (now (out .exit)) q (fieldsList (moveAll back first used (members 16 set))) 0 ⌝ }
 {
     let mut q = p;
     let mut done: u64 = 0;
-    for r in 0..16 {
+    for r in 4..12 {
         q = move_one(out, q, back, set, first, used, done, r);
         done = done + ((set >> r) % 2) as u64;
     }
@@ -78,12 +78,12 @@ fn pop_one(out: &mut [u8], p: Cursor, set: u16, used: u64, left: u64, r: u8) -> 
 
 // From the highest register on.
 fn pop_all(out: &mut [u8], p: Cursor, set: u16, count: u64, used: u64) -> Cursor
-    requires { ⌜ (p .at + 384 < 2 ^ 64) × (count ≡ length (members 16 set)) ⌝ }
+    requires { ⌜ (p .at + 384 < 2 ^ 64) × (count ≡ length (members 16 set)) × CallerSaved set ⌝ }
     ensures { λ q. ⌜ Emits (now (out .entry)) p (now (out .exit)) q (pops (drop used (members 16 set))) ⌝ }
 {
     let mut q = p;
     let mut left = count;
-    for k in 0..16 {
+    for k in 4..12 {
         let r: u8 = 15 - k;
         left = left - ((set >> r) % 2) as u64;
         q = pop_one(out, q, set, used, left, r);
@@ -99,7 +99,7 @@ pub fn save_caller_save_registers(
     first: u64,
     used: u64,
 ) -> Cursor
-    requires { ⌜ (p .at + 408 < 2 ^ 64) × (used ≤ 16 - first) × (used ≤ ones set) ⌝ }
+    requires { ⌜ (p .at + 408 < 2 ^ 64) × (used ≤ 16 - first) × (used ≤ ones set) × CallerSaved set ⌝ }
     ensures { λ q. ⌜ Emits (now (out .entry)) p (now (out .exit)) q (saveRegisters first used (members 16 set)) ⌝ }
 {
     let count = u16::count_ones(set) as u64;
@@ -128,7 +128,7 @@ pub fn restore_caller_save_registers(
     first: u64,
     used: u64,
 ) -> Cursor
-    requires { ⌜ (p .at + 792 < 2 ^ 64) × (used ≤ 16 - first) × (used ≤ ones set) ⌝ }
+    requires { ⌜ (p .at + 792 < 2 ^ 64) × (used ≤ 16 - first) × (used ≤ ones set) × CallerSaved set ⌝ }
     ensures { λ q. ⌜ Emits (now (out .entry)) p (now (out .exit)) q (restoreRegisters first used (members 16 set)) ⌝ }
 {
     let count = u16::count_ones(set) as u64;

@@ -20,8 +20,8 @@ use Rattle.trees.specs.Tree.{Tree, labels, size}
 use Rattle.layout.specs.declared.config.Shape.{Shape}
 use Rattle.layout.specs.Config.{Supported, positions, mostVariables}
 use Rattle.heap.specs.Values.{integer, Values, nil, cons, countOf, appended}
-use Rattle.memory.specs.Objects.{snd, extIn, objectRecords, objectSizes}
-use Rattle.memory.proofs.Sizes.{immediate-size, store-object-records}
+use Rattle.memory.specs.Objects.{snd, extIn, objectSizes}
+use Rattle.memory.proofs.Sizes.{objectRecords, immediate-size, store-object-records}
 use Rattle.order_context_proof.proofs.Bindings.{good-none, good-length}
 use Rattle.order_spec.specs.declared.answer.OrderAnswer.the-variants.{Position}
 use Rattle.order_spec.specs.Answered.{Asked, orderIs, orderAccepted, orderAnswerCause, orderGranted, decided, answerTo}

@@ -12,5 +12,5 @@ freed-before-spec =
     (λ c. search needs)
     (λ c. search needs)
     (λ c κs. search needs)
-    (λ c. rw (lt-ltb 0 _ (c .before .before .before .if1 .taken), ← (c .before .before .excess .ensures), ← (c .before .location-at .ensures .0), lt-ltb _ 16 (c .if2 .taken)))
-    (λ c. rw (lt-ltb 0 _ (c .before .before .before .if1 .taken), ← (c .before .before .excess .ensures), ← (c .before .location-at .ensures .0), le-ltb _ 16 (c .if2 .left))))
+    (λ c. rw (lt-ltb 0 _ (c .before .before .before .if1 .taken), ← (c .before .before .excess .ensures), ← (c .before .location-of .ensures .0), lt-ltb _ 16 (c .if2 .taken)))
+    (λ c. rw (lt-ltb 0 _ (c .before .before .before .if1 .taken), ← (c .before .before .excess .ensures), ← (c .before .location-of .ensures .0), le-ltb _ 16 (c .if2 .left))))

@@ -14,6 +14,6 @@ load-fst-spec =
     (λ c. search needs)
     (λ c κs. search needs)
     (λ c κs. search needs)
-    (λ c κs. let a = c .before .before .before .before .before .before .before .before .before .args in let w = c .before .before .before .before .before .before .before .before .before .pre in let d = c .before .before .before .load-field .ensures in let z = load-field-size (a .g) (c .before .before .before .before .before .location-at .result) (a .r) (c .before .before .before .before .before .before .fst-offset .result) in (omega (arith, d .place), omega (arith, d .drawn)))
+    (λ c κs. let a = c .before .before .before .before .before .before .before .before .before .args in let w = c .before .before .before .before .before .before .before .before .before .pre in let d = c .before .before .before .load-field .ensures in let z = load-field-size (a .g) (c .before .before .before .before .before .location-of .result) (a .r) (c .before .before .before .before .before .before .fst-offset .result) in (omega (arith, d .place), omega (arith, d .drawn)))
     (λ c. search needs)
-    (λ c. rw (c .before .before .before .before .before .before .before .before .before .before .if1 .left, ← (c .before .before .before .before .before .before .before .before .before .fst-offset .ensures), ← (c .before .before .before .before .before .before .before .before .location-at .ensures .0)) (c .before .before .before .before .before .before .load-field .ensures ⨟ c .before .before .share-loaded .ensures)))
+    (λ c. rw (c .before .before .before .before .before .before .before .before .before .before .if1 .left, ← (c .before .before .before .before .before .before .before .before .before .fst-offset .ensures), ← (c .before .before .before .before .before .before .before .before .location-of .ensures .0)) (c .before .before .before .before .before .before .load-field .ensures ⨟ c .before .before .share-loaded .ensures)))

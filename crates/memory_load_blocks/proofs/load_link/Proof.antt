@@ -13,5 +13,5 @@ load-link-spec =
     (λ c κs. search needs)
     (λ c κs. search needs)
     (λ c. search needs)
-    (λ c. rw (c .before .before .before .before .before .before .before .if1 .taken, ← (c .before .before .before .before .before .fst-offset .ensures), ← (c .before .before .before .before .location-at .ensures .0)) (c .before .before .load-field .ensures))
+    (λ c. rw (c .before .before .before .before .before .before .before .if1 .taken, ← (c .before .before .before .before .before .fst-offset .ensures), ← (c .before .before .before .before .location-of .ensures .0)) (c .before .before .load-field .ensures))
     (λ c. rw (c .if1 .left) emits-nop))

@@ -1,25 +1,47 @@
 use borrow.Author.Needs.{needs}
-use Prim.Native.Nat.{ℕ, _-_, _≤_}
+use Prim.Native.Nat.{_-_}
 use native.Mathlib.Omega.{arith}
-use Rattle.emit.proofs.Laws.{_⨟_}
-use Rattle.memory.specs.Objects.{extIn, chunks}
-use Rattle.memory.proofs.Sizes.{chunks-fill, chunks-few, most-loaded, others-size}
+use Rattle.memory.proofs.Sizes.{chunks-few}
 use Rattle.memory_load_blocks.proofs.load_some.Statement.{statement}
 use Rattle.memory_load_blocks.proofs.load_some.Tie as tie
+
+some-fields : tie.Need-sub-each
+some-fields c =
+    let entry = c .before .before .before in
+    omega (arith, entry .pre .5 .some)
+
+few-left : tie.Need-other-blocks-requires
+few-left c κs =
+    let at-excess = c .before in
+    let entry = at-excess .before .before .before .before in
+    let w = entry .pre in
+    (omega (arith, at-excess .excess .ensures, w .2, w .5 .frame), w .5)
+
+all-blocks : tie.Need-load-all-requires
+all-blocks c κs =
+    let at-excess = c .before .before in
+    let entry = at-excess .before .before .before .before in
+    let a = entry .args in
+    let w = entry .pre in
+    let blocks = c .other-blocks .ensures in
+    let few = rw (← (blocks .0)) at (chunks-few (a .g .fields - 1) (at-excess .excess .result) (omega (arith, w .5 .some))) in (
+      record { from-first = w .0; known = w .1; placed = w .2; linked-by-last = omega (arith, w .5 .some); before-last = at-excess .excess .ensures; blocks = blocks .0; supported = w .5 },
+      omega (arith, w .2, w .3, w .5 .few, w .5 .frame, few, at-excess .excess .ensures),
+      omega (arith, w .2, w .4, w .5 .few, w .5 .frame, few, at-excess .excess .ensures),
+    )
+
+loaded : tie.Need-returns
+loaded c =
+    let at-load-all = c .before .before in
+    at-load-all .load-all .ensures
 
 pub load-some-spec : {M : Type 1} → statement M
 load-some-spec =
     tie.close
     (tie.spec
-    (λ c. search needs)
+    some-fields
     (λ c κs. search needs)
-    (λ c κs. let w = c .before .before .before .pre in let g = c .excess .ensures in (w .0, omega (arith, w .3, w .6 .frame)))
+    few-left
+    all-blocks
     (λ c. search needs)
-    (λ c. search needs)
-    (λ c. search needs)
-    (λ c κs. let w = c .before .before .before .before .before .pre in let a = c .before .before .before .before .before .args in let g = c .before .before .excess .ensures in let h : 1 ≤ a .g .fields - 1 = omega (arith, w .6 .some) in let f = chunks-fill (a .g .fields - 1) (c .before .before .excess .result) h in let m = chunks-few (a .g .fields - 1) (c .before .before .excess .result) h in (w .0, w .1, omega arith, omega arith, f .0, f .1, omega (arith, w .3, w .6 .few, w .6 .frame, m), omega (arith, w .3, w .6 .few, w .6 .frame, m), omega (arith, h), w .6))
-    (λ c. let g = c .before .before .before .before .before .before .excess .ensures in omega arith)
-    (λ c. let g = c .before .before .before .before .before .before .excess .ensures in omega arith)
-    (λ c κs. let a = c .before .before .before .before .before .before .before .before .before .args in let w = c .before .before .before .before .before .before .before .before .before .pre in let g = c .before .before .before .before .before .before .excess .ensures in let d = c .before .before .before .load-others .ensures in let r : ℕ = c .before .before .before .before .before .before .excess .result in let e : ℕ = a .g .fields - 1 in let h : 1 ≤ e = omega (arith, w .6 .some) in let f = chunks-fill e r h in let y = most-loaded e (chunks e r) r h (f .1) in let z = others-size (a .g) (extIn (a .kinds .now) (a .first)) (a .shared) (chunks e r) (a .v) r in (w .0, omega arith, omega arith, omega arith, omega arith, omega (arith, w .3, w .6 .few, w .6 .frame, d .place, y, z .1), omega (arith, w .3, w .6 .few, w .6 .frame, d .drawn, f .1, z .0), w .6))
-    (λ c. search needs)
-    (λ c. rw (← (c .before .before .before .before .before .before .before .before .before .excess .ensures), ← (c .before .before .before .before .before .before .before .before .freed-before .ensures)) (c .before .before .before .before .before .before .load-others .ensures ⨟ c .before .before .load-block .ensures)))
+    loaded)

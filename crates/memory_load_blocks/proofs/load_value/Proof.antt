@@ -16,6 +16,6 @@ load-value-spec =
     (λ c κs. search needs)
     (λ c. search needs)
     (λ c κs. search needs)
-    (λ c κs. let a = c .before .before .before .before .before .before .before .before .before .before .args in let w = c .before .before .before .before .before .before .before .before .before .before .pre in let d = c .before .before .before .before .load-field .ensures in let z = load-field-size (a .g) (c .before .before .before .before .before .before .location-at .result) (a .r) (c .before .before .before .before .before .before .before .snd-offset .result) in (w .0, w .3, w .4, omega (arith, d .place), omega (arith, d .drawn), w .7))
+    (λ c κs. let a = c .before .before .before .before .before .before .before .before .before .before .args in let w = c .before .before .before .before .before .before .before .before .before .before .pre in let d = c .before .before .before .before .load-field .ensures in let z = load-field-size (a .g) (c .before .before .before .before .before .before .location-of .result) (a .r) (c .before .before .before .before .before .before .before .snd-offset .result) in (w .2, w .3, omega (arith, d .place), omega (arith, d .drawn), w .6))
     (λ c. search needs)
-    (λ c. rw (← (c .before .before .before .before .before .before .before .before .before .before .snd-offset .ensures), ← (c .before .before .before .before .before .before .before .before .before .location-at .ensures .0), ← (c .before .before .before .before .is-ext .ensures)) (c .before .before .before .before .before .before .before .load-field .ensures ⨟ c .before .before .load-fst .ensures)))
+    (λ c. rw (← (c .before .before .before .before .before .before .before .before .before .before .snd-offset .ensures), ← (c .before .before .before .before .before .before .before .before .before .location-of .ensures .0), ← (c .before .before .before .before .is-ext .ensures)) (c .before .before .before .before .before .before .before .load-field .ensures ⨟ c .before .before .load-fst .ensures)))

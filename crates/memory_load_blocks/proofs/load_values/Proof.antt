@@ -14,7 +14,7 @@ use Rattle.memory_load_blocks.proofs.load_values.Statement.{statement}
 use Rattle.memory_load_blocks.proofs.load_values.Tie as tie
 
 abbrev Inv-loop : tie.InvT-loop
-Inv-loop out₀ g table kinds first shared v k free r q₀ left₀ at₀ out q left at =
+Inv-loop out₀ g kinds first shared v k free r q₀ left₀ at₀ out q left at =
     (left ≤ k)
     × (at + k ≡ free + left)
     × (length out ≡ length out₀)
@@ -23,7 +23,7 @@ Inv-loop out₀ g table kinds first shared v k free r q₀ left₀ at₀ out q l
     × ((o : List ℕ) (s : Cursor) → Emits out q o s (loadValues g (extIn kinds first) shared v left at r) → Emits out₀ q₀ o s (loadValues g (extIn kinds first) shared v k free r))
 
 abbrev μ-loop : tie.MeasureT-loop
-μ-loop out₀ g table kinds first shared v k free r q₀ left₀ at₀ out q left at = left
+μ-loop out₀ g kinds first shared v k free r q₀ left₀ at₀ out q left at = left
 
 pub load-values-spec : {M : Type 1} → statement M
 load-values-spec =
@@ -31,11 +31,11 @@ load-values-spec =
     (tie.spec
     Inv-loop
     μ-loop
-    (λ c. let w = c .before .before .pre in (omega arith, omega arith, refl, w .6, w .7, λ o s d. d))
+    (λ c. let w = c .before .before .pre in (omega arith, omega arith, refl, w .5, w .6, λ o s d. d))
     (λ c. search needs)
     (λ c. omega arith)
     (λ c. omega arith)
-    (λ c κs. let a = c .before .before .before .before .before .args in let w = c .before .before .before .before .before .pre in (w .0, omega arith, omega arith, omega arith, omega arith, omega arith, omega arith, w .8))
+    (λ c κs. let a = c .before .before .before .before .before .args in let w = c .before .before .before .before .before .pre in (omega arith, omega arith, omega arith, omega arith, omega arith, omega arith, w .7))
     (λ c. search needs)
     (λ c. omega arith)
     (λ c. omega arith)

@@ -13,6 +13,6 @@ load-shared-spec =
     tie.close
     (tie.spec
     (λ c κs. search needs)
-    (λ c κs. let w = c .before .before .before .before .before .before .before .pre in let e = c .before .before .before .emit .ensures in (w .0, omega arith, omega (arith, w .1), w .2, omega (arith, w .3, e .place), omega (arith, w .4, e .drawn), w .5))
+    (λ c κs. let w = c .before .before .before .before .before .before .before .pre in let e = c .before .before .before .emit .ensures in (omega arith, omega (arith, w .0), w .1, omega (arith, w .2, e .place), omega (arith, w .3, e .drawn), w .4))
     (λ c. search needs)
     (λ c. grown (leaf (ADDIM _ 0 MINUSONE) refl) (c .before .before .before .before .before .before .emit .ensures) refl refl ⨟ c .before .before .load-some .ensures))

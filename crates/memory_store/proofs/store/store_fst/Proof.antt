@@ -19,4 +19,4 @@ store-fst-spec =
     (λ c. search needs)
     (λ c. rw (c .before .before .before .before .if1 .taken, ← (c .before .before .before .before .before .fst-offset .ensures)) (grown (leaf (MOVIM HEAP _ 0) refl) (c .before .before .emit .ensures) refl refl))
     (λ c. search needs)
-    (λ c. rw (c .before .before .before .before .before .if1 .left, ← (c .before .before .before .before .before .before .fst-offset .ensures), ← (c .before .before .before .before .location-at .ensures .0)) (c .before .before .store-field .ensures)))
+    (λ c. rw (c .before .before .before .before .before .if1 .left, ← (c .before .before .before .before .before .before .fst-offset .ensures), ← (c .before .before .before .before .location-of .ensures .0)) (c .before .before .store-field .ensures)))

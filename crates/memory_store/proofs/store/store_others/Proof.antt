@@ -14,7 +14,7 @@ use Rattle.memory_store.proofs.store.store_others.Statement.{statement}
 use Rattle.memory_store.proofs.store.store_others.Tie as tie
 
 abbrev Inv-loop : tie.InvT-loop
-Inv-loop out₀ g table kinds first each m v n q₀ blocks₀ left₀ out q blocks left =
+Inv-loop out₀ g kinds first each m v n q₀ blocks₀ left₀ out q blocks left =
     (blocks ≤ m)
     × (left ≤ n)
     × (length out ≡ length out₀)
@@ -23,7 +23,7 @@ Inv-loop out₀ g table kinds first each m v n q₀ blocks₀ left₀ out q bloc
     × ((o : List ℕ) (r : Cursor) → Emits out q o r (storeOthers g (extIn kinds first) blocks v left) → Emits out₀ q₀ o r (storeOthers g (extIn kinds first) m v n))
 
 abbrev μ-loop : tie.MeasureT-loop
-μ-loop out₀ g table kinds first each m v n q₀ blocks₀ left₀ out q blocks left = blocks
+μ-loop out₀ g kinds first each m v n q₀ blocks₀ left₀ out q blocks left = blocks
 
 pub store-others-spec : {M : Type 1} → statement M
 store-others-spec =
@@ -31,13 +31,13 @@ store-others-spec =
     (tie.spec
     Inv-loop
     μ-loop
-    (λ c. let w = c .before .before .pre in (omega arith, omega arith, refl, w .4, w .5, λ o r d. d))
+    (λ c. let w = c .before .before .pre in (omega arith, omega arith, refl, w .3, w .4, λ o r d. d))
     (λ c κs. search needs)
     (λ c. let r = c .before .excess .ensures in omega arith)
     (λ c. let r = c .before .excess .ensures in omega arith)
-    (λ c κs. let a = c .before .before .before .before .before .before .args in let w = c .before .before .before .before .before .before .pre in let r = c .before .excess .ensures in (w .0, omega arith, omega arith, omega arith, omega arith, omega arith, omega arith, w .6, w .7))
+    (λ c κs. let a = c .before .before .before .before .before .before .args in let w = c .before .before .before .before .before .before .pre in let r = c .before .excess .ensures in (omega arith, omega arith, omega arith, omega arith, omega arith, omega arith, w .5, w .6))
     (λ c. omega arith)
     (λ c. omega arith)
-    (λ c. let l = c .before .before .before .before .before .before .loop in let a = c .before .before .before .before .before .before .before .before .before .args in let w = c .before .before .before .before .before .before .before .before .before .pre in let g = c .before .before .before .before .excess .ensures in let d = c .before .before .store-other .ensures in let z = store-other-size (a .g) (extIn (a .kinds .now) (a .first)) (w .7) (a .v + c .before .before .before .before .excess .result) (l .left - c .before .before .before .before .excess .result) (omega arith) in (omega arith, omega arith, search needs, omega (arith, d .place, w .7 .few), omega (arith, d .drawn, w .7 .few), λ o r x. l .inv .5 o r (rw (next-other (a .g) (extIn (a .kinds .now) (a .first)) (a .each) (w .6) (l .blocks) (a .v) (l .left) (c .before .before .before .before .before .loop-test .taken), ← g) (_⨟_ {t = storeOther (a .g) (extIn (a .kinds .now) (a .first)) (a .v + c .before .before .before .before .excess .result) (l .left - c .before .before .before .before .excess .result)} d x))))
+    (λ c. let l = c .before .before .before .before .before .before .loop in let a = c .before .before .before .before .before .before .before .before .before .args in let w = c .before .before .before .before .before .before .before .before .before .pre in let g = c .before .before .before .before .excess .ensures in let d = c .before .before .store-other .ensures in let z = store-other-size (a .g) (extIn (a .kinds .now) (a .first)) (w .6) (a .v + c .before .before .before .before .excess .result) (l .left - c .before .before .before .before .excess .result) (omega arith) in (omega arith, omega arith, search needs, omega (arith, d .place, w .6 .few), omega (arith, d .drawn, w .6 .few), λ o r x. l .inv .5 o r (rw (next-other (a .g) (extIn (a .kinds .now) (a .first)) (a .each) (w .5) (l .blocks) (a .v) (l .left) (c .before .before .before .before .before .loop-test .taken), ← g) (_⨟_ {t = storeOther (a .g) (extIn (a .kinds .now) (a .first)) (a .v + c .before .before .before .before .excess .result) (l .left - c .before .before .before .before .excess .result)} d x))))
     (λ c. search needs)
     (λ c. let l = c .before .loop in let n : l .blocks ≡ 0 = omega arith in l .inv .5 _ _ (rw n emits-nop)))

@@ -12,10 +12,10 @@ store-sized-spec =
     tie.close
     (tie.spec
     (λ c. search needs)
-    (λ c κs. let w = c .before .before .before .pre in (w .0, w .1, w .2, omega arith, omega arith, w .3))
-    (λ c κs. let a = c .before .before .before .before .before .args in let w = c .before .before .before .before .before .pre in let z = store-object-size (a .g) (extIn (a .kinds .now) 0) (w .3) (a .v) (a .n) in let d = c .before .store-object .ensures in omega (arith, w .2, w .3 .frame, d .drawn, z .0))
+    (λ c κs. let w = c .before .before .before .pre in (w .0, w .1, omega arith, omega arith, w .2))
+    (λ c κs. let a = c .before .before .before .before .before .args in let w = c .before .before .before .before .before .pre in let z = store-object-size (a .g) (extIn (a .kinds .now) 0) (w .2) (a .v) (a .n) in let d = c .before .store-object .ensures in omega (arith, w .1, w .2 .frame, d .drawn, z .0))
     (λ c κs. search needs)
     (λ c. let a = c .before .before .before .before .before .before .before .before .args in not-written (storeObject (a .g) (extIn (a .kinds .now) 0) (a .v) (a .n)) (a .counter) (c .before .before .before .before .store-object .ensures) refl refl (a .out .now) (c .before .before .grant .ensures) (c .before .is-written .ensures) (c .if1 .left))
-    (λ c κs. let a = c .before .before .before .before .before .before .before .before .before .args in let w = c .before .before .before .before .before .before .before .before .before .pre in let g = room-for (storeObject (a .g) (extIn (a .kinds .now) 0) (a .v) (a .n)) (a .counter) _ (c .before .before .before .before .before .store-object .ensures) refl refl (c .before .before .before .grant .ensures) (c .before .before .is-written .ensures) (c .before .if1 .taken) in (w .0, w .1, w .2, omega arith, omega (arith, g .0), w .3))
+    (λ c κs. let a = c .before .before .before .before .before .before .before .before .before .args in let w = c .before .before .before .before .before .before .before .before .before .pre in let g = room-for (storeObject (a .g) (extIn (a .kinds .now) 0) (a .v) (a .n)) (a .counter) _ (c .before .before .before .before .before .store-object .ensures) refl refl (c .before .before .before .grant .ensures) (c .before .before .is-written .ensures) (c .before .if1 .taken) in (w .0, w .1, omega arith, omega (arith, g .0), w .2))
     (λ c. search needs)
     (λ c. let a = c .before .before .before .before .before .before .before .before .before .before .before .before .args in wrote (storeObject (a .g) (extIn (a .kinds .now) 0) (a .v) (a .n)) (a .counter) (c .before .before .before .before .before .before .before .before .store-object .ensures) refl refl (a .out .now) (c .before .before .before .before .before .before .grant .ensures) (c .before .before .before .before .before .is-written .ensures) (c .before .before .before .before .if1 .taken) (c .before .before .store-object2 .ensures) refl refl))

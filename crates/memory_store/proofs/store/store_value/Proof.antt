@@ -16,6 +16,6 @@ store-value-spec =
     (λ c κs. search needs)
     (λ c. search needs)
     (λ c κs. search needs)
-    (λ c κs. let d = c .before .before .before .before .store-field .ensures in let z = store-field-size (c .before .before .before .before .before .before .before .before .before .before .args .g) (c .before .before .before .before .before .before .location-at .result) 2 (c .before .before .before .before .before .before .before .snd-offset .result) in let a = c .before .before .before .before .before .before .before .before .before .before .pre in (a .0, a .3, a .4, omega (arith, d .place), a .6))
+    (λ c κs. let d = c .before .before .before .before .store-field .ensures in let z = store-field-size (c .before .before .before .before .before .before .before .before .before .before .args .g) (c .before .before .before .before .before .before .location-of .result) 2 (c .before .before .before .before .before .before .before .snd-offset .result) in let a = c .before .before .before .before .before .before .before .before .before .before .pre in (a .2, a .3, omega (arith, d .place), a .5))
     (λ c. search needs)
-    (λ c. rw (← (c .before .before .before .before .before .before .before .before .before .before .snd-offset .ensures), ← (c .before .before .before .before .before .before .before .before .before .location-at .ensures .0), ← (c .before .before .before .before .is-ext .ensures)) (c .before .before .before .before .before .before .before .store-field .ensures ⨟ c .before .before .store-fst .ensures)))
+    (λ c. rw (← (c .before .before .before .before .before .before .before .before .before .before .snd-offset .ensures), ← (c .before .before .before .before .before .before .before .before .before .location-of .ensures .0), ← (c .before .before .before .before .is-ext .ensures)) (c .before .before .before .before .before .before .before .store-field .ensures ⨟ c .before .before .store-fst .ensures)))

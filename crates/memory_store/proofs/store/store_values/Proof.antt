@@ -14,7 +14,7 @@ use Rattle.memory_store.proofs.store.store_values.Statement.{statement}
 use Rattle.memory_store.proofs.store.store_values.Tie as tie
 
 abbrev Inv-loop : tie.InvT-loop
-Inv-loop out₀ g table kinds first v k free q₀ left₀ at₀ out q left at =
+Inv-loop out₀ g kinds first v k free q₀ left₀ at₀ out q left at =
     (left ≤ k)
     × (at + k ≡ free + left)
     × (length out ≡ length out₀)
@@ -22,7 +22,7 @@ Inv-loop out₀ g table kinds first v k free q₀ left₀ at₀ out q left at =
     × ((o : List ℕ) (r : Cursor) → Emits out q o r (storeValues g (extIn kinds first) v left at) → Emits out₀ q₀ o r (storeValues g (extIn kinds first) v k free))
 
 abbrev μ-loop : tie.MeasureT-loop
-μ-loop out₀ g table kinds first v k free q₀ left₀ at₀ out q left at = left
+μ-loop out₀ g kinds first v k free q₀ left₀ at₀ out q left at = left
 
 pub store-values-spec : {M : Type 1} → statement M
 store-values-spec =
@@ -30,11 +30,11 @@ store-values-spec =
     (tie.spec
     Inv-loop
     μ-loop
-    (λ c. (omega arith, omega arith, refl, c .before .before .pre .6, λ o r d. d))
+    (λ c. (omega arith, omega arith, refl, c .before .before .pre .5, λ o r d. d))
     (λ c. search needs)
     (λ c. omega arith)
     (λ c. omega arith)
-    (λ c κs. let a = c .before .before .before .before .before .pre in (a .0, omega arith, omega arith, omega arith, omega arith, omega arith, a .7))
+    (λ c κs. let a = c .before .before .before .before .before .pre in (omega arith, omega arith, omega arith, omega arith, omega arith, a .6))
     (λ c. search needs)
     (λ c. omega arith)
     (λ c. omega arith)

@@ -3,7 +3,7 @@ use mathlib.Core.Path.{refl}
 use native.Mathlib.Omega.{arith}
 use lib.ListN.{length}
 use Rattle.records.specs.Contexts.{extAt}
-use Rattle.emit.proofs.Wrote.{refused, not-written, wrote}
+use Rattle.emit.proofs.Wrote.{refused, ample-if, at-once}
 use Rattle.layout.proofs.Placing.{operand-range}
 use Rattle.print_i64.specs.Print.{printI64}
 use Rattle.print_i64.proofs.Sizes.{print-size}
@@ -11,17 +11,61 @@ use Rattle.print_i64.proofs.Printing.{unlabelled}
 use Rattle.print_i64.proofs.code.print_checked.Statement.{statement}
 use Rattle.print_i64.proofs.code.print_checked.Tie as tie
 
+no-operand : tie.Need-returns
+no-operand c =
+    let at-operand-ok = c .before in
+    rw (← (at-operand-ok .operand-ok .ensures), c .if1 .left) (refused refl refl refl)
+
+at-once-asks : tie.Need-emit-print-i64-requires
+at-once-asks c κs =
+    let at-if1 = c .before .before .before in
+    let at-operand-ok = at-if1 .before in
+    let entry = at-operand-ok .before .before .before in
+    let w = entry .pre in
+    (omega arith, operand-range _ _ (at-operand-ok .operand-ok .ensures) (at-if1 .if1 .taken) .1, w .0, w .1, w .2)
+
+written-at-once : tie.Need-returns-2
+written-at-once c =
+    let at-emit-print-i64 = c .before .before .before in
+    let at-if2 = at-emit-print-i64 .before .before in
+    let at-ample = at-if2 .before in
+    let at-if1 = at-ample .before in
+    let at-operand-ok = at-if1 .before in
+    let entry = at-operand-ok .before .before .before in
+    let a = entry .args in
+    let t = printI64 (a .g) (a .newline) (a .w) (extAt (a .context .now)) (a .n) in
+    let z = print-size (a .g) (a .newline) (a .w) (extAt (a .context .now)) (a .n) in
+    let fit = ample-if _ _ _ _ (at-ample .ample .ensures) (at-if2 .if2 .taken) in
+    rw (← (at-operand-ok .operand-ok .ensures), at-if1 .if1 .taken)
+    (unlabelled t (length (a .out .now)) (z .0)
+    (at-once t 0 (at-emit-print-i64 .emit-print-i64 .ensures) refl refl (c .written .ensures) (omega (arith, z .0)) (omega (arith, fit .1, z .1))))
+
+two-passes-ask : tie.Need-print-sized-requires
+two-passes-ask c κs =
+    let at-if1 = c .before .before .before in
+    let at-operand-ok = at-if1 .before in
+    let entry = at-operand-ok .before .before .before in
+    let w = entry .pre in
+    (operand-range _ _ (at-operand-ok .operand-ok .ensures) (at-if1 .if1 .taken) .1, w .0, w .1, w .2)
+
+in-two-passes : tie.Need-returns-3
+in-two-passes c =
+    let at-print-sized = c .before .before in
+    let at-if1 = at-print-sized .before .before .before .before in
+    let at-operand-ok = at-if1 .before in
+    rw (← (at-operand-ok .operand-ok .ensures), at-if1 .if1 .taken) (at-print-sized .print-sized .ensures)
+
 pub print-checked-spec : {M : Type 1} → statement M
 print-checked-spec =
     tie.close
     (tie.spec
     (λ c κs. search needs)
-    (λ c. rw (← (c .before .operand-ok .ensures), c .if1 .left) (refused refl refl refl))
-    (λ c. search needs)
-    (λ c κs. let r = operand-range _ _ (c .before .before .operand-ok .ensures) (c .before .if1 .taken) in (omega arith, r .1, c .before .before .before .before .before .pre .0, c .before .before .before .before .before .pre .1, c .before .before .before .before .before .pre .2))
-    (λ c κs. let a = c .before .before .before .before .before .before .before .args in let d = c .before .emit-print-i64 .ensures in omega (arith, d .drawn, print-size (a .g) (a .newline) (a .w) (extAt (a .context .now)) (a .n)))
+    no-operand
     (λ c κs. search needs)
-    (λ c. let a = c .before .before .before .before .before .before .before .before .before .before .args in rw (← (c .before .before .before .before .before .before .before .operand-ok .ensures), c .before .before .before .before .before .before .if1 .taken) (unlabelled (printI64 (a .g) (a .newline) (a .w) (extAt (a .context .now)) (a .n)) (length (a .out .now)) (print-size (a .g) (a .newline) (a .w) (extAt (a .context .now)) (a .n) .0) (not-written (printI64 (a .g) (a .newline) (a .w) (extAt (a .context .now)) (a .n)) 0 (c .before .before .before .before .emit-print-i64 .ensures) refl refl (a .out .now) (c .before .before .grant .ensures) (c .before .is-written .ensures) (c .if2 .left))))
-    (λ c κs. let r = operand-range _ _ (c .before .before .before .before .before .before .before .before .operand-ok .ensures) (c .before .before .before .before .before .before .before .if1 .taken) in (omega arith, r .1, c .before .before .before .before .before .before .before .before .before .before .before .pre .0, c .before .before .before .before .before .before .before .before .before .before .before .pre .1, c .before .before .before .before .before .before .before .before .before .before .before .pre .2))
+    at-once-asks
+    (λ c κs. search needs)
     (λ c. search needs)
-    (λ c. let a = c .before .before .before .before .before .before .before .before .before .before .before .before .before .before .args in rw (← (c .before .before .before .before .before .before .before .before .before .before .before .operand-ok .ensures), c .before .before .before .before .before .before .before .before .before .before .if1 .taken) (unlabelled (printI64 (a .g) (a .newline) (a .w) (extAt (a .context .now)) (a .n)) (length (a .out .now)) (print-size (a .g) (a .newline) (a .w) (extAt (a .context .now)) (a .n) .0) (wrote (printI64 (a .g) (a .newline) (a .w) (extAt (a .context .now)) (a .n)) 0 (c .before .before .before .before .before .before .before .before .emit-print-i64 .ensures) refl refl (a .out .now) (c .before .before .before .before .before .before .grant .ensures) (c .before .before .before .before .before .is-written .ensures) (c .before .before .before .before .if2 .taken) (c .before .before .emit-print-i642 .ensures) refl refl))))
+    written-at-once
+    two-passes-ask
+    (λ c. search needs)
+    in-two-passes)

@@ -23,6 +23,6 @@ restore-caller-save-registers-spec =
     (λ c κs. search needs)
     (λ c. search needs)
     (λ c κs. let a = c .before .before .before .before .before .before .args in let d = c .before .before .before .move-all .ensures in let l = moveAll true (a .first) (a .used) (members 16 (a .set)) in omega (arith, d .place, length-fields l, move-most true (a .first) (a .used) (members 16 (a .set)), members-most 16 (a .set)))
-    (λ c κs. let a = c .before .before .before .before .before .before .before .before .before .before .args in let d = c .before .before .before .before .before .before .before .move-all .ensures in let e = c .before .before .before .free-alignment .ensures in let l = moveAll true (a .first) (a .used) (members 16 (a .set)) in (omega (arith, d .place, e .place, even-size (ones (a .set) - a .used) (ADDI STACK 8) refl, length-fields l, move-most true (a .first) (a .used) (members 16 (a .set)), members-most 16 (a .set)), ones-members (a .set) (omega arith)))
+    (λ c κs. let a = c .before .before .before .before .before .before .before .before .before .before .args in let d = c .before .before .before .before .before .before .before .move-all .ensures in let e = c .before .before .before .free-alignment .ensures in let l = moveAll true (a .first) (a .used) (members 16 (a .set)) in (omega (arith, d .place, e .place, even-size (ones (a .set) - a .used) (ADDI STACK 8) refl, length-fields l, move-most true (a .first) (a .used) (members 16 (a .set)), members-most 16 (a .set)), ones-members (a .set) (omega arith), c .before .before .before .before .before .before .before .before .before .before .pre .3))
     (λ c. search needs)
     (λ c. let a = c .before .before .before .before .before .before .before .before .before .before .before .before .before .args in restored (a .first) (a .used) (a .set) (omega arith) (c .before .before .before .before .before .before .before .before .before .before .move-all .ensures) (c .before .before .before .before .before .before .free-alignment .ensures) (c .before .before .pop-all .ensures)))
