@@ -1,20 +1,19 @@
 -- From an order's bytes to its answer and its two outputs.
-use Prim.Native.Nat.{ℕ, _≤_}
+use Prim.Native.Nat.{ℕ}
 use mathlib.Core.Path.{_≡_, refl, sym, ap, _∙_}
-use mathlib.Core.Bool.{true, false, _&&_, cond}
+use mathlib.Core.Bool.{true, false, cond}
 use mathlib.Core.List.{List, []}
-use lib.Dec.{leb, eqb}
-use lib.ListN.{length, getD}
+use lib.Dec.{eqb}
+use lib.ListN.{length}
 use lib.Seq.{sets}
-use borrow.Author.Tests.{eq-eqb, ne-eqb, leb-true}
+use borrow.Author.Tests.{eq-eqb, ne-eqb}
 use Rattle.records.specs.declared.context.Flaw.{Flaw}
 use Rattle.records.specs.declared.context.ContextRead.{ContextRead}
 use Rattle.records.specs.declared.context.ContextRead.the-variants.{Good, Bad}
 use Rattle.records.specs.declared.order.Order.{Order}
 use Rattle.records.specs.Contexts.{checkedContext, countedOn, bindingsIn}
-use Rattle.records.specs.Orders.{orderOf, orderIn, orderOk, orderStarts, wanted}
+use Rattle.records.specs.Orders.{orderOf, orderIn, orderStarts, wanted}
 use Rattle.records.specs.ReadBack.{joined, codeBytes}
-use Rattle.records.proofs.Conditions.{and-left}
 use Rattle.trees.specs.Tree.{flat}
 use Rattle.layout.specs.declared.config.Shape.{Shape}
 use Rattle.layout.specs.declared.config.Shaped.{Shaped}
@@ -28,15 +27,6 @@ use Rattle.order.specs.declared.order.Begun.the-variants.{With, Refused}
 use Rattle.order.specs.Begun.{Read, Unread, Begins}
 use Rattle.order.specs.declared.order.Work.{Work}
 use Rattle.order.specs.Decided.{tree, after, fits, judged, LeavesOrder}
-
--- a well-formed order is whole
-pub order-whole : (s : List ℕ) → orderStarts s ≡ true → 24 ≤ length s
-unfolding orderStarts
-order-whole s e =
-    let b₀ = leb 24 (length s) in
-    let b₁ = eqb (getD s 0 0) 0xA8 in
-    let b₂ = eqb (getD s 3 0) 0 in
-    leb-true 24 (length s) (and-left b₀ b₁ (and-left (b₀ && b₁) b₂ (and-left (b₀ && b₁ && b₂) (orderOk (orderIn s)) e)))
 
 -- 15 to 17 and 2, whatever follows
 module _ (context order bindings : List ℕ) where

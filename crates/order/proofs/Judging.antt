@@ -1,12 +1,13 @@
 -- The answer of an order that is read, by its checks in sequence, and what its two outputs hold.
-use Prim.Native.Nat.{ℕ, _*_, _/_, _^_, _≤_, _<_}
+use Prim.Native.Nat.{ℕ, _+_, _*_, _/_, _^_, _≤_, _<_}
 use mathlib.Core.Path.{_≡_, sym, ap, _∙_, subst}
 use mathlib.Core.Bool.{true, false}
 use mathlib.Core.List.{List}
 use native.Mathlib.Omega.{arith}
 use lib.ListN.{length}
 use lib.Seq.{sets}
-use borrow.Author.Tests.{le-leb, lt-leb}
+use borrow.Author.Tests.{le-leb, lt-leb, le-ltb}
+use Rattle.records.specs.Names.{lastLabel}
 use Rattle.records.specs.Orders.{wanted}
 use Rattle.records.proofs.ContextsRead.{context-within, context-long}
 use Rattle.trees.specs.Tree.{labels, size, flat}
@@ -17,7 +18,7 @@ use Rattle.emit.proofs.Wrote.{written-whole}
 use Rattle.layout.specs.declared.config.Shape.{Shape}
 use Rattle.layout.specs.Config.{positions}
 use Rattle.order_spec.specs.declared.answer.OrderAnswer.{OrderAnswer}
-use Rattle.order_spec.specs.declared.answer.OrderAnswer.the-variants.{Missing, Kind, Count, Position}
+use Rattle.order_spec.specs.declared.answer.OrderAnswer.the-variants.{Accepted, Missing, Kind, Count, Position}
 use Rattle.order_spec.specs.Writes.{countOk, present, kindsOk, asked}
 use Rattle.order_spec.specs.Answered.{fitting, orderAccepted}
 use Rattle.order_spec.proofs.Accepting.{Fitted, fitted-if}
@@ -75,6 +76,19 @@ module _ {g : Shape} {context bindings : List ℕ} {w : Work} (ok : Writable g c
         → Fitted (w .counter) room contextRoom (size (tree g context bindings w)) (labels (tree g context bindings w)) (length (after g context bindings w))
     unfolding fits
     all-fit e accepted = fitted-if _ _ _ _ _ _ (ap orderAccepted (sym e) ∙ accepted)
+
+  module _ (room contextRoom : ℕ) where
+    -- an order that wants neither labels nor room, from what its one pass left
+    pub at-once : {o o′ : List ℕ} {q : Cursor} {count : ℕ} → Emits o (record { at = 0; counter = w .counter }) o′ q (tree g context bindings w) → count ≡ countAfter (w .k) (w .order)
+        → w .counter + labels (tree g context bindings w) ≤ lastLabel → 24 * size (tree g context bindings w) ≤ room → 8 * count ≤ contextRoom
+        → Accepted (q .at / 24) (q .counter) count ≡ fits g context bindings w room contextRoom
+    unfolding fits
+    at-once {q = q} {count = count} d n labelled fit after-fit =
+        let t = tree g context bindings w in
+        let s : q .at / 24 ≡ size t = omega (arith, d .place) in
+        let m : length (after g context bindings w) ≡ 8 * count = omega (arith, bounded .after-whole) in
+        let k : 8 * count / 8 ≡ count = omega arith in
+        rw (s, d .drawn, m, k, le-ltb lastLabel (w .counter + labels t) labelled, le-ltb room (24 * size t) fit, le-ltb contextRoom (8 * count) after-fit)
 
   -- an accepted order's records and the context after it
   pub all-written : {r : OrderAnswer} {o o′ c c′ : List ℕ} {q : Cursor} → r ≡ fits g context bindings w (length o) (length c) → orderAccepted r ≡ true

@@ -17,12 +17,14 @@ use layout::config::Shape;
 use layout::config::Shaped;
 use order_check::after;
 use order_check::checks;
+use order_emit::bounds;
 use order_emit::emitters;
 use order_spec::answer::OrderAnswer;
 use records::context;
 use records::context::ContextRead;
 use records::name::LAST_LABEL;
 use records::order::Order;
+use records::order::OrderStart;
 
 // 9 and 10: need is the cursor past the records, from a cursor at 0 and counter 0; `count` bindings come after them.
 fn grant(counter: u64, room: usize, context_room: usize, need: Cursor, count: u64) -> OrderAnswer
@@ -71,7 +73,7 @@ pub struct Work {
     pub order: Order,
 }
 
-// An order that nothing but labels or room can refuse: a first pass tells the records' size, a second writes them.
+// An order that nothing but labels or room can refuse: written at once where neither can be wanting.
 fn write_order(
     records_out: &mut [u8],
     context_out: &mut [u8],
@@ -86,33 +88,40 @@ fn write_order(
     let k = work.k;
     let counter = work.counter;
     let order = work.order;
-    let table = layout::utils::positions();
+    let count = after::count_after(k, order);
+    if bounds::order_ample(g, counter, records_out.len(), k, order) {
+        if 8 * count <= context_out.len() as u64 {
+            let q = emitters::emit_order(records_out, counter, g, context, k, bindings, order);
+            after::write_context(context_out, context, k, bindings, order);
+            return OrderAnswer::Accepted(q.at / 24, q.counter, count as usize);
+        }
+    }
+    write_sized(records_out, context_out, g, context, bindings, work)
+}
+
+// A first pass on another output tells the records' size, and a second writes them.
+fn write_sized(
+    records_out: &mut [u8],
+    context_out: &mut [u8],
+    g: Shape,
+    context: &[u8],
+    bindings: &[u8],
+    work: Work,
+) -> OrderAnswer
+    requires { ⌜ Writable g (now context) (now bindings) work ⌝ }
+    ensures { λ r. ⌜ Writes g (now (context .entry)) (now (bindings .entry)) work r (now («records_out» .entry)) (now («records_out» .exit)) (now («context_out» .entry)) (now («context_out» .exit)) ⌝ }
+{
+    let k = work.k;
+    let counter = work.counter;
+    let order = work.order;
     let mut none = [0u8; 1];
-    let need = emitters::emit_order(
-        &mut none,
-        Cursor { at: 0, counter: 0 },
-        g,
-        &table,
-        context,
-        k,
-        bindings,
-        order,
-    );
+    let need = emitters::emit_order(&mut none, 0, g, context, k, bindings, order);
     let count = after::count_after(k, order);
     let answer = grant(counter, records_out.len(), context_out.len(), need, count);
     if is_accepted(answer) {} else {
         return answer;
     }
-    emitters::emit_order(
-        records_out,
-        Cursor { at: 0, counter },
-        g,
-        &table,
-        context,
-        k,
-        bindings,
-        order,
-    );
+    emitters::emit_order(records_out, counter, g, context, k, bindings, order);
     after::write_context(context_out, context, k, bindings, order);
     answer
 }
@@ -164,10 +173,9 @@ fn begin(context: &[u8], order: &[u8], bindings: &[u8]) -> Begun
         ContextRead::Good(m) => m,
         ContextRead::Bad(flaw) => return Begun::Refused(OrderAnswer::Context(flaw)),
     };
-    if records::order::order_starts(order) {} else {
+    let OrderStart::Starts(read) = records::order::read_start(order) else {
         return Begun::Refused(OrderAnswer::Malformed(1));
-    }
-    let read = records::order::order_of(records::order::order_in(order));
+    };
     if m == (records::order::wanted(read) as usize) {} else {
         return Begun::Refused(OrderAnswer::Malformed(1));
     }

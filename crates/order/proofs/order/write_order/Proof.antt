@@ -1,93 +1,88 @@
 use borrow.Author.Needs.{needs}
+use mathlib.Core.Path.{refl}
 use native.Mathlib.Omega.{arith}
-use mathlib.Core.Path.{_≡_, sym, _∙_}
-use mathlib.Core.Bool.{true}
 use lib.ListN.{length}
-use Rattle.order_spec.specs.Answered.{orderAccepted}
-use Rattle.order.specs.Decided.{fits}
-use Rattle.order.proofs.Judging.{left-alone, bounded, as-fits, all-fit, all-written}
+use Rattle.emit.proofs.Wrote.{ample-if}
+use Rattle.order_emit.proofs.Bounded.{order-bounds, few-handled}
+use Rattle.order.proofs.Judging.{bounded, at-once, all-written}
 use Rattle.order.proofs.order.write_order.Statement.{statement}
 use Rattle.order.proofs.order.write_order.Tie as tie
 
--- the entry, seen from the end of the first pass
-abbrev entry : tie.After-none2 → tie.Start
-entry c = c .before .before .before .before .before .before .before .before .before
-
--- from a cursor at 0 and counter 0
-first-pass : tie.Need-emit-order-requires
-first-pass c κs =
-    let tabled = c .before .before in
-    let ok = tabled .before .before .before .before .before .pre in
-    let x = bounded ok in
-    (tabled .positions .ensures, omega arith, x .few, omega arith, ok .there, ok .placed, omega arith, omega arith, ok .supported)
-
 few-variables : tie.Need-count-after-requires
-few-variables c κs = bounded (entry c .pre) .few
+few-variables c κs =
+    let entry = c .before .before .before .before in
+    bounded (entry .pre) .few
 
--- whole records, few labels and few bindings
-may-grant : tie.Need-grant-requires
-may-grant c κs =
-    let sized = c .before in
-    let x = bounded (entry sized .pre) in
-    let d = sized .before .emit-order .ensures in
-    (omega (arith, d .place), omega (arith, d .drawn), omega (arith, c .count-after .ensures))
+few-handled-here : tie.Need-order-ample-requires
+few-handled-here c κs =
+    let entry = c .before .before .before .before .before in
+    let a = entry .args in
+    let ok = entry .pre in
+    let few = bounded ok .few in
+    (few, few-handled (ok .supported) (a .context .now) (a .work .k) (a .bindings .now) (a .work .order) few (ok .there) (ok .placed), ok .supported)
 
--- what is granted is what the order comes to
-granted : (c : tie.After-grant)
-    → let a = entry (c .before .before) .args in
-    c .grant .result ≡ fits (a .g) (a .context .now) (a .bindings .now) (a .work) (length (a .records-out .now)) (length (a .context-out .now))
-granted c =
-    let counted = c .before in
-    let sized = counted .before in
-    as-fits (entry sized .pre) _ _ (sized .before .emit-order .ensures) (counted .count-after .ensures) (c .grant .ensures)
+few-bytes : tie.Need-mul-if2
+few-bytes c =
+    let at-count-after = c .before .before in
+    let entry = at-count-after .before .before .before .before .before in
+    omega (arith, bounded (entry .pre) .few-after, at-count-after .count-after .ensures)
 
-accepted : (c : tie.Then1) → orderAccepted (c .before .before .grant .result) ≡ true
-accepted c = let told = c .before in sym (told .is-accepted .ensures) ∙ c .if1 .taken
-
-not-written : tie.Need-returns
-not-written c = let told = c .before in left-alone (granted (told .before)) (sym (told .is-accepted .ensures) ∙ c .if1 .left)
-
--- from a cursor at 0 and the counter, whose labels are not past the last
-second-pass : tie.Need-emit-order-requires-2
-second-pass c κs =
-    let yes = c .before .before in
-    let grant = yes .before .before in
-    let sized = grant .before .before in
-    let ok = entry sized .pre in
+one-pass : tie.Need-emit-order-requires
+one-pass c κs =
+    let at-if1 = c .before .before in
+    let at-order-ample = at-if1 .before in
+    let entry = at-order-ample .before .before .before .before .before .before in
+    let a = entry .args in
+    let ok = entry .pre in
     let x = bounded ok in
-    let f = all-fit ok _ _ (granted grant) (accepted yes) in
-    (sized .before .before .before .before .positions .ensures, omega arith, x .few, omega arith, ok .there, ok .placed, omega arith, omega (arith, f .labelled), ok .supported)
+    let fit = ample-if (a .work .counter) _ _ _ (at-order-ample .order-ample .ensures) (at-if1 .if1 .taken) in
+    (omega (arith, x .context-whole), x .few, omega (arith, x .bindings-whole), ok .there, ok .placed, omega (arith, fit .0), ok .supported)
 
 room-for-context : tie.Need-write-context-requires
 room-for-context c κs =
-    let yes = c .before .before .before .before .before .before in
-    let grant = yes .before .before in
-    let ok = entry (grant .before .before) .pre in
+    let at-if2 = c .before .before .before .before .before in
+    let at-count-after = at-if2 .before .before .before in
+    let entry = at-count-after .before .before .before .before .before in
+    let ok = entry .pre in
     let x = bounded ok in
-    let f = all-fit ok _ _ (granted grant) (accepted yes) in
-    (x .context-whole, x .few, x .bindings-whole, ok .there, x .few-after, omega (arith, x .after-whole, f .context-fits))
+    (x .context-whole, x .few, x .bindings-whole, ok .there, x .few-after, omega (arith, at-count-after .count-after .ensures, at-if2 .if2 .taken))
 
-both-written : tie.Need-returns-2
+both-written : tie.Need-returns
 both-written c =
-    let left = c .before .before in
-    let second = left .before .before .before .before in
-    let yes = second .before .before .before in
-    let grant = yes .before .before in
-    all-written (entry (grant .before .before) .pre) (granted grant) (accepted yes) (second .emit-order2 .ensures) (left .write-context .ensures)
+    let at-write-context = c .before .before .before in
+    let at-emit-order = at-write-context .before .before .before .before in
+    let at-if2 = at-emit-order .before .before in
+    let at-if1 = at-if2 .before in
+    let at-order-ample = at-if1 .before in
+    let at-count-after = at-order-ample .before in
+    let entry = at-count-after .before .before .before .before .before in
+    let a = entry .args in
+    let ok = entry .pre in
+    let fit = ample-if (a .work .counter) _ _ _ (at-order-ample .order-ample .ensures) (at-if1 .if1 .taken) in
+    let z = order-bounds (a .g) (ok .supported) (a .context .now) (a .work .k) (a .bindings .now) (a .work .order) in
+    let e =
+    at-once ok (length (a .records-out .now)) (length (a .context-out .now)) (at-emit-order .emit-order .ensures) (at-count-after .count-after .ensures)
+    (omega (arith, fit .0, z .0)) (omega (arith, fit .1, z .1)) (at-if2 .if2 .taken) in
+    all-written ok e refl (at-emit-order .emit-order .ensures) (at-write-context .write-context .ensures)
+
+in-two-passes : tie.Need-returns-2
+in-two-passes c =
+    let at-write-sized = c .before .before .before .before in
+    at-write-sized .write-sized .ensures
 
 pub write-order-spec : {M : Type 1} → statement M
 write-order-spec =
     tie.close
     (tie.spec
-    (λ c κs. search needs)
-    (λ c. search needs)
-    first-pass
     few-variables
-    may-grant
-    (λ c κs. search needs)
-    not-written
-    second-pass
+    few-handled-here
+    few-bytes
+    one-pass
     room-for-context
     (λ c. search needs)
     (λ c. search needs)
-    both-written)
+    both-written
+    (λ c κs. search needs)
+    (λ c. search needs)
+    (λ c. search needs)
+    in-two-passes)

@@ -17,9 +17,9 @@ copy-spec =
     tie.close
     (tie.spec
     (λ c κs. search needs)
-    (λ c κs. let a = c .before .before .before .before .args in let w = c .before .before .before .before .pre in (w .0, rw (c .before .is-ext .ensures) (share-fits (w .6) (extAt (a .context .now) (a .a)) (a .a) (a .k) (a .n) (w .2) (w .3)), omega (arith, w .4), w .5, w .6))
+    (λ c κs. let a = c .before .before .before .before .args in let w = c .before .before .before .before .pre in (rw (c .before .is-ext .ensures) (share-fits (w .5) (extAt (a .context .now) (a .a)) (a .a) (a .k) (a .n) (w .1) (w .2)), omega (arith, w .3), w .4, w .5))
     (λ c. search needs)
     (λ c. let a = c .before .before .before .before .before .before .before .before .args in let w = c .before .before .before .before .before .before .before .before .pre in rw (← (c .before .before .before .before .before .is-ext .ensures)) (_⨟_ {t = cond (c .before .before .before .before .before .is-ext .result) nop (shareBlock (a .g) (fst (a .a)) (a .n))} (c .before .before .before .share-linked .ensures) (none-copied (a .g) (c .before .before .before .before .before .is-ext .result) (a .a) (a .k) {n = a .n} (c .if1 .taken))))
-    (λ c κs. let a = c .before .before .before .before .before .before .before .before .before .args in let w = c .before .before .before .before .before .before .before .before .before .pre in let f = copies-fit (w .6) (extAt (a .context .now) (a .a)) (a .a) (a .k) (a .n) (w .2) (w .3) (c .before .if1 .left) in let z = share-extent (a .g) (c .before .before .before .before .before .before .is-ext .result) (fst (a .a)) (a .n) in let d = c .before .before .before .before .share-linked .ensures in (w .0, omega (arith, w .2, f), f, omega (arith, d .place, z .1, w .4, w .6 .frame, f), w .6))
+    (λ c κs. let a = c .before .before .before .before .before .before .before .before .before .args in let w = c .before .before .before .before .before .before .before .before .before .pre in let f = copies-fit (w .5) (extAt (a .context .now) (a .a)) (a .a) (a .k) (a .n) (w .1) (w .2) (c .before .if1 .left) in let z = share-extent (a .g) (c .before .before .before .before .before .before .is-ext .result) (fst (a .a)) (a .n) in let d = c .before .before .before .before .share-linked .ensures in (omega (arith, w .1, f), f, omega (arith, d .place, z .1, w .3, w .5 .frame, f), w .5))
     (λ c. search needs)
     (λ c. rw (← (c .before .before .before .before .before .before .before .before .before .is-ext .ensures)) (c .before .before .before .before .before .before .before .share-linked .ensures ⨟ c .before .before .copy-to .ensures)))

@@ -14,14 +14,14 @@ use Rattle.order_emit.proofs.emitters.copy_to.Statement.{statement}
 use Rattle.order_emit.proofs.emitters.copy_to.Tie as tie
 
 abbrev Inv-loop : tie.InvT-loop
-Inv-loop out₀ g table ext a v n q₀ to₀ left₀ out q to left =
+Inv-loop out₀ g ext a v n q₀ to₀ left₀ out q to left =
     (to + left ≡ v + n)
     × (length out ≡ length out₀)
     × (q .at + 96 * left + 96 < 2 ^ 64)
     × ((o : List ℕ) (r : Cursor) → Emits out q o r (copyTo g ext a to left) → Emits out₀ q₀ o r (copyTo g ext a v n))
 
 abbrev μ-loop : tie.MeasureT-loop
-μ-loop out₀ g table ext a v n q₀ to₀ left₀ out q to left = left
+μ-loop out₀ g ext a v n q₀ to₀ left₀ out q to left = left
 
 pub copy-to-spec : {M : Type 1} → statement M
 copy-to-spec =
@@ -29,8 +29,8 @@ copy-to-spec =
     (tie.spec
     Inv-loop
     μ-loop
-    (λ c. let w = c .before .pre in (omega (arith, w .2), refl, w .3, λ o r d. d))
-    (λ c κs. let w = c .before .before .before .before .pre in let i = c .before .before .loop .inv in (w .0, w .1, omega (arith, i .0, w .2), omega (arith, i .2), w .4))
+    (λ c. let w = c .before .pre in (omega (arith, w .1), refl, w .2, λ o r d. d))
+    (λ c κs. let w = c .before .before .before .before .pre in let i = c .before .before .loop .inv in (w .0, omega (arith, i .0, w .1), omega (arith, i .2), w .3))
     (λ c. omega (arith, c .before .before .before .before .before .loop .inv .0))
     (λ c. omega arith)
     (λ c. omega arith)

@@ -11,4 +11,4 @@ put-spec =
     (λ c κs. search needs)
     (λ c κs. search needs)
     (λ c. search needs)
-    (λ c. rw (← (c .before .before .before .before .location-at .ensures .0)) (c .before .before .emit-load-immediate .ensures)))
+    (λ c. rw (← (c .before .before .before .before .location-of .ensures .0)) (c .before .before .emit-load-immediate .ensures)))

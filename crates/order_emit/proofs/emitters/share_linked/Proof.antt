@@ -10,8 +10,8 @@ share-linked-spec =
     tie.close
     (tie.spec
     (λ c. rw (c .if1 .taken) emits-nop)
-    (λ c. let g = linked-fits (c .before .before .args .a) (c .if1 .left) (c .before .before .pre .1) in omega (arith, g, c .before .before .pre .4 .frame))
-    (λ c κs. let g = linked-fits (c .before .before .args .a) (c .if1 .left) (c .before .before .pre .1) in (c .before .before .pre .0, omega (arith, g, c .before .before .pre .4 .frame)))
-    (λ c κs. let w = c .before .before .before .before .pre in let g = linked-fits (c .before .before .before .before .args .a) (c .before .before .if1 .left) (w .1) in (w .2, w .3, omega (arith, g, c .before .location-at .ensures .1), w .4))
+    (λ c. let g = linked-fits (c .before .before .args .a) (c .if1 .left) (c .before .before .pre .0) in omega (arith, g, c .before .before .pre .3 .frame))
+    (λ c κs. let g = linked-fits (c .before .before .args .a) (c .if1 .left) (c .before .before .pre .0) in (omega (arith, g, c .before .before .pre .3 .frame)))
+    (λ c κs. let w = c .before .before .before .before .pre in let g = linked-fits (c .before .before .before .before .args .a) (c .before .before .if1 .left) (w .0) in (w .1, w .2, omega (arith, g, c .before .location-of .ensures .1), w .3))
     (λ c. search needs)
-    (λ c. rw (c .before .before .before .before .before .if1 .left, ← (c .before .before .before .before .location-at .ensures .0)) (c .before .before .share .ensures)))
+    (λ c. rw (c .before .before .before .before .before .if1 .left, ← (c .before .before .before .before .location-of .ensures .0)) (c .before .before .share .ensures)))
