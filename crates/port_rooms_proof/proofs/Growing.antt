@@ -20,9 +20,10 @@ use Rattle.memory.specs.Blocks.{takeBlock, storeField, acquireBlock}
 use Rattle.memory.specs.Objects.{fst, snd, extIn, storeValue, storeValues, storeOther, storeOthers, storeSome, storeObject, chunks}
 use Rattle.memory.proofs.Flattened.{fields-size}
 use Rattle.memory.proofs.Sizes.{acquire-size, immediate-size, zeros-size, chunks-fill}
+use Rattle.memory_bounds.specs.Bounds.{linked}
+use Rattle.memory_bounds.proofs.StoreSizes.{some-record, store-linked}
 use Rattle.order_spec.specs.Writes.{treeOf}
 use Rattle.port_rooms_proof.specs.Sizes.{variables, storeOfAll}
-use Rattle.port_rooms_proof.proofs.StoreSizes.{linked, some-record, store-linked}
 
 location-later : (p q : ℕ) → p ≤ q → location p ≤ location q
 unfolding location
@@ -185,7 +186,7 @@ all-linked zero v = refl
 all-linked (suc n) zero = refl
 all-linked (suc n) (suc v) = let e : 8 * suc v + 2 ≡ suc (suc (suc (suc (suc (suc (suc (suc (8 * v + 2)))))))) = omega arith in rw e (all-linked n v)
 
-linked-in : (n : ℕ) → extIn (variables Linked n) 0 ≡ linked
+pub linked-in : (n : ℕ) → extIn (variables Linked n) 0 ≡ linked
 linked-in n = fun-ext (λ v. all-linked n (v - 0))
 
 module _ (g : Shape) where

@@ -1,8 +1,7 @@
 -- Lemmas of the proofs.
-pub mod StoreSizes  -- how many records a store has at most
 pub mod Growing  -- a store of all variables has the most records
-pub mod LoadSizes  -- how many records a load has at most
 pub mod OrderSizes  -- how many records an order has at most, and how many variables it leaves
+pub mod Operations  -- how many records an operation has at most
 pub mod Answering  -- an order that is not refused before 9, and its room
 pub mod Filling  -- orders that need the whole room
 pub mod Digits  -- how many digits a number has

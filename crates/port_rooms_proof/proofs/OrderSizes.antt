@@ -17,15 +17,18 @@ use Rattle.layout.specs.Config.{Supported, positions, mostVariables}
 use Rattle.code.proofs.Sizes.{plain-arithmetic, plain-load-immediate}
 use Rattle.memory.specs.Objects.{fst, snd, extIn, storeObject, chunks}
 use Rattle.memory.proofs.Sizes.{erase-size, chunks-fill}
+use Rattle.memory_bounds.specs.Bounds.{linked}
+use Rattle.memory_bounds.proofs.StoreSizes.{store-within}
+use Rattle.memory_bounds.proofs.LoadSizes.{load-within}
 use Rattle.print_i64.proofs.Sizes.{print-size}
 use Rattle.order_spec.specs.Writes.{treeOf, present, asked}
 use Rattle.order_check.specs.After.{countAfter}
 use Rattle.order_check.proofs.Asking.{put-fits, compute-fits, copy-there, copy-asks, copies-fit, copies-few, store-there, store-fits, load-few}
+use Rattle.order_emit.specs.Bounds.{mostRecords}
 use Rattle.order_emit.proofs.Extent.{copies-extent, share-extent}
+use Rattle.order_emit.proofs.Bounded.{order-bounds}
 use Rattle.port_rooms_proof.specs.Sizes.{recordsWithin, roomForRecords}
-use Rattle.port_rooms_proof.proofs.StoreSizes.{linked, store-within}
 use Rattle.port_rooms_proof.proofs.Growing.{store-most, all-size, all-least}
-use Rattle.port_rooms_proof.proofs.LoadSizes.{load-within}
 
 pub order-within : (g : Shape) → Supported g → (c : List ℕ) (k : ℕ) (b : List ℕ) (o : Order) → size (treeOf g c k b o) ≤ recordsWithin g o
 unfolding treeOf
@@ -52,6 +55,13 @@ loaded-within f c m k e h =
     let r : c * k ≤ c * m = mul-le-mul-left c h in
     omega (arith, blocks-stored f c m e)
 
+-- the records of both ways of a load added up
+load-sum : (f c m : ℕ) → f ≡ c + 1 → 4 * f + 5 + (8 * f + 3) + (4 * c + 5 + (8 * c + 3)) * m + 7 ≡ 12 * f + 15 + (12 * c + 8) * m
+load-sum f c m e =
+    let a : (12 * c + 8) * m ≡ 12 * (c * m) + 8 * m = omega arith in
+    let b : (4 * c + 5 + (8 * c + 3)) * m ≡ 12 * (c * m) + 8 * m = omega arith in
+    omega arith
+
 chunks-later : (c n m : ℕ) → 1 ≤ c → n ≤ m → chunks c n ≤ chunks c m
 chunks-later c n m h l =
     let z : c * chunks c n < c * (chunks c m + 1) = omega (arith, chunks-fill c n h .1, chunks-fill c m h .0) in
@@ -72,26 +82,29 @@ module _ (c : List ℕ) (k : ℕ) (b : List ℕ) (g : Shape) (s : Supported g) w
   filled = chunks-fill (g .fields - 1) (most - g .fields) (omega (arith, s .some)) .0
 
   -- a store's bound by its variables' places, the others' by their number
-  below-all : (o : Order) → present c k b o ≡ true → asked c k b o ≤ positions g → size (treeOf g c k b o) ≤ size (storeObject g linked 0 most) + 1
-  unfolding treeOf
-  below-all (Put value) p h = omega (arith, order-within g s c k b (Put value))
-  below-all (Compute operation x y) p h = omega (arith, order-within g s c k b (Compute operation x y), some-records)
-  below-all (Copy a n) p h =
+  bounds-below : (o : Order) → present c k b o ≡ true → asked c k b o ≤ positions g → mostRecords g k o ≤ size (storeObject g linked 0 most) + 1
+  bounds-below (Put value) p h = omega arith
+  bounds-below (Compute operation x y) p h = omega (arith, some-records)
+  bounds-below (Copy a n) p h =
       let l : n ≤ most = copies-few s (extAt c a) a k n (copy-there c k b a n refl p) (copy-asks c k b a n refl h) in
-      omega (arith, order-within g s c k b (Copy a n), copies-within (g .fields) (g .fields - 1) (blocks most) n (omega (arith, s .some)) (omega (arith, filled)), all-least g s)
-  below-all Drop p h = omega (arith, order-within g s c k b Drop, some-records)
-  below-all (Store n tag) p h =
+      omega (arith, copies-within (g .fields) (g .fields - 1) (blocks most) n (omega (arith, s .some)) (omega (arith, filled)), all-least g s)
+  bounds-below Drop p h = omega (arith, some-records)
+  bounds-below (Store n tag) p h =
       let l = store-there c k b n tag refl p in
       let f = store-fits c k b n tag refl s l h in
-      omega (arith, store-most g s (extIn c 0) (k - n) n most (omega arith) (omega (arith, s .aside)), plain-load-immediate g (snd (k - n)) tag .most)
-  below-all (Load n) p h =
+      omega (arith, store-most g s linked (k - n) n most (omega arith) (omega (arith, s .aside)))
+  bounds-below (Load n) p h =
       let l : n ≤ most = load-few c k b n refl g h in
       let z = loaded-within (g .fields) (g .fields - 1) (blocks most) (blocks n) (omega (arith, s .some)) (chunks-later (g .fields - 1) (n - g .fields) (most - g .fields) (omega (arith, s .some)) (omega arith)) in
-      omega (arith, order-within g s c k b (Load n), all-least g s)
-  below-all (Print newline a) p h = omega (arith, order-within g s c k b (Print newline a), some-records)
+      omega (arith, z, load-sum (g .fields) (g .fields - 1) (blocks n) (omega (arith, s .some)), all-least g s)
+  bounds-below (Print newline a) p h = omega (arith, some-records)
+
+  -- where the output has the room that the header recommends, it has room for an order's bound
+  pub bounds-fit : (o : Order) → present c k b o ≡ true → asked c k b o ≤ positions g → 24 * mostRecords g k o ≤ roomForRecords g
+  bounds-fit o p h = omega (arith, bounds-below o p h, all-size g)
 
   pub order-most : (o : Order) → present c k b o ≡ true → asked c k b o ≤ positions g → 24 * size (treeOf g c k b o) ≤ roomForRecords g
-  order-most o p h = omega (arith, below-all o p h, all-size g)
+  order-most o p h = omega (arith, order-bounds g s c k b o .1, bounds-fit o p h)
 
   loaded-few : (n : ℕ) → asked c k b (Load n) ≤ positions g → (n ≡ 0 → ⊥) → k - 1 + n ≤ mostVariables g
   unfolding asked

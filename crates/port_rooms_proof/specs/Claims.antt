@@ -1,10 +1,10 @@
 -- No order on as many variables as have positions, no listing and no routine is refused for want of room where the buffers have the sizes that
 -- include/axcut.h recommends; and with a byte less an order and a listing are. In the answers that the contracts of `order`, `list_records` and
 -- `into_x86_64_routine` cite.
-use Prim.Native.Nat.{ℕ, _-_, _^_, _≤_, _<_}
+use Prim.Native.Nat.{ℕ, _*_, _-_, _^_, _≤_, _<_}
 use mathlib.Core.Path.{_≡_}
 use mathlib.Core.Logic.{_≢_}
-use mathlib.Core.Bool.{true}
+use mathlib.Core.Bool.{Bool, true}
 use mathlib.Core.List.{List, []}
 use lib.ListN.{length, replicate}
 use Rattle.records.specs.declared.binding.Kind.the-variants.{Linked, Ext}
@@ -16,16 +16,23 @@ use Rattle.records.specs.Orders.{recordOf}
 use Rattle.records.specs.ReadBack.{Bytes, joined, codeBytes}
 use Rattle.trees.specs.Tree.{size}
 use Rattle.layout.specs.declared.config.Shape.{Shape}
-use Rattle.layout.specs.Config.{Supported, base, second, shapeOf, inShape, mostVariables}
+use Rattle.layout.specs.Config.{Supported, base, second, shapeOf, inShape, positions, mostVariables}
+use Rattle.operations.specs.declared.operation.Operation.{Operation}
+use Rattle.operations.specs.Operations.{operationRecords}
+use Rattle.memory.specs.Blocks.{eraseBlock, shareBlock}
+use Rattle.memory.specs.Objects.{storeObject, loadObject}
+use Rattle.memory_bounds.specs.Bounds.{storedWithin, loadedWithin}
+use Rattle.print_i64.specs.Print.{printI64}
 use Rattle.emit.specs.declared.answer.Answer.the-variants as emission
 use Rattle.routine.specs.Routine.{routineAnswer}
 use Rattle.order_spec.specs.declared.answer.OrderAnswer.the-variants.{Room}
-use Rattle.order_spec.specs.Writes.{treeOf}
+use Rattle.order_spec.specs.Writes.{treeOf, present, asked}
 use Rattle.order_spec.specs.Answered.{Asked, orderAccepted, answerTo, placesIn, orderContext}
+use Rattle.order_emit.specs.Bounds.{mostRecords}
 use Rattle.listing.specs.declared.Listed.the-variants.{Short}
 use Rattle.listing.specs.Names.{codeNames}
 use Rattle.listing.specs.Listing.{listedText, listed}
-use Rattle.port_rooms_proof.specs.Sizes.{recordsWithin, variables, roomForRecords, roomForContext, roomForText, roomForRoutine}
+use Rattle.port_rooms_proof.specs.Sizes.{operationWithin, eraseWithin, shareWithin, printWithin, recordsWithin, variables, roomForRecords, roomForContext, roomForText, roomForRoutine}
 
 pub record OrdersFit : Type 0 where
   -- an order's records are no more than the bound for its variables
@@ -39,6 +46,25 @@ pub record OrdersFit : Type 0 where
   pub variables-stay :
       (g : Shape) → Supported g → (context : List ℕ) (q : Asked) → placesIn context ≤ mostVariables g → orderAccepted (answerTo g context q) ≡ true
       → placesIn (orderContext context q) ≤ mostVariables g
+
+-- An order is written in one pass where the output has room for its bound (`order_ample` in order_emit). Every order that is not refused before 9 has it in the room that the header recommends.
+pub record OrdersAtOnce : Type 0 where
+  pub records-bounded :
+      (g : Shape) → Supported g → (context : List ℕ) (k : ℕ) (bindings : List ℕ) (order : Order) → size (treeOf g context k bindings order) ≤ mostRecords g k order
+  -- a store of linked variables has as many
+  pub bound-reached : (g : Shape) → Supported g → (k n tag : ℕ) → size (treeOf g (variables Linked k) k [] (Store n tag)) ≡ mostRecords g k (Store n tag)
+  pub bound-within :
+      (g : Shape) → Supported g → (context : List ℕ) (k : ℕ) (bindings : List ℕ) (order : Order) → present context k bindings order ≡ true → asked context k bindings order ≤ positions g
+      → 24 * mostRecords g k order ≤ roomForRecords g
+
+-- The records of operations are no more than their bounds, AXCUT_ROOM_FOR_OPERATION and the others of the header: with such a room they are written in one pass.
+pub record OperationsFit : Type 0 where
+  pub operation : (g : Shape) (o : Operation) → length (operationRecords g o) ≤ operationWithin
+  pub erased : (g : Shape) (w : ℕ) → size (eraseBlock g w) ≤ eraseWithin
+  pub shared : (g : Shape) (w n : ℕ) → size (shareBlock g w n) ≤ shareWithin
+  pub printed : (g : Shape) (newline : Bool) (w : ℕ) (ext : ℕ → Bool) (n : ℕ) → size (printI64 g newline w ext n) ≤ printWithin
+  pub stored : (g : Shape) → Supported g → (ext : ℕ → Bool) (v n : ℕ) → size (storeObject g ext v n) ≤ storedWithin g n
+  pub loaded : (g : Shape) → Supported g → (ext : ℕ → Bool) (v n : ℕ) → size (loadObject g ext v n) ≤ loadedWithin g n
 
 -- what a shape decides, by the numbers of an edition and a frame
 abbrev pub sizeIn : ℕ → ℕ → (Shape → ℕ) → ℕ

@@ -1,6 +1,6 @@
 -- How many records an order has at most, by the number of variables that it stores, loads or makes, and the sizes of buffers that include/axcut.h
 -- recommends for each frame. From the scope, 'Binding record' and 'Instruction record', and memory.rs.
-use Prim.Native.Nat.{ℕ, _+_, _*_, _-_}
+use Prim.Native.Nat.{ℕ, _+_, _*_}
 use mathlib.Core.List.{List, []}
 use lib.ListN.{replicate}
 use Rattle.records.specs.declared.binding.Kind.{Kind}
@@ -12,50 +12,32 @@ use Rattle.records.specs.ReadBack.{joined}
 use Rattle.trees.specs.Tree.{Tree, size}
 use Rattle.layout.specs.declared.config.Shape.{Shape}
 use Rattle.layout.specs.Config.{mostVariables}
-use Rattle.memory.specs.Objects.{chunks}
+use Rattle.memory_bounds.specs.Bounds.{storedWithin, loadedWithin}
 use Rattle.order_spec.specs.Writes.{treeOf}
 
+-- the records of an operation of code.rs, which a division has, of erase_block, share_block_n and print_i64
+abbrev pub operationWithin : ℕ
+operationWithin = 9
+
+abbrev pub eraseWithin : ℕ
+eraseWithin = 12
+
+abbrev pub shareWithin : ℕ
+shareWithin = 5
+
+abbrev pub printWithin : ℕ
+printWithin = 21
+
 module _ (g : Shape) where
-  -- blocks before the last one of an object of n variables
-  abbrev otherBlocks : ℕ → ℕ
-  otherBlocks n = chunks (g .fields - 1) (n - g .fields)
-
-  -- a block stored: its link, two records for each word of its fields, and the block acquired, whose children are erased
-  abbrev storedLast : ℕ
-  storedLast = 16 * g .fields + 19
-
-  abbrev storedOther : ℕ
-  storedOther = 16 * g .fields + 17
-
-  abbrev pub storedWithin : ℕ → ℕ
-  storedWithin n = storedLast + storedOther * otherBlocks n
-
-  -- a block loaded and released, and one whose pointers are shared: its link, its fields, and register 4 borrowed for it
-  abbrev releasedLast : ℕ
-  releasedLast = 4 * g .fields + 5
-
-  abbrev releasedOther : ℕ
-  releasedOther = 4 * (g .fields - 1) + 5
-
-  abbrev sharedLast : ℕ
-  sharedLast = 8 * g .fields + 3
-
-  abbrev sharedOther : ℕ
-  sharedOther = 8 * (g .fields - 1) + 3
-
-  -- an object is loaded in two ways, of which one is run, and 7 records choose
-  abbrev pub loadedWithin : ℕ → ℕ
-  loadedWithin n = releasedLast + sharedLast + (releasedOther + sharedOther) * otherBlocks n + 7
-
-  -- the records of an order
+  -- the records of an order, wherever its variables stand
   abbrev pub recordsWithin : Order → ℕ
   recordsWithin (Put value) = 1
-  recordsWithin (Compute operation a b) = 9
-  recordsWithin (Copy a n) = 4 * n + 5
-  recordsWithin Drop = 12
-  recordsWithin (Store n tag) = storedWithin n + 1
-  recordsWithin (Load n) = loadedWithin n
-  recordsWithin (Print newline a) = 21
+  recordsWithin (Compute operation a b) = operationWithin
+  recordsWithin (Copy a n) = 4 * n + shareWithin
+  recordsWithin Drop = eraseWithin
+  recordsWithin (Store n tag) = storedWithin g n + 1
+  recordsWithin (Load n) = loadedWithin g n
+  recordsWithin (Print newline a) = printWithin
 
 -- the bytes of a context of n variables
 abbrev pub variables : Kind → ℕ → List ℕ
