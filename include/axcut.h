@@ -97,6 +97,20 @@ enum {
     ((edition) == AXCUT_FIRST_EDITION ? ((frame) == AXCUT_FRAME ? 102624 : 202464) : ((frame) == AXCUT_FRAME ? 67872 : 135648))
 #define AXCUT_ROOM_FOR_CONTEXT(frame) (AXCUT_BINDING_SIZE * AXCUT_MOST_VARIABLES(frame)) /* for the context after it [1064, 2088] */
 
+/*
+ * Bytes that are enough for the records of any operation, print or routine (proved: operations_fit, routines_fit); for those of a
+ * store or a load of n variables by axcut_room_for_store and axcut_room_for_load below. AXCUT_ROOM_FOR_RECORDS is enough for all
+ * of these but a routine. With such a room, records are written in one pass (orders_at_once). With less they are written too
+ * where they fit, after a first pass that tells their size.
+ */
+enum {
+    AXCUT_ROOM_FOR_OPERATION = 216, /* axcut_operation: 9 records */
+    AXCUT_ROOM_FOR_ERASE = 288,     /* AXCUT_MEMORY_ERASE_BLOCK: 12 */
+    AXCUT_ROOM_FOR_SHARE = 120,     /* AXCUT_MEMORY_SHARE_BLOCK_N: 5 */
+    AXCUT_ROOM_FOR_PRINT = 504,     /* axcut_print: 21 */
+    AXCUT_ROOM_FOR_ROUTINE = 1572864 /* axcut_routine: AXCUT_MOST_RECORDS */
+};
+
 /* The machine: registers, stack, heap and the words that print calls leave. */
 enum {
     AXCUT_REGISTERS = 16,
@@ -366,6 +380,27 @@ uint64_t axcut_order(uint64_t edition, uint64_t frame, const uint8_t *context, s
                      size_t order_length, const uint8_t *bindings, size_t bindings_length, uint64_t *counter,
                      uint8_t *records_out, size_t records_room, uint8_t *context_out, size_t context_room, uint64_t *value,
                      uint64_t *count);
+
+/* Blocks before the last one of an object of n variables: the last holds as many as it has fields, each other one fewer. */
+static inline size_t axcut_other_blocks(uint64_t edition, size_t n)
+{
+    size_t fields = AXCUT_BLOCK_FIELDS(edition);
+    return n <= fields ? 0 : (n - fields + fields - 2) / (fields - 1);
+}
+
+/* Bytes for the records of a store of n variables. */
+static inline size_t axcut_room_for_store(uint64_t edition, size_t n)
+{
+    size_t fields = AXCUT_BLOCK_FIELDS(edition);
+    return AXCUT_RECORD_SIZE * (16 * fields + 19 + (16 * fields + 17) * axcut_other_blocks(edition, n));
+}
+
+/* Bytes for the records of a load of n variables. */
+static inline size_t axcut_room_for_load(uint64_t edition, size_t n)
+{
+    size_t fields = AXCUT_BLOCK_FIELDS(edition);
+    return AXCUT_RECORD_SIZE * (12 * fields + 15 + (12 * fields - 4) * axcut_other_blocks(edition, n));
+}
 
 /* Writes `size` bytes of a number, the lowest first. */
 static inline void axcut_write_number(uint8_t *at, uint64_t number, size_t size)

@@ -36,6 +36,26 @@ impl Edition {
     pub const fn block_bytes(self) -> usize {
         8 * self.block_words()
     }
+
+    /// Blocks before the last one of an object of so many variables: the last holds as many as it
+    /// has fields, each other one fewer.
+    const fn other_blocks(self, variables: usize) -> usize {
+        variables
+            .saturating_sub(self.fields())
+            .div_ceil(self.fields() - 1)
+    }
+
+    /// The most records of a store of so many variables, as the header's `axcut_room_for_store`.
+    pub const fn store_records(self, variables: usize) -> usize {
+        let fields = self.fields();
+        16 * fields + 19 + (16 * fields + 17) * self.other_blocks(variables)
+    }
+
+    /// The most records of a load of so many variables, as the header's `axcut_room_for_load`.
+    pub const fn load_records(self, variables: usize) -> usize {
+        let fields = self.fields();
+        12 * fields + 15 + (12 * fields - 4) * self.other_blocks(variables)
+    }
 }
 
 #[cfg(test)]

@@ -114,14 +114,34 @@ pub enum Memory<'a> {
     Load(&'a [Binding], &'a [Binding]),
 }
 
-/// Asks without room for the bytes needed, then with as many.
-fn written(mut ask: impl FnMut(&mut [u8]) -> Told) -> Result<Vec<u8>, Refusal> {
-    let needed = match ask(&mut []) {
-        Told { number: 0, .. } => return Ok(Vec::new()),
-        Told { number: 10, value } => value,
-        Told { number, value } => return Err(Refusal::told(number, value)),
-    };
-    let mut out = vec![0; needed as usize];
+/// The most records of an operation, of `EraseBlock` and `ShareBlockN`, and of a print.
+const OPERATION_RECORDS: usize = 9;
+const ERASE_RECORDS: usize = 12;
+const SHARE_RECORDS: usize = 5;
+const PRINT_RECORDS: usize = 21;
+
+/// The records of a routine beside its body's, without arguments, and the most arguments.
+const ROUTINE_RECORDS: usize = 25;
+const MOST_ARGUMENTS: usize = 5;
+
+impl Memory<'_> {
+    /// The most records that the operation has, as the header says. A store of more variables than
+    /// there are is refused, whatever the room.
+    fn most_records(&self, edition: Edition) -> usize {
+        match self {
+            Memory::EraseBlock(_) => ERASE_RECORDS,
+            Memory::ShareBlockN(..) => SHARE_RECORDS,
+            Memory::Store(context, n) => {
+                edition.store_records(context.len().min(*n as usize))
+            }
+            Memory::Load(_, loaded) => edition.load_records(loaded.len()),
+        }
+    }
+}
+
+/// Asks once, with room for the most records that there can be: so they are written in one pass.
+fn written(records: usize, ask: impl FnOnce(&mut [u8]) -> Told) -> Result<Vec<u8>, Refusal> {
+    let mut out = vec![0; records * RECORD_SIZE];
     match ask(&mut out) {
         Told { number: 0, value } => {
             out.truncate(value as usize * RECORD_SIZE);
@@ -134,7 +154,9 @@ fn written(mut ask: impl FnMut(&mut [u8]) -> Told) -> Result<Vec<u8>, Refusal> {
 /// The records of an operation.
 pub fn operation(frame: Frame, operation: Operation) -> Result<Vec<u8>, Refusal> {
     let operation = operation.numbered();
-    written(|out| ffi::operation(frame, &operation, out))
+    written(OPERATION_RECORDS, |out| {
+        ffi::operation(frame, &operation, out)
+    })
 }
 
 /// The records of an operation on blocks; those of a store or a load are the edition's. The counter
@@ -163,7 +185,9 @@ pub fn memory(
         context: &context,
         loaded: &loaded,
     };
-    written(|out| ffi::memory(edition, frame, &asked, counter, out))
+    written(memory.most_records(edition), |out| {
+        ffi::memory(edition, frame, &asked, counter, out)
+    })
 }
 
 /// The records of a print of an operand, which keep the variables of a context.
@@ -174,7 +198,9 @@ pub fn print(
     context: &[Binding],
 ) -> Result<Vec<u8>, Refusal> {
     let context = context_bytes(context);
-    written(|out| ffi::print(frame, newline, source.word(), &context, out))
+    written(PRINT_RECORDS, |out| {
+        ffi::print(frame, newline, source.word(), &context, out)
+    })
 }
 
 /// The records of a routine around a body.
@@ -184,7 +210,10 @@ pub fn routine(
     body: &[u8],
     arguments: usize,
 ) -> Result<Vec<u8>, Refusal> {
-    written(|out| ffi::routine(edition, frame, body, arguments, out))
+    let records = ROUTINE_RECORDS + arguments.min(MOST_ARGUMENTS) + body.len().div_ceil(RECORD_SIZE);
+    written(records, |out| {
+        ffi::routine(edition, frame, body, arguments, out)
+    })
 }
 
 /// The operand of a variable of a context by its id: its Snd or its Fst.
@@ -343,6 +372,25 @@ mod tests {
         assert_eq!(load, Ok((10, 2)));
         for memory in [Memory::EraseBlock(R5), Memory::ShareBlockN(R5, 3)] {
             assert_eq!(size(SECOND, SMALLER, memory), size(FIRST, SMALLER, memory));
+        }
+    }
+
+    /// Linked variables in spills reach the bounds where the first block is full.
+    #[test]
+    fn stores_and_loads_fill_their_bounds() {
+        for (edition, full) in [(FIRST, 5), (SECOND, 13)] {
+            let linked = context(&vec![Kind::Linked; 6 + full]);
+            for n in 0..=full {
+                let store = size(edition, SMALLER, Memory::Store(&linked[..6 + n], n as u64));
+                let load = size(edition, SMALLER, Memory::Load(&linked[..6], &linked[..n]));
+                let [stored, loaded] = [store, load].map(|size| size.unwrap().0);
+                let (most_stored, most_loaded) =
+                    (edition.store_records(n), edition.load_records(n));
+                assert!(stored <= most_stored && loaded <= most_loaded);
+                if n == full {
+                    assert_eq!((stored, loaded), (most_stored, most_loaded));
+                }
+            }
         }
     }
 
