@@ -3,7 +3,7 @@
 
 mod emission;
 
-pub use emission::emission;
+pub use emission::{Form, emission};
 
 use crate::answer::Answer;
 use crate::interpreter::{self, HEAP_START, Outcome, State};

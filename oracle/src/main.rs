@@ -53,7 +53,8 @@ oracle soak [rust] [OPTIONS]                       plays lists of orders on the 
                                                    (--orders 1000000, --seed 1, --blocks 2000)
 oracle soak list SEED FOLDER                       writes the lists that the program test_soak plays
 oracle bench machine                               times it beside plain Rust
-oracle bench emission                              times emission beside the published Rust";
+oracle bench emission [table] [NAME]               times emission beside the published Rust
+                                                   (as a Markdown table; rows with this name alone)";
 
 /// Why a command did not run to its end.
 enum Failure {
@@ -149,9 +150,18 @@ fn run(words: &[&str]) -> Result<bool, Failure> {
             need_port()?;
             return Ok(bench::machine());
         }
-        ["bench", "emission"] => {
+        ["bench", "emission", words @ ..] => {
+            let (form, words) = match words {
+                ["table", words @ ..] => (bench::Form::Table, words),
+                words => (bench::Form::Lines, words),
+            };
+            let name = match words {
+                [] => "",
+                [name] => name,
+                _ => return Err(Failure::Usage),
+            };
             need_port()?;
-            return Ok(bench::emission());
+            return Ok(bench::emission(form, name));
         }
         _ => return Err(Failure::Usage),
     }

@@ -12,7 +12,7 @@ pub struct Refusal {
 }
 
 const MOST_BINDINGS: usize = 4_096;
-const MOST_RECORDS: usize = 65_536;
+pub const MOST_RECORDS: usize = 65_536;
 const MOST_LISTED: usize = 2_730;
 
 /// "15 for the length (place 0), checked first; then, at the earliest bad binding, 16 for its mark

@@ -18,6 +18,7 @@ pub mod shape_3_256 {
     use axcut2x86_64 as published;
     mod conversion;
     pub mod driver;
+    mod prepared;
 }
 
 #[path = "rust_side"]
@@ -26,6 +27,7 @@ pub mod shape_3_512 {
     use axcut2x86_64_3_512 as published;
     mod conversion;
     pub mod driver;
+    mod prepared;
 }
 
 #[path = "rust_side"]
@@ -34,6 +36,7 @@ pub mod shape_7_256 {
     use axcut2x86_64_7_256 as published;
     mod conversion;
     pub mod driver;
+    mod prepared;
 }
 
 #[path = "rust_side"]
@@ -42,6 +45,7 @@ pub mod shape_7_512 {
     use axcut2x86_64_7_512 as published;
     mod conversion;
     pub mod driver;
+    mod prepared;
 }
 
 /// What an expression over the driver of a shape gives.

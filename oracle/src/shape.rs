@@ -1,6 +1,13 @@
 //! The shape of a routine: its edition, which gives a block its fields, and its frame, which gives it
 //! its spills; and what follows from them.
 
+use crate::orders::BINDING;
+use crate::reading::MOST_RECORDS;
+use crate::record::SIZE;
+
+/// The bytes that are enough for every routine.
+pub const ROOM_FOR_ROUTINE: usize = MOST_RECORDS * SIZE;
+
 #[derive(Debug, Clone, Copy, PartialEq, Eq)]
 pub enum Edition {
     First,
@@ -98,6 +105,11 @@ impl Frame {
         self.positions() / 2
     }
 
+    /// The bytes that are enough for the context after every order of a channel: 1,064 or 2,088.
+    pub const fn room_for_context(self) -> usize {
+        self.most_variables() * BINDING
+    }
+
     /// The words of the machine's stack: 320 or 576.
     pub const fn stack_words(self) -> usize {
         self.spills() + 64
@@ -123,6 +135,17 @@ impl Shape {
 
     pub const fn new(edition: Edition, frame: Frame) -> Shape {
         Shape { edition, frame }
+    }
+
+    /// The bytes that are enough for the records of every operation and of every order of a
+    /// channel, as `include/axcut.h` has them.
+    pub const fn room_for_records(self) -> usize {
+        match (self.edition, self.frame) {
+            (Edition::First, Frame::Base) => 102_624,
+            (Edition::First, Frame::Larger) => 202_464,
+            (Edition::Second, Frame::Base) => 67_872,
+            (Edition::Second, Frame::Larger) => 135_648,
+        }
     }
 
     pub const fn chosen(self) -> Chosen {

@@ -1,75 +1,64 @@
 //! Times emission: the port beside the published Rust, which writes comments and strings besides,
-//! and beside a plain copy of the same bytes.
+//! and beside a plain copy of the bytes that the port writes.
 
-use super::emitted;
-use crate::context::read_kinds;
-use crate::parse;
-use crate::port::{self, Memory, Returned};
-use crate::port_side;
+mod call;
+mod cases;
+mod report;
+
+pub use report::Form;
+
+use crate::orders::BINDING;
+use crate::port::{self, Query};
 use crate::record::SIZE;
-use crate::request::Request;
 use crate::rust_side::by_driver;
-use crate::shape::{Chosen, Edition, Frame, Shape};
+use crate::shape::Shape;
+use call::{Call, Outputs};
+use cases::Case;
+use report::Row;
 use std::hint::black_box;
 use std::time::{Duration, Instant};
 
 /// How many times each side is timed, in turns. The least time counts.
 const TURNS: u64 = 1_000;
 
-/// How many records a timed run writes at least.
+/// How many records a timed run writes at least, or how many calls are enough for it. More would
+/// be too many lists of the Rust at once for its memory to be had again from run to run.
 const LEAST_RECORDS: usize = 4_000;
+const ENOUGH_CALLS: usize = 400;
 
-/// Every third variable is linked.
-const KINDS: &str = "eel";
-
-/// What is timed: its name, the request, and how the port is called.
-struct Case {
-    name: String,
-    request: String,
-    call: Call,
-}
-
-enum Call {
-    Store(Vec<u8>, u64),
-    Load(Vec<u8>),
-    Erase(u64),
-    Print(u64, Vec<u8>),
-    Routine(Vec<u8>),
-}
-
-impl Call {
-    fn perform(&self, chosen: Chosen, out: &mut [u8]) -> Returned {
-        let operation = match self {
-            Call::Store(context, n) => Memory::Store(context, *n),
-            Call::Load(loaded) => Memory::Load(loaded, &[]),
-            Call::Erase(operand) => Memory::EraseBlock(*operand),
-            Call::Print(source, context) => {
-                return port::print(chosen.frame, true, *source, context, out);
-            }
-            Call::Routine(body) => return port::routine(chosen, body, 5, out),
-        };
-        port::memory(chosen, &operation, &mut 0, out)
+/// Prints a row for each case that has this in its name. False if the port wrote other bytes than
+/// it must, or if there is no such case.
+pub fn emission(form: Form, name: &str) -> bool {
+    let mut cases = cases::all();
+    cases.retain(|case| case.name.contains(name));
+    if cases.is_empty() {
+        println!("no row has {name} in its name");
+        return false;
     }
-}
-
-/// Prints a line for each case. False if the two wrote different records.
-pub fn emission() -> bool {
-    println!("nanoseconds a record by the port, the Rust, a copy; Rust to port, port to copy");
+    println!("{}", form.header());
     let mut alike = true;
-    for case in cases() {
-        alike &= time(&case);
+    for case in &cases {
+        match time(case) {
+            Some(row) => println!("{}", form.row(&row)),
+            None => {
+                println!("{}: the port and the Rust wrote different bytes", case.name);
+                alike = false;
+            }
+        }
     }
-    println!(
-        "the table of positions, made once by each store and load: {:.1} ns",
-        table()
-    );
+    if name.is_empty() {
+        println!(
+            "\nthe table of positions, made once by each store and load: {:.1} ns",
+            positions()
+        );
+    }
     alike
 }
 
 /// How long a query of a position takes, which is the making of the table.
-fn table() -> f64 {
+fn positions() -> f64 {
     let queries = 1_000;
-    let query = port::Query::Position(0);
+    let query = Query::Position(0);
     let time = |_| {
         timed(|| {
             for _ in 0..queries {
@@ -78,144 +67,123 @@ fn table() -> f64 {
         })
     };
     let least = (0..TURNS).map(time).min().unwrap_or_default();
-    least.as_nanos() as f64 / queries as f64
+    nanoseconds(least, queries)
 }
 
-/// The larger frame's come last: what the Rust allocates for them changes how memory is had after.
-fn cases() -> Vec<Case> {
-    let base = Shape::BASE;
-    let second = Shape {
-        edition: Edition::Second,
-        ..base
-    };
-    let larger = Shape {
-        frame: Frame::Larger,
-        ..base
-    };
-    let mut cases = Vec::new();
-    cases.extend([1, 4, 40, 133].map(|length| store(base, length)));
-    cases.extend([1, 4, 40, 133].map(|length| load(base, length)));
-    cases.push(Case {
-        name: "erase of a register".to_string(),
-        request: "erase_block r4".to_string(),
-        call: Call::Erase(4),
-    });
-    cases.push(Case {
-        name: "erase of a spill".to_string(),
-        request: "erase_block s1".to_string(),
-        call: Call::Erase(17),
-    });
-    let (kinds, context) = variables(6);
-    cases.push(Case {
-        name: "print of 6".to_string(),
-        request: format!("print_i64 1 r5 {kinds}"),
-        call: Call::Print(5, context),
-    });
-    let body = "mov s1 s2; ".repeat(5_000);
-    cases.push(Case {
-        name: "routine of 10,000".to_string(),
-        call: Call::Routine(emitted(body.trim_end_matches("; "))),
-        request: format!("{body}routine 5"),
-    });
-    cases.extend([40, 133].map(|length| store(second, length)));
-    cases.extend([40, 133].map(|length| load(second, length)));
-    cases.extend([store(larger, 261), load(larger, 261)]);
-    cases
-}
-
-fn name(operation: &str, shape: Shape, length: usize) -> String {
-    let edition = match shape.edition {
-        Edition::First => "",
-        Edition::Second => ", second edition",
-    };
-    let frame = match shape.frame {
-        Frame::Base => "",
-        Frame::Larger => ", 512 spills",
-    };
-    format!("{operation} of {length}{edition}{frame}")
-}
-
-fn store(shape: Shape, length: usize) -> Case {
-    let (kinds, context) = variables(length);
-    Case {
-        name: name("store", shape, length),
-        request: format!("{}store {kinds} -", shape.chosen()),
-        call: Call::Store(context, length as u64),
+/// Times a case beside the Rust of its shape. None if the port writes other bytes than it must. On
+/// the longer context an order has as many records, so that the contexts alone differ.
+fn time(case: &Case) -> Option<Row> {
+    let expected = case.expected(&case.call);
+    let mut outputs = case.call.outputs(case.shape);
+    if !agrees(case, &case.call, &expected, &mut outputs) {
+        return None;
     }
-}
-
-fn load(shape: Shape, length: usize) -> Case {
-    let (kinds, context) = variables(length);
-    Case {
-        name: name("load", shape, length),
-        request: format!("{}load {kinds} -", shape.chosen()),
-        call: Call::Load(context),
+    if let Some(longer) = &case.longer {
+        let more = case.expected(longer);
+        assert_eq!(more.records.len(), expected.records.len(), "{}", case.name);
+        if !agrees(case, longer, &more, &mut outputs) {
+            return None;
+        }
     }
-}
-
-/// The kinds of so many variables, as a request writes them, and their context.
-fn variables(length: usize) -> (String, Vec<u8>) {
-    let kinds: String = KINDS.chars().cycle().take(length).collect();
-    let context = port_side::context_of(&[&read_kinds(&kinds).expect("kinds")]);
-    (kinds, context)
-}
-
-/// Times a case beside the Rust of its shape, whose last operation is made ready before.
-fn time(case: &Case) -> bool {
-    let line = parse::line(&case.request).expect("a request");
-    let Request::Emission(emission) = line.request else {
-        unreachable!("no emission: {}", case.request);
-    };
-    by_driver!(line.chosen.nearest(), driver => {
-        let prepared = driver::Prepared::last(&emission).expect("a timed operation");
-        time_beside(case, line.chosen, &prepared, driver::Prepared::emit)
+    by_driver!(case.shape, driver => {
+        let sequence = driver::Sequence::of(&case.body, &case.operations);
+        let Ok(sequence) = sequence else {
+            unreachable!("the Rust performs the operations of {}", case.name);
+        };
+        Some(time_beside(case, &expected, &mut outputs, &sequence, driver::Sequence::emit))
     })
 }
 
-fn time_beside<Prepared: Clone, Written>(
+/// Whether a call of the port writes what it must.
+fn agrees(case: &Case, call: &Call, expected: &Outputs, outputs: &mut Outputs) -> bool {
+    let returned = call.perform(case.shape, outputs, 1);
+    let Outputs { records, context } = expected;
+    returned.number == 0
+        && returned.value == (records.len() / SIZE) as u64
+        && returned.bindings == (context.len() / BINDING) as u64
+        && outputs.records.starts_with(records)
+        && outputs.context.starts_with(context)
+}
+
+/// The least times of the two sides and of a copy of what is expected.
+fn time_beside<Sequence: Clone, List>(
     case: &Case,
-    chosen: Chosen,
-    prepared: &Prepared,
-    emit: fn(Prepared) -> Written,
-) -> bool {
-    let records = emitted(&case.request);
-    let count = records.len() / SIZE;
-    let times = LEAST_RECORDS.div_ceil(count);
-    let mut outputs = [vec![0; records.len() + 200_000], vec![0; records.len()]];
+    expected: &Outputs,
+    outputs: &mut Outputs,
+    sequence: &Sequence,
+    emit: impl Fn(&mut Sequence) -> List,
+) -> Row {
+    let records = expected.records.len() / SIZE;
+    let calls = calls(records);
     let [mut port, mut rust, mut copy] = [Duration::MAX; 3];
+    let mut copied = case.call.outputs(case.shape);
     for _ in 0..TURNS {
-        let (out, copied) = outputs.split_at_mut(1);
-        port = port.min(timed(|| {
-            for _ in 0..times {
-                let out = black_box(&mut out[0]);
-                black_box(black_box(&case.call).perform(chosen, out));
-            }
-        }));
-        let clones = vec![prepared.clone(); times];
-        let mut lists = Vec::with_capacity(times);
-        rust = rust.min(timed(|| {
-            lists.extend(clones.into_iter().map(|clone| emit(black_box(clone))));
-        }));
-        drop(black_box(lists));
-        copy = copy.min(timed(|| {
-            for _ in 0..times {
-                black_box(&mut copied[0]).copy_from_slice(black_box(&records));
-            }
-        }));
+        port = port.min(by_port(case, &case.call, outputs, calls));
+        rust = rust.min(by_rust(sequence, &emit, calls));
+        copy = copy.min(by_copy(expected, &mut copied, calls));
     }
-    let alike = outputs[0][..records.len()] == records;
-    let per_record = |time: Duration| time.as_nanos() as f64 / (times * count) as f64;
-    let [port, rust, copy] = [port, rust, copy].map(per_record);
-    println!(
-        "{}, {count} records: {port:.2}, {rust:.2}, {copy:.2}; {:.1}, {:.1}",
-        case.name,
-        rust / port,
-        port / copy
-    );
-    if !alike {
-        println!("    the port and the Rust wrote different records");
+    let longer = case.longer.as_ref();
+    Row {
+        name: case.name.clone(),
+        records,
+        port: nanoseconds(port, calls),
+        rust: nanoseconds(rust, calls),
+        copy: nanoseconds(copy, calls),
+        context: longer.map(|longer| of_context(case, longer, outputs)),
     }
-    alike
+}
+
+/// What an order's call takes more on the longer context, in turns with that on the shorter.
+fn of_context(case: &Case, longer: &Call, outputs: &mut Outputs) -> f64 {
+    let [mut more, mut less] = [Duration::MAX; 2];
+    for _ in 0..TURNS {
+        less = less.min(by_port(case, &case.call, outputs, ENOUGH_CALLS));
+        more = more.min(by_port(case, longer, outputs, ENOUGH_CALLS));
+    }
+    nanoseconds(more, ENOUGH_CALLS) - nanoseconds(less, ENOUGH_CALLS)
+}
+
+/// The nanoseconds of one of so many calls.
+fn nanoseconds(time: Duration, calls: usize) -> f64 {
+    time.as_nanos() as f64 / calls as f64
+}
+
+/// How many calls a timed run makes of one that writes so many records.
+fn calls(records: usize) -> usize {
+    LEAST_RECORDS.div_ceil(records.max(1)).min(ENOUGH_CALLS)
+}
+
+/// The outputs are not cleared between calls.
+fn by_port(case: &Case, call: &Call, outputs: &mut Outputs, calls: usize) -> Duration {
+    timed(|| {
+        black_box(black_box(call).perform(case.shape, outputs, calls));
+    })
+}
+
+/// What the Rust performs is cloned before the clock starts, and freed with the lists after.
+fn by_rust<Sequence: Clone, List>(
+    sequence: &Sequence,
+    emit: impl Fn(&mut Sequence) -> List,
+    calls: usize,
+) -> Duration {
+    let mut clones = vec![sequence.clone(); calls];
+    let mut lists = Vec::with_capacity(calls);
+    let time = timed(|| {
+        lists.extend(clones.iter_mut().map(|clone| emit(black_box(clone))));
+    });
+    black_box((clones, lists));
+    time
+}
+
+fn by_copy(expected: &Outputs, copied: &mut Outputs, calls: usize) -> Duration {
+    timed(|| {
+        for _ in 0..calls {
+            let Outputs { records, context } = black_box(expected);
+            let copied = black_box(&mut *copied);
+            copied.records[..records.len()].copy_from_slice(records);
+            copied.context[..context.len()].copy_from_slice(context);
+        }
+    })
 }
 
 fn timed(run: impl FnOnce()) -> Duration {

@@ -166,7 +166,7 @@ fn snd(variable: usize) -> Operand {
 }
 
 /// The order as the Rust's operations.
-fn operations(frame: Frame, order: Order, before: &[Kind], brought: &[Kind]) -> Vec<Operation> {
+pub fn operations(frame: Frame, order: Order, before: &[Kind], brought: &[Kind]) -> Vec<Operation> {
     let length = before.len();
     match order {
         Order::Put(value) => vec![Operation::LoadImmediate(snd(length), value as i64)],
@@ -235,4 +235,28 @@ fn context_after(order: Order, context: &[u8], before: &[Kind], brought: &[u8]) 
     }
     after.extend(brought);
     after
+}
+
+#[cfg(test)]
+mod tests {
+    use super::*;
+    use crate::shape::SHAPES;
+
+    /// A store of all variables that a frame has, all linked, writes the most records.
+    #[test]
+    fn the_largest_store_fills_the_room() {
+        for shape in SHAPES {
+            let most = shape.frame.most_variables();
+            let bindings = (0..most as u32).map(|place| binding(Kind::Linked, place));
+            let context = bindings.collect::<Vec<_>>().concat();
+            let asked = Asked {
+                order: Order::Store { n: most, tag: 0 }.to_bytes().to_vec(),
+                bindings: Vec::new(),
+                counter: 0,
+            };
+            let given = given(shape.chosen(), &context, &asked).unwrap();
+            assert_eq!(given.records.len(), shape.room_for_records());
+            assert_eq!(context.len(), shape.frame.room_for_context());
+        }
+    }
 }

@@ -153,7 +153,7 @@ fn order(random: &mut Random, plan: &mut Plan, soak: &Soak, index: usize) -> Opt
 
 fn given(soak: &Soak, asked: &Asked, index: usize) -> Result<Given, Refusal> {
     let given = soak.given(asked)?;
-    let context_room = soak.channel.shape.frame.most_variables() * BINDING;
+    let context_room = soak.channel.shape.frame.room_for_context();
     answer::fits(&given, records_room(index), context_room)?;
     Ok(given)
 }
