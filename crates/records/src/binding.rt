@@ -48,8 +48,8 @@ pub fn write_binding(out: &mut [u8], at: usize, b: Binding)
 {
     let held = b.kind;
     let kind = kind_byte(held);
-    if at <= out.len() {
-        if 8 <= out.len() - at {
+    if 8 <= out.len() {
+        if at <= out.len() - 8 {
             bytes::store_head(out, at, 0xA7, 0x01, kind, 0);
             bytes::store4(out, at + 4, b.id);
         }

@@ -396,8 +396,8 @@ pub fn read_code(s: &[u8], k: usize) -> CodeRead
 pub fn write_fields(out: &mut [u8], at: usize, f: Fields)
     ensures { λ r. ⌜ now (out .exit) ≡ stored (now (out .entry)) at (fieldsBytes f) ⌝ }
 {
-    if at <= out.len() {
-        if 24 <= out.len() - at {
+    if 24 <= out.len() {
+        if at <= out.len() - 24 {
             bytes::store_head(out, at, 0xA9, f.code, f.a, f.b);
             bytes::store4(out, at + 4, f.label);
             bytes::store8(out, at + 8, f.offset);

@@ -233,8 +233,8 @@ pub fn write_order(out: &mut [u8], at: usize, o: Order)
     ensures { λ r. ⌜ now (out .exit) ≡ stored (now (out .entry)) at (orderBytes (orderFieldsOf o)) ⌝ }
 {
     let f = order_fields_of(o);
-    if at <= out.len() {
-        if 24 <= out.len() - at {
+    if 24 <= out.len() {
+        if at <= out.len() - 24 {
             bytes::store_head(out, at, 0xA8, f.code, f.flag, 0);
             bytes::store4(out, at + 4, f.a);
             bytes::store4(out, at + 8, f.b);
