@@ -14,10 +14,12 @@ use Rattle.records.specs.declared.order.Order.{Order}
 use Rattle.records.specs.Contexts.{checkedContext, countedOn, bindingsIn}
 use Rattle.records.specs.Orders.{orderOf, orderIn, orderStarts, wanted}
 use Rattle.records.specs.ReadBack.{joined, codeBytes}
+use Rattle.records.proofs.Conditions.{never}
 use Rattle.trees.specs.Tree.{flat}
 use Rattle.layout.specs.declared.config.Shape.{Shape}
 use Rattle.layout.specs.declared.config.Shaped.{Shaped}
 use Rattle.layout.specs.declared.config.Shaped.the-variants.{In, NoFrame, NoEdition}
+use Rattle.layout.specs.Config.{inShape}
 use Rattle.order_spec.specs.declared.answer.OrderAnswer.{OrderAnswer}
 use Rattle.order_spec.specs.declared.answer.OrderAnswer.the-variants.{Context, Malformed, Frame}
 use Rattle.order_spec.specs.Answered.{Asked, orderAnswerCause, orderAccepted, orderIs, placesIn, decided, answerTo, unframedOrder, answerIn}
@@ -122,3 +124,18 @@ module _ (G : Shape) (c : List ℕ) (q : Asked) where
           records = d .records ∙ rw as-judged (ap (λ (w : Work). output (answerTo G c q) o₁ (joined codeBytes (flat (tree G c (q .bindings) w) (w .counter)))) as-read);
           after = d .context-after ∙ rw as-judged (ap (λ (w : Work). output (answerTo G c q) c₁ (after G c (q .bindings) w)) as-read);
         }
+
+-- an order that is not read, in an edition that there is
+pub unread-shaped : (f : Shaped) → (f ≡ NoEdition → ⊥) → (c : List ℕ) (q : Asked) {o₁ c₁ : List ℕ} {a : OrderAnswer} → Unread c (q .order) (q .bindings) a → AnswersOrder f c q a o₁ o₁ c₁ c₁
+unread-shaped (In G) there c q u = unread-answered G c q u
+unread-shaped NoFrame there c q u = let e = unread-unframed u in unframed-answered q (e .0) (e .1)
+unread-shaped NoEdition there c q u = absurd (there refl)
+
+-- whether there is such an edition
+pub no-edition : (f : Shaped) → inShape f (λ g. true) true false ≡ false → f ≡ NoEdition
+no-edition (In G) e = never (sym e)
+no-edition NoFrame e = never (sym e)
+no-edition NoEdition e = refl
+
+pub some-edition : (f : Shaped) → inShape f (λ g. true) true false ≡ true → f ≡ NoEdition → ⊥
+some-edition f e z = never (rw z at e)

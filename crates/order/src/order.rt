@@ -1,14 +1,14 @@
 // An order as its bytes, answered: its records in one output, the context after it in another.
 ghost use mathlib.Core.Path.{_≡_};
-ghost use mathlib.Core.Bool.{false};
-ghost use mathlib.Core.List.{[]};
+ghost use mathlib.Core.Bool.{true, false};
 ghost use Prim.Native.Nat.{_*_, _/_, _%_, _<_, _^_};
 ghost use Rattle.records.specs.declared.context.ContextRead.the-variants.{Good};
 ghost use Rattle.records.specs.Contexts.{checkedContext};
 ghost use Rattle.records.specs.Orders.{wanted};
-ghost use Rattle.layout.specs.declared.config.Shaped.the-variants.{In};
-ghost use Rattle.layout.specs.Config.{Supported, shapeOf};
-ghost use Rattle.order_spec.specs.Answered.{fitting, orderAccepted, unframedOrder};
+ghost use Rattle.layout.specs.declared.config.Shape.{Shape};
+ghost use Rattle.layout.specs.declared.config.Shaped.the-variants.{In, NoEdition};
+ghost use Rattle.layout.specs.Config.{Supported, shapeOf, inShape};
+ghost use Rattle.order_spec.specs.Answered.{fitting, orderAccepted};
 ghost use Rattle.order.specs.Answers.{asking, AnswersOrder};
 ghost use Rattle.order.specs.Begun.{Begins};
 ghost use Rattle.order.specs.Decided.{Writable, Writes, Judges};
@@ -185,42 +185,48 @@ fn begin(context: &[u8], order: &[u8], bindings: &[u8]) -> Begun
     Begun::With(k as u64, read)
 }
 
+// An order in an edition that there is: 15 to 17 and 2, then 3 for the frame, then 4 to 10.
 fn order_in(
     records_out: &mut [u8],
     context_out: &mut [u8],
-    g: Shape,
+    shaped: Shaped,
     context: &[u8],
     counter: u64,
     order: &[u8],
     bindings: &[u8],
 ) -> OrderAnswer
-    requires { ⌜ Supported g ⌝ }
-    ensures { λ r. ⌜ AnswersOrder (In g) (now (context .entry)) (asking (now (order .entry)) (now (bindings .entry)) counter (now («records_out» .entry)) (now («context_out» .entry))) r (now («records_out» .entry)) (now («records_out» .exit)) (now («context_out» .entry)) (now («context_out» .exit)) ⌝ }
+    requires { ⌜ ((g : Shape) → shaped ≡ In g → Supported g) × (shaped ≡ NoEdition → ⊥) ⌝ }
+    ensures { λ r. ⌜ AnswersOrder shaped (now (context .entry)) (asking (now (order .entry)) (now (bindings .entry)) counter (now («records_out» .entry)) (now («context_out» .entry))) r (now («records_out» .entry)) (now («records_out» .exit)) (now («context_out» .entry)) (now («context_out» .exit)) ⌝ }
 {
     match begin(context, order, bindings) {
-        Begun::With(k, read) => judge(
-            records_out,
-            context_out,
-            g,
-            context,
-            bindings,
-            Work {
-                k,
-                counter,
-                order: read,
-            },
-        ),
+        Begun::With(k, read) => match shaped {
+            Shaped::In(g) => judge(
+                records_out,
+                context_out,
+                g,
+                context,
+                bindings,
+                Work {
+                    k,
+                    counter,
+                    order: read,
+                },
+            ),
+            Shaped::NoFrame => OrderAnswer::Frame,
+            Shaped::NoEdition => OrderAnswer::Edition,
+        },
         Begun::Refused(answer) => answer,
     }
 }
 
-// What a frame of another number of spills is answered.
-fn unframed(context: &[u8], order: &[u8], bindings: &[u8]) -> OrderAnswer
-    ensures { λ r. ⌜ (r ≡ unframedOrder (now (context .entry)) (asking (now (order .entry)) (now (bindings .entry)) 0 [] [])) × (orderAccepted r ≡ false) ⌝ }
+// Whether there is such an edition.
+fn is_edition(shaped: Shaped) -> bool
+    ensures { λ r. ⌜ r ≡ inShape shaped (λ g. true) true false ⌝ }
 {
-    match begin(context, order, bindings) {
-        Begun::With(_, _) => OrderAnswer::Frame,
-        Begun::Refused(answer) => answer,
+    match shaped {
+        Shaped::In(_) => true,
+        Shaped::NoFrame => true,
+        Shaped::NoEdition => false,
     }
 }
 
@@ -237,17 +243,17 @@ pub fn order(
 ) -> OrderAnswer
     ensures { λ r. ⌜ AnswersOrder (shapeOf edition frame) (now (context .entry)) (asking (now (order .entry)) (now (bindings .entry)) counter (now («records_out» .entry)) (now («context_out» .entry))) r (now («records_out» .entry)) (now («records_out» .exit)) (now («context_out» .entry)) (now («context_out» .exit)) ⌝ }
 {
-    match layout::config::shape_of(edition, frame) {
-        Shaped::In(g) => order_in(
-            records_out,
-            context_out,
-            g,
-            context,
-            counter,
-            order,
-            bindings,
-        ),
-        Shaped::NoFrame => unframed(context, order, bindings),
-        Shaped::NoEdition => OrderAnswer::Edition,
+    let shaped = layout::config::shape_of(edition, frame);
+    if is_edition(shaped) {} else {
+        return OrderAnswer::Edition;
     }
+    order_in(
+        records_out,
+        context_out,
+        shaped,
+        context,
+        counter,
+        order,
+        bindings,
+    )
 }
