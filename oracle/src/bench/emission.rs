@@ -48,7 +48,7 @@ pub fn emission(form: Form, name: &str) -> bool {
     }
     if name.is_empty() {
         println!(
-            "\nthe table of positions, made once by each store and load: {:.1} ns",
+            "\nthe table of positions, which a query takes: {:.1} ns",
             positions()
         );
     }

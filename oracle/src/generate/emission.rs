@@ -19,15 +19,30 @@ pub fn longest(frame: Frame) -> usize {
     frame.most_variables() + 1
 }
 
-/// The last counter with which the port writes a store or load at once, without a pass for its
-/// size.
-const LAST_AT_ONCE: u64 = 2_147_479_999;
+/// The last counter with which the port writes a store and a load of n variables at once, without a
+/// pass for its size: it goes by more labels than they can draw.
+fn last_at_once(n: usize) -> [u64; 2] {
+    [10 * n + 100, 2 * n + 42].map(|labels| LAST_FRESH - labels as u64)
+}
 
-/// The shortest output with which the port writes a store or load of n variables at once: 65
-/// records for each block, in the second edition 129, and 4.
-fn at_once(edition: Edition, n: usize) -> u64 {
-    let (each, blocks) = (16 * edition.fields() + 17, edition.blocks_of(n.max(1)));
-    (SIZE * (each * blocks + 4)) as u64
+/// The shortest output with which the port writes an operation at once. For a store it has room for
+/// linked variables at the same places, for a load for as many as n can take, for the others for the
+/// most of their kind.
+fn at_once(shape: Shape, request: &str, n: usize) -> u64 {
+    let edition = shape.edition;
+    let others = edition.blocks_of(n).saturating_sub(1);
+    let records = match request.split(' ').next() {
+        Some("store") => {
+            let kinds = request.trim_start_matches("store").replace('e', "l");
+            return size(shape, &format!("store{kinds}")).map_or(0, |(bytes, _)| bytes);
+        }
+        Some("load") => 12 * edition.fields() + 15 + (12 * edition.fields() - 4) * others,
+        Some("print_i64") => 21,
+        Some("erase_block") => 12,
+        Some("share_block_n") => 5,
+        _ => 9,
+    };
+    (SIZE * records) as u64
 }
 
 /// The scope's worked numbers.
@@ -271,8 +286,8 @@ fn size(shape: Shape, request: &str) -> Option<(u64, u64)> {
     }
 }
 
-/// Every length with a counter in the middle, with the last that leaves labels enough, and with
-/// the first that does not.
+/// Every length with a counter in the middle, about the last with which the port writes at once, with
+/// the last that leaves labels enough, and with the first that does not.
 fn counters_of_contexts(shape: Shape, random: &mut Random, list: &mut Vec<String>) {
     for length in 0..=longest(shape.frame) {
         for operation in ["store", "load"] {
@@ -281,7 +296,15 @@ fn counters_of_contexts(shape: Shape, random: &mut Random, list: &mut Vec<String
             let request = format!("{operation} {some} {rest}");
             let labels = size(shape, &request).map_or(0, |(_, labels)| labels);
             let middle = random.below(1 << 31) as u64;
-            for counter in [middle, LAST_FRESH - labels, LAST_FRESH - labels + 1] {
+            let [stored, loaded] = last_at_once(first);
+            let last = if operation == "store" { stored } else { loaded };
+            for counter in [
+                middle,
+                last,
+                last + 1,
+                LAST_FRESH - labels,
+                LAST_FRESH - labels + 1,
+            ] {
                 list.push(format!("@{counter} {request}"));
             }
         }
@@ -289,10 +312,10 @@ fn counters_of_contexts(shape: Shape, random: &mut Random, list: &mut Vec<String
 }
 
 /// Every operation, and every length of a context, with outputs of no byte, of about half the
-/// bytes needed, of a byte less, of just the bytes needed and of a byte more, and about the length
-/// from which the port writes at once.
+/// bytes needed, of a byte less, of just the bytes needed and of a byte more, about the length from
+/// which the port writes at once, and of the length that the header recommends.
 fn rooms(shape: Shape, random: &mut Random, list: &mut Vec<String>) {
-    let Shape { edition, frame } = shape;
+    let frame = shape.frame;
     let mut requests: Vec<(String, usize)> =
         ROOMS.map(|request| (adapted(frame, request), 0)).to_vec();
     for length in 0..=longest(frame) {
@@ -308,14 +331,16 @@ fn rooms(shape: Shape, random: &mut Random, list: &mut Vec<String>) {
         let Some((bytes, _)) = size(shape, &request) else {
             continue;
         };
+        let at_once = at_once(shape, &request, n);
         for room in [
             0,
             bytes / 2,
             bytes.saturating_sub(1),
             bytes,
             bytes + 1,
-            at_once(edition, n) - 1,
-            at_once(edition, n),
+            at_once.saturating_sub(1),
+            at_once,
+            shape.room_for_records() as u64,
         ] {
             list.push(format!("room {room} {request}"));
         }
@@ -330,8 +355,6 @@ fn counters(shape: Shape, list: &mut Vec<String>) {
             0,
             1,
             1 << 30,
-            LAST_AT_ONCE,
-            LAST_AT_ONCE + 1,
             LAST_FRESH - labels - 1,
             LAST_FRESH - labels,
             LAST_FRESH - labels + 1,

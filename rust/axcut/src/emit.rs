@@ -131,9 +131,7 @@ impl Memory<'_> {
         match self {
             Memory::EraseBlock(_) => ERASE_RECORDS,
             Memory::ShareBlockN(..) => SHARE_RECORDS,
-            Memory::Store(context, n) => {
-                edition.store_records(context.len().min(*n as usize))
-            }
+            Memory::Store(context, n) => edition.store_records(context.len().min(*n as usize)),
             Memory::Load(_, loaded) => edition.load_records(loaded.len()),
         }
     }
@@ -210,7 +208,8 @@ pub fn routine(
     body: &[u8],
     arguments: usize,
 ) -> Result<Vec<u8>, Refusal> {
-    let records = ROUTINE_RECORDS + arguments.min(MOST_ARGUMENTS) + body.len().div_ceil(RECORD_SIZE);
+    let records =
+        ROUTINE_RECORDS + arguments.min(MOST_ARGUMENTS) + body.len().div_ceil(RECORD_SIZE);
     written(records, |out| {
         ffi::routine(edition, frame, body, arguments, out)
     })
