@@ -34,6 +34,9 @@ use records::number::MOVL;
 use records::number::MOVS;
 use records::order::Calculation;
 
+// The most records of an operation: a division's.
+pub const MOST_RECORDS: u64 = 9;
+
 pub fn emit_load_immediate(out: &mut [u8], p: Cursor, g: Shape, w: u64, value: u64) -> Cursor
     requires { ⌜ (p .at + 24 < 2 ^ 64) × (w < operands g) × Supported g ⌝ }
     ensures { λ q. ⌜ Emits (now (out .entry)) p (now (out .exit)) q (loadImmediate g w value) ⌝ }

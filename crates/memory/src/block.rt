@@ -32,13 +32,13 @@ use records::number::MOVL;
 use records::number::MOVS;
 
 // The labels that erasing and sharing a block draw, and their most records: of one in a spill.
-const ERASE_LABELS: u64 = 3;
+pub const ERASE_LABELS: u64 = 3;
 
-const ERASE_RECORDS: u64 = 12;
+pub const ERASE_RECORDS: u64 = 12;
 
-const SHARE_LABELS: u64 = 1;
+pub const SHARE_LABELS: u64 = 1;
 
-const SHARE_RECORDS: u64 = 5;
+pub const SHARE_RECORDS: u64 = 5;
 
 pub fn erase_register(out: &mut [u8], p: Cursor, r: u8) -> Cursor
     requires { ⌜ (p .at + 264 < 2 ^ 64) × (p .counter + 3 < 2 ^ 32) ⌝ }

@@ -19,9 +19,6 @@ use records::number::JMPL;
 use records::number::JMPLN;
 use records::number::LAB;
 
-// The most records of an operation: a division's.
-const MOST_RECORDS: u64 = 9;
-
 // The operations of code.rs but print_i64. Operands are words, labels are those of records, immediates 64-bit two's complement.
 pub enum Operation {
     Label(u32),
@@ -137,7 +134,7 @@ fn operate_in(out: &mut [u8], g: Shape, operation: Operation) -> Answer
     if operands_ok(g, operation) {} else {
         return Answer::Operand;
     }
-    if emit::answer::ample(0, out.len(), 0, MOST_RECORDS) {
+    if emit::answer::ample(0, out.len(), 0, emitters::MOST_RECORDS) {
         let q = emit_operation(out, Cursor { at: 0, counter: 0 }, g, operation);
         return emit::answer::written(q);
     }

@@ -6,15 +6,28 @@ use Rattle.records.specs.declared.order.Order.the-variants.{Put, Compute, Copy,
 use Rattle.layout.specs.declared.config.Shape.{Shape}
 use Rattle.memory_bounds.specs.Bounds.{loadedWithin, storeMost}
 
+-- the most records of an operation of code.rs, which a division has, of erase_block, share_block_n and print_i64
+abbrev pub operationWithin : ℕ
+operationWithin = 9
+
+abbrev pub eraseWithin : ℕ
+eraseWithin = 12
+
+abbrev pub shareWithin : ℕ
+shareWithin = 5
+
+abbrev pub printWithin : ℕ
+printWithin = 21
+
 module _ (g : Shape) (k : ℕ) where
   abbrev pub mostRecords : Order → ℕ
   mostRecords (Put value) = 1
-  mostRecords (Compute operation a b) = 9
-  mostRecords (Copy a n) = 4 * n + 5
-  mostRecords Drop = 12
+  mostRecords (Compute operation a b) = operationWithin
+  mostRecords (Copy a n) = 4 * n + shareWithin
+  mostRecords Drop = eraseWithin
   mostRecords (Store n tag) = storeMost g (k - n) n + 1
   mostRecords (Load n) = loadedWithin g n
-  mostRecords (Print newline a) = 21
+  mostRecords (Print newline a) = printWithin
 
 abbrev pub mostLabels : Order → ℕ
 mostLabels (Put value) = 0

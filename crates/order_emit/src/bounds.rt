@@ -4,7 +4,12 @@ ghost use Prim.Native.Nat.{_≤_};
 ghost use Rattle.emit.specs.Answers.{ample};
 ghost use Rattle.layout.specs.Config.{Supported};
 ghost use Rattle.order_emit.specs.Bounds.{mostRecords, mostLabels, handled};
+use code::emitters;
 use layout::config::Shape;
+use memory::block::ERASE_LABELS;
+use memory::block::ERASE_RECORDS;
+use memory::block::SHARE_LABELS;
+use memory::block::SHARE_RECORDS;
 use records::order::Order;
 
 // Whether the labels left and an output of so many bytes are enough for an order on k variables, whatever their kinds.
@@ -14,14 +19,19 @@ pub fn order_ample(g: Shape, counter: u64, room: usize, k: u64, order: Order) ->
 {
     match order {
         Order::Put(_) => emit::answer::ample(counter, room, 0, 1),
-        Order::Compute(_, _, _) => emit::answer::ample(counter, room, 0, 9),
-        Order::Copy(_, n) => emit::answer::ample(counter, room, 1, 4 * (n as u64) + 5),
-        Order::Drop => emit::answer::ample(counter, room, 3, 12),
+        Order::Compute(_, _, _) => emit::answer::ample(counter, room, 0, emitters::MOST_RECORDS),
+        Order::Copy(_, n) => emit::answer::ample(
+            counter,
+            room,
+            SHARE_LABELS,
+            4 * (n as u64) + SHARE_RECORDS,
+        ),
+        Order::Drop => emit::answer::ample(counter, room, ERASE_LABELS, ERASE_RECORDS),
         Order::Store(n, _) => {
             let v = layout::utils::excess(k, n as u64);
             memory_bounds::store_ample(g, counter, room, v, n as u64, 1)
         }
         Order::Load(n) => memory_bounds::load_ample(g, counter, room, n as u64),
-        Order::Print(_, _) => emit::answer::ample(counter, room, 0, 21),
+        Order::Print(_, _) => emit::answer::ample(counter, room, 0, print_i64::code::MOST_RECORDS),
     }
 }

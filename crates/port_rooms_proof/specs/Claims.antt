@@ -28,11 +28,11 @@ use Rattle.routine.specs.Routine.{routineAnswer}
 use Rattle.order_spec.specs.declared.answer.OrderAnswer.the-variants.{Room}
 use Rattle.order_spec.specs.Writes.{treeOf, present, asked}
 use Rattle.order_spec.specs.Answered.{Asked, orderAccepted, answerTo, placesIn, orderContext}
-use Rattle.order_emit.specs.Bounds.{mostRecords}
+use Rattle.order_emit.specs.Bounds.{operationWithin, eraseWithin, shareWithin, printWithin, mostRecords}
 use Rattle.listing.specs.declared.Listed.the-variants.{Short}
 use Rattle.listing.specs.Names.{codeNames}
 use Rattle.listing.specs.Listing.{listedText, listed}
-use Rattle.port_rooms_proof.specs.Sizes.{operationWithin, eraseWithin, shareWithin, printWithin, recordsWithin, variables, roomForRecords, roomForContext, roomForText, roomForRoutine}
+use Rattle.port_rooms_proof.specs.Sizes.{recordsWithin, variables, roomForRecords, roomForContext, roomForText, roomForRoutine}
 
 pub record OrdersFit : Type 0 where
   -- an order's records are no more than the bound for its variables

@@ -14,19 +14,7 @@ use Rattle.layout.specs.declared.config.Shape.{Shape}
 use Rattle.layout.specs.Config.{mostVariables}
 use Rattle.memory_bounds.specs.Bounds.{storedWithin, loadedWithin}
 use Rattle.order_spec.specs.Writes.{treeOf}
-
--- the records of an operation of code.rs, which a division has, of erase_block, share_block_n and print_i64
-abbrev pub operationWithin : ℕ
-operationWithin = 9
-
-abbrev pub eraseWithin : ℕ
-eraseWithin = 12
-
-abbrev pub shareWithin : ℕ
-shareWithin = 5
-
-abbrev pub printWithin : ℕ
-printWithin = 21
+use Rattle.order_emit.specs.Bounds.{operationWithin, eraseWithin, shareWithin, printWithin}
 
 module _ (g : Shape) where
   -- the records of an order, wherever its variables stand

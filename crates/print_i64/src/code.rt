@@ -29,7 +29,7 @@ use records::number::MOVL;
 const ARG_0: u8 = 7;
 
 // The most records of a print: with eight registers saved, and its source in a spill.
-const MOST_RECORDS: u64 = 21;
+pub const MOST_RECORDS: u64 = 21;
 
 // A source in a spill goes to TEMP before STACK is changed.
 fn source_to_temp(out: &mut [u8], p: Cursor, g: Shape, w: u64) -> Cursor
