@@ -1,4 +1,4 @@
--- How many records a store and a load of n variables have at most: by n alone, wherever the variables stand, and for a store by where they stand.
+-- How many records a store and a load of n variables have at most, and how many labels they draw: by n alone, wherever the variables stand; a store's records also by where they stand.
 -- From the scope, 'Instruction record', and memory.rs.
 use Prim.Native.Nat.{ℕ, _+_, _*_, _-_}
 use mathlib.Core.Bool.{Bool, false, cond}
@@ -38,6 +38,13 @@ module _ (g : Shape) where
   -- an object is loaded in two ways, of which one is run, and 7 records choose
   abbrev pub loadedWithin : ℕ → ℕ
   loadedWithin n = releasedLast + sharedLast + (releasedOther + sharedOther) * otherBlocks n + 7
+
+-- the labels that a store and a load of n variables draw are no more than these
+abbrev pub storedLabels : ℕ → ℕ
+storedLabels n = 10 * n + 100
+
+abbrev pub loadedLabels : ℕ → ℕ
+loadedLabels n = 2 * n + 42
 
 -- every variable is linked
 abbrev pub linked : ℕ → Bool

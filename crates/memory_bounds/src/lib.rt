@@ -5,7 +5,7 @@ ghost use Rattle.emit.specs.Answers.{ample};
 ghost use Rattle.layout.specs.Config.{Supported};
 ghost use Rattle.trees.specs.Tree.{size};
 ghost use Rattle.memory.specs.Objects.{chunks, storeValues, storeOthers};
-ghost use Rattle.memory_bounds.specs.Bounds.{storedWithin, loadedWithin, linked, storeMost, wordRecords};
+ghost use Rattle.memory_bounds.specs.Bounds.{storedWithin, loadedWithin, storedLabels, loadedLabels, linked, storeMost, wordRecords};
 use layout::config::Shape;
 
 // How many blocks come before the last one of an object, where the last leaves `rest` variables to them. A short object has none, and costs no division.
@@ -94,18 +94,19 @@ fn store_most(g: Shape, v: u64, n: u64) -> u64
 // number is tried first, since it is there at once.
 pub fn store_ample(g: Shape, counter: u64, room: usize, v: u64, n: u64, more: u64) -> bool
     requires { ⌜ (v + n ≤ 4096) × (more ≤ 1) × Supported g ⌝ }
-    ensures { λ r. ⌜ r ≡ ample counter room (10 * n + 100) (storeMost g v n + more) ⌝ }
+    ensures { λ r. ⌜ r ≡ ample counter room (storedLabels n) (storeMost g v n + more) ⌝ }
 {
-    if emit::answer::ample(counter, room, 10 * n + 100, stored_within(g, n) + more) {
+    let labels = 10 * n + 100;
+    if emit::answer::ample(counter, room, labels, stored_within(g, n) + more) {
         return true;
     }
-    emit::answer::ample(counter, room, 10 * n + 100, store_most(g, v, n) + more)
+    emit::answer::ample(counter, room, labels, store_most(g, v, n) + more)
 }
 
 // And for a load of n variables.
 pub fn load_ample(g: Shape, counter: u64, room: usize, n: u64) -> bool
     requires { ⌜ (n ≤ 4096) × Supported g ⌝ }
-    ensures { λ r. ⌜ r ≡ ample counter room (2 * n + 42) (loadedWithin g n) ⌝ }
+    ensures { λ r. ⌜ r ≡ ample counter room (loadedLabels n) (loadedWithin g n) ⌝ }
 {
     emit::answer::ample(counter, room, 2 * n + 42, loaded_within(g, n))
 }

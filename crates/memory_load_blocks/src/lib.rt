@@ -251,7 +251,7 @@ fn load_block(
 
 // Whether a block before the one that starts with variable v + n lay in a spill.
 fn freed_before(each: u64, v: u64, n: u64) -> bool
-    requires { ⌜ (2 * (v + n) < entries) ⌝ }
+    requires { ⌜ 2 * (v + n) < entries ⌝ }
     ensures { λ r. ⌜ r ≡ (ltb 0 n && not (ltb (fst (v + (n - each))) 16)) ⌝ }
 {
     if 0 < n {} else {

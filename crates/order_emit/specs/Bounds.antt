@@ -4,7 +4,7 @@ use Prim.Native.Nat.{ℕ, _+_, _*_, _-_}
 use Rattle.records.specs.declared.order.Order.{Order}
 use Rattle.records.specs.declared.order.Order.the-variants.{Put, Compute, Copy, Drop, Store, Load, Print}
 use Rattle.layout.specs.declared.config.Shape.{Shape}
-use Rattle.memory_bounds.specs.Bounds.{loadedWithin, storeMost}
+use Rattle.memory_bounds.specs.Bounds.{loadedWithin, storedLabels, loadedLabels, storeMost}
 
 -- the most records of an operation of code.rs, which a division has, of erase_block, share_block_n and print_i64
 abbrev pub operationWithin : ℕ
@@ -34,8 +34,8 @@ mostLabels (Put value) = 0
 mostLabels (Compute operation a b) = 0
 mostLabels (Copy a n) = 1
 mostLabels Drop = 3
-mostLabels (Store n tag) = 10 * n + 100
-mostLabels (Load n) = 2 * n + 42
+mostLabels (Store n tag) = storedLabels n
+mostLabels (Load n) = loadedLabels n
 mostLabels (Print newline a) = 0
 
 -- how many variables an order stores, loads or makes

@@ -1,7 +1,7 @@
 use borrow.Author.Needs.{needs}
-use Prim.Native.Nat.{_+_, _*_}
+use Prim.Native.Nat.{_+_}
 use native.Mathlib.Omega.{arith}
-use Rattle.memory_bounds.specs.Bounds.{linked, storeMost}
+use Rattle.memory_bounds.specs.Bounds.{storedLabels, linked, storeMost}
 use Rattle.memory_bounds.proofs.StoreSizes.{store-within}
 use Rattle.memory_bounds.proofs.Ample.{ample-less}
 use Rattle.memory_bounds.proofs.store_ample.Statement.{statement}
@@ -18,7 +18,7 @@ ample-by-number c =
     let at-stored-within = at-ample .before in
     let entry = at-stored-within .before in
     let a = entry .args in
-    ample-less (a .counter) (a .room) (10 * a .n + 100) _ (storeMost (a .g) (a .v) (a .n) + a .more) (at-ample .ample .ensures) (c .if1 .taken)
+    ample-less (a .counter) (a .room) (storedLabels (a .n)) _ (storeMost (a .g) (a .v) (a .n) + a .more) (at-ample .ample .ensures) (c .if1 .taken)
     (omega (arith, at-stored-within .stored-within .ensures .0, store-within (a .g) (entry .pre .2) linked (a .v) (a .n)))
 
 by-places : tie.Need-ample-requires-2
@@ -41,8 +41,6 @@ store-ample-spec =
     (λ c. search needs)
     by-number
     ample-by-number
-    (λ c. search needs)
-    (λ c. search needs)
     (λ c κs. search needs)
     (λ c. search needs)
     by-places
