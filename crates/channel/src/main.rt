@@ -1,6 +1,8 @@
 // Plays lists of order records, from standard input or from the files named, each on a fresh channel, and prints what came of each order, what was printed,
 // and the variables and blocks at the end, unless a run did not end. An argument `listing` asks for the instructions too, `edition N` for the blocks of an edition
 // and `frame N` for a frame of so many spills, of the files after it; the edition is 1 and a frame has 256 where none is asked.
+#![tactic(auto)]
+
 ghost use Rattle.std.specs.Prelude.{◌<◌, ◌≤◌};
 
 use channel_step::channel::Channel;
@@ -13,7 +15,7 @@ use program_options::{Heard, Options, Said};
 const LEFT: u64 = 0x5A5A5A5A5A5A5A5A;
 
 // Where the next order starts, its number, the label counter, how many bytes were printed, whether a run did not end, and the channel.
-#[derive(Drop)]
+#[derive(Clone, Copy)]
 struct Going {
     at: usize,
     number: u64,
@@ -364,7 +366,7 @@ fn channel_of(name: &[u8], listed: bool, edition: u64, frame: u64) {
 }
 
 // What the arguments asked so far: an edition and a frame, instructions, and whether a file was named.
-#[derive(Drop)]
+#[derive(Clone, Copy)]
 struct Asked {
     options: Options,
     listed: bool,

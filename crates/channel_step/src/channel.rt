@@ -34,7 +34,7 @@ pub struct Channel {
 }
 
 // The channel after an order, its answer, and how its run ended.
-#[derive(Drop)]
+#[derive(Clone, Copy)]
 pub struct Played {
     pub channel: Channel,
     pub answer: OrderAnswer,

@@ -5,7 +5,7 @@ ghost use Rattle.channel_step.specs.Lists.{bytes_after, FindsItem};
 use records::order::OrderRead;
 
 // Where an order's bytes end, and where its bindings do.
-#[derive(Drop)]
+#[derive(Clone, Copy)]
 pub struct ItemEnds {
     pub order_end: usize,
     pub end: usize,

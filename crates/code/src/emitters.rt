@@ -219,7 +219,7 @@ pub fn emit_add_and_jump(out: &mut [u8], p: Cursor, g: Shape, w: u64, value: u64
     }
 }
 
-#[derive(Drop)]
+#[derive(Clone, Copy)]
 pub enum Condition {
     Equal,
     NotEqual,

@@ -1,5 +1,7 @@
 // What the records of code.rs's operations do on the scope's machine.
 // Each promise is the claim of a function that does nothing: its statement is in specs/Claims.antt, and its proof cites the theorem.
+#![tactic(auto)]
+
 ghost use Rattle.code_proof.specs.Claims.{JumpsWhereItNames, LabelDoesNothing, RunsAsItNames};
 
 // load_immediate, mov, add, sub, mul, div and rem: the bytes that they write, run from the first record with their number as step limit

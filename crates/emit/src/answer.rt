@@ -9,7 +9,7 @@ use records::context::{ContextRead, Flaw};
 use records::name::LAST_LABEL;
 
 // Written, with the number of records and the counter after them; or refused, by the documents' causes.
-#[derive(Drop)]
+#[derive(Clone, Copy)]
 pub enum Answer {
     Written(usize, u64),
     // 15 to 17: what is bad in a context, with its place

@@ -6,14 +6,14 @@ ghost use Rattle.emit.specs.Emitted.{row_fields, Emitted};
 use records::code::Fields;
 
 // The byte where the next record goes, and the label counter.
-#[derive(Drop)]
+#[derive(Clone, Copy)]
 pub struct Cursor {
     pub at: usize,
     pub counter: u64,
 }
 
 // A record: code, register a, register b, label, offset, value.
-#[derive(Drop)]
+#[derive(Clone, Copy)]
 pub struct Row(pub u8, pub u8, pub u8, pub u32, pub u64, pub u64);
 
 pub fn emit(out: &mut [u8], p: Cursor, r: Row) -> Cursor

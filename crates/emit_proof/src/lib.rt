@@ -1,5 +1,7 @@
 // Whatever the port writes is read back the same: the records of every operation, memory operation, print, routine and order that is accepted.
 // The claim is in specs/Claims.antt; its proof cites the theorem.
+#![tactic(auto)]
+
 ghost use Rattle.emit_proof.specs.Claims.{WrittenIsRead, FreshFollowsBytes};
 
 pub fn written_is_read()

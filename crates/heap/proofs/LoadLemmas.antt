@@ -122,4 +122,4 @@ release_object {M} {linked} {p} roots c (d ∷ chunks) g only o s =
     let lk : release_linked o.0 s.0 s.1 s.2 g only q ≡ 1 = k₁.marks q (start nq m₁) ∙ o.5 in
     let k = release_preserved o.0 s.0 s.1 s.2 g only A₁ A e₁ (rest_reachable M.fields linked q c d chunks roots o.6) in
     then (λ b nb. omega (arith, occ_append b (pointers (c ++ (d ++ concat chunks))) roots, occ_pointers b c (d ++ concat chunks), occ_append b (pointers (d ++ concat chunks)) (pointers c ++ roots), occ_append b (pointers c) roots)) k
-    (release_object (pointers c ++ roots) d chunks g₁ (g₁.one_pointer q nq (omega arith)) (preserved_object k₁ (d ∷ chunks) q (λ _. m₁) o.6) (rw to at s.3))
+    (release_object {M = push_linear M p s.0} (pointers c ++ roots) d chunks g₁ (g₁.one_pointer q nq (omega arith)) (preserved_object k₁ (d ∷ chunks) q (λ _. m₁) o.6) (rw to at s.3))

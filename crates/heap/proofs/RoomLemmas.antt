@@ -110,7 +110,7 @@ pub store_count : {L : Layout} {M : Memory} {linked : ℕ → ℕ} {n k k' : ℕ
 store_count {M} {k'} {before} M' p roots c [] s e g r r' =
     let r₂ : ReachableCount M'.fields (M.linear_head ∷ roots) k' = rw s.0 r' in
     omega (arith, block_count before roots (λ b nz. omega (arith, e b, occ_pointers b c [], occ_pointers b s.1 c, s.2 b nz)) s.3 g r r₂)
-store_count {k'} {before} M' p roots c (d ∷ chunks) s e g r r' =
+store_count {L} {M} {linked} {n} {k} {k'} {before} M' p roots c (d ∷ chunks) s e g r r' =
     let q = s.4.fst in
     let e₁ : (b : ℕ) → occ b before ≡ occ b (pointers (concat (d ∷ chunks))) + occ b (pointers c ++ roots) = λ b. omega (arith, e b, occ_pointers b c (concat (d ∷ chunks)), occ_append b (pointers c) roots) in
     let g₁ = (store_object_lem (pointers c ++ roots) 1 (omega arith) d chunks s.5 e₁ g).outcome.consistent in
@@ -118,7 +118,7 @@ store_count {k'} {before} M' p roots c (d ∷ chunks) s e g r r' =
     let r₂ : ReachableCount M'.fields (s.0.linear_head ∷ roots) k' = rw s.1 r' in
     omega (
       arith,
-      store_count s.0 q (pointers c ++ roots) d chunks s.5 e₁ g r r₁.1,
+      store_count {k' = r₁.0} s.0 q (pointers c ++ roots) d chunks s.5 e₁ g r r₁.1,
       block_count (q ∷ (pointers c ++ roots)) roots (λ b nz. omega (arith, occ_pointers b s.2 (c ++ (s.4 ∷ [])), occ_pointers b c (s.4 ∷ []), s.3 b nz, occ_append b (pointers c) roots)) s.6 g₁ r₁.1 r₂,
     )
 

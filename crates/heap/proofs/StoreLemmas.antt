@@ -135,6 +135,6 @@ store_more {M₁} roots mark h c unused d chunks link none p to r =
 pub store_object_lem : {L : Layout} {M M' : Memory} {linked : ℕ → ℕ} {n p : ℕ} {before : List ℕ} (roots : List ℕ) (mark : ℕ) → mark ≤ 1 → (c : List Cell) (chunks : List (List Cell)) → StoreObject L M c chunks M' p
     → ((b : ℕ) → occ b before ≡ occ b (pointers (concat (c ∷ chunks))) + occ b roots) → (g : Consistent L M linked n before) → Stored L M linked n (spare g) before M' p mark roots (c ∷ chunks)
 store_object_lem roots mark h c [] s e g = store_last roots mark h c s.1 s.2 s.3 s.0 (λ b. omega (arith, e b, occ_pointers b c [])) g
-store_object_lem roots mark h c (d ∷ chunks) s e g =
+store_object_lem {L} {M} {M'} {linked} {n} {p} {before} roots mark h c (d ∷ chunks) s e g =
     store_more roots mark h c s.2 d chunks s.4 s.3 s.6 s.1
-    (store_object_lem (pointers c ++ roots) 1 (omega arith) d chunks s.5 (λ b. omega (arith, e b, occ_pointers b c (d ++ concat chunks), occ_append b (pointers c) roots)) g)
+    (store_object_lem {M' = s.0} (pointers c ++ roots) 1 (omega arith) d chunks s.5 (λ b. omega (arith, e b, occ_pointers b c (d ++ concat chunks), occ_append b (pointers c) roots)) g)

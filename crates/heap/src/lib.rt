@@ -1,5 +1,7 @@
 // The heap of the scope as a theory: blocks, free lists, reference counts, reachability and values held, with no machine in it.
 // Each promise is the claim of a function that does nothing: its statement is in specs/Claims.antt, and its proof cites the theorem.
+#![tactic(auto)]
+
 ghost use Rattle.heap.specs.Claims.{AbstractHeapStaysSound, AbstractFrontierIsPeak, RunsExist};
 
 pub fn abstract_heap_stays_sound()

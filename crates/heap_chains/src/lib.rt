@@ -1,4 +1,6 @@
 // The lent heap's two free lists, followed by the first words of their blocks: the blocks counted, and how many to fit.
+#![tactic(auto)]
+
 ghost use Rattle.std.specs.Prelude.{◌≡◌, ◌/◌, length};
 ghost use Rattle.records.specs.Answers.{AnswersBy};
 ghost use Rattle.layout.specs.Config.{Supported, block_words, HEAP, FREE};
@@ -10,7 +12,7 @@ use layout::config::{Choice, Shape};
 use layout::{config, utils};
 
 // Blocks on HEAP's list, on FREE's chain, held, and never used.
-#[derive(Drop)]
+#[derive(Clone, Copy)]
 pub struct Blocks {
     pub linear: u64,
     pub lazy: u64,
@@ -19,7 +21,7 @@ pub struct Blocks {
 }
 
 // The most blocks that were reachable at once, and the heap to fit for it.
-#[derive(Drop)]
+#[derive(Clone, Copy)]
 pub struct Fit {
     pub peak: u64,
     pub blocks: u64,
@@ -27,21 +29,21 @@ pub struct Fit {
 }
 
 // The blocks counted, or 23: no such edition.
-#[derive(Drop)]
+#[derive(Clone, Copy)]
 pub enum Counted {
     Of(Blocks),
     Edition,
 }
 
 // What to fit, or 23.
-#[derive(Drop)]
+#[derive(Clone, Copy)]
 pub enum Fitted {
     Of(Fit),
     Edition,
 }
 
 // A chain's blocks, and the block that ends it.
-#[derive(Drop)]
+#[derive(Clone, Copy)]
 struct Walked {
     length: u64,
     end: u64,

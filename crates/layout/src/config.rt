@@ -9,7 +9,7 @@ use crate::offset;
 use crate::utils::TemporaryNumber;
 
 // What an edition and a frame fix: how many fields a block has, and how many spills a frame.
-#[derive(Drop)]
+#[derive(Clone, Copy)]
 pub struct Shape {
     pub fields: u64,
     pub spills: u64,
@@ -56,7 +56,7 @@ pub fn second() -> Shape
 }
 
 // The shape that a number stands for, if it stands for one.
-#[derive(Drop)]
+#[derive(Clone, Copy)]
 pub enum Choice {
     Of(Shape),
     Unknown,
@@ -104,7 +104,7 @@ pub fn edition_of(edition: u64) -> Choice
 }
 
 // The shape of an edition and a frame: there is no such edition, or else no such frame.
-#[derive(Drop)]
+#[derive(Clone, Copy)]
 pub enum Shaped {
     In(Shape),
     NoFrame,
@@ -164,7 +164,7 @@ pub const SPILL_TEMP: u64 = 16;
 pub const MINUS_ONE: u64 = 18446744073709551615;
 
 // Where a word stands; 3: no caller's spill, no frame of so many, or no field of a block; 23: no such edition.
-#[derive(Drop)]
+#[derive(Clone, Copy)]
 pub enum Offset {
     At(u64),
     Operand,

@@ -46,7 +46,7 @@ const POSITIONS: [u16; ENTRIES] = [
 ];
 
 // An operand, or why there is none.
-#[derive(Drop)]
+#[derive(Clone, Copy)]
 pub enum Temporary {
     Operand(u64),
     Context(Flaw),
@@ -55,7 +55,7 @@ pub enum Temporary {
     OutOfTemporaries,
 }
 
-#[derive(Drop)]
+#[derive(Clone, Copy)]
 pub enum TemporaryNumber {
     Fst,
     Snd,

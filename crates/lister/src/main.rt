@@ -1,4 +1,6 @@
 // Reads instruction records on standard input, and prints their listing, or the number and place of a refusal.
+#![tactic(auto)]
+
 use libc::{STDIN_FILENO, STDOUT_FILENO};
 
 fn main() {

@@ -1,4 +1,6 @@
 // The text listing of instruction records.
+#![tactic(auto)]
+
 mod lines; // the lines, the header and the refusal
 mod names; // the 44 names
 
@@ -14,7 +16,7 @@ use records::code;
 // No more bytes than this are printed.
 pub const LONGEST: usize = 382229;
 
-#[derive(Drop)]
+#[derive(Clone, Copy)]
 pub enum Listed {
     Text(usize), // how many bytes were written
     Malformed(usize), // cause 2: the place of the first bad or surplus record

@@ -1,4 +1,6 @@
 // The machine of the scope: a state of 16 registers and a stack beside a lent heap, one step of it, and a run with a step limit.
+#![tactic(auto)]
+
 ghost use Rattle.machine.specs.Claims.{ViewsDetermine};
 
 pub mod state; // the state at entry, and where a routine's body starts

@@ -16,7 +16,7 @@ use records::code;
 use records::code::CodeRead;
 
 // The steps of a run that ended; the scope's 2 with the place; 11 with the steps before the fault and the record's place; 12 with the limit.
-#[derive(Drop)]
+#[derive(Clone, Copy)]
 pub enum RunAnswer {
     Ended(u64),
     Malformed(usize),
@@ -24,21 +24,21 @@ pub enum RunAnswer {
     Limit(u64),
 }
 
-#[derive(Drop)]
+#[derive(Clone, Copy)]
 pub struct Ran {
     pub state: State,
     pub answer: RunAnswer,
 }
 
 // Where a jump goes.
-#[derive(Drop)]
+#[derive(Clone, Copy)]
 pub enum Found {
     At(usize),
     Absent,
 }
 
 // What follows a record.
-#[derive(Drop)]
+#[derive(Clone, Copy)]
 pub enum Turn {
     To(usize),
     End,
@@ -95,7 +95,7 @@ fn follow(s: &[u8], n: usize, place: usize, went: Went) -> Turn
 }
 
 // What a record leaves, and what follows it.
-#[derive(Drop)]
+#[derive(Clone, Copy)]
 pub struct Turned {
     pub state: State,
     pub compared: Compared,

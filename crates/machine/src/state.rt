@@ -9,7 +9,7 @@ use layout::config::Shape;
 // The words of the smaller frame's stack.
 pub const DEPTH: usize = 320;
 
-#[derive(Drop)]
+#[derive(Clone, Copy)]
 pub struct State {
     pub registers: [u64; 16],
     pub stack: [u64; DEPTH],

@@ -17,13 +17,13 @@ use machine_step::{instruction, memory};
 use records::code::{Code, Fields};
 
 // An instruction tried alone. Malformed is the scope's 2: place 0 for the heap, 1 for the instruction.
-#[derive(Drop)]
+#[derive(Clone, Copy)]
 pub enum Tried {
     Took(Went),
     Malformed(usize),
 }
 
-#[derive(Drop)]
+#[derive(Clone, Copy)]
 pub struct Stepped {
     pub state: State,
     pub compared: Compared,

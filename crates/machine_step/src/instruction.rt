@@ -12,7 +12,7 @@ use records::code::Fields;
 use records::name::{PRINT_I64, PRINTLN_I64};
 
 // The last compare's two words, where only moves came since.
-#[derive(Drop)]
+#[derive(Clone, Copy)]
 pub enum Compared {
     Absent,
     Of(u64, u64),
@@ -20,7 +20,7 @@ pub enum Compared {
 
 // How an instruction leaves the run: on to the next record, on after a call of a name with a number, at a label, at the end, or as before it with a
 // fault.
-#[derive(Drop)]
+#[derive(Clone, Copy)]
 pub enum Went {
     Next,
     Called(u32, u64),
@@ -30,7 +30,7 @@ pub enum Went {
 }
 
 // The pair in the run's loop, where an enum would have padding to copy: none where `made` is 0.
-#[derive(Drop)]
+#[derive(Clone, Copy)]
 pub struct Pair {
     pub made: u64,
     pub x: u64,
@@ -44,7 +44,7 @@ pub const NONE: Pair = Pair {
 };
 
 // An answer, and the pair after it.
-#[derive(Drop)]
+#[derive(Clone, Copy)]
 pub struct Moved {
     pub went: Went,
     pub pair: Pair,

@@ -5,14 +5,14 @@ ghost use Rattle.machine_step.specs.Memory as is;
 ghost use Rattle.machine_step.specs.Memory.{heap_ok, place_of, word_in};
 ghost use Rattle.machine_step.specs.Forms.{Inside, Wrote};
 
-#[derive(Drop)]
+#[derive(Clone, Copy)]
 pub enum Place {
     Stack(usize),
     Heap(usize),
     Nowhere,
 }
 
-#[derive(Drop)]
+#[derive(Clone, Copy)]
 pub enum Fetched {
     Word(u64),
     Nothing,

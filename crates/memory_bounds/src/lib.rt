@@ -1,4 +1,6 @@
 // How many records a store or a load of variables has at most: an output with room for so many is written in one pass. From memory.rs.
+#![tactic(auto)]
+
 ghost use Rattle.std.specs.Prelude.{◌≡◌, ◌+◌, ◌*◌, ◌-◌, ◌<◌, ◌≤◌, ◌^◌};
 ghost use Rattle.emit.specs.Answers.{ample};
 ghost use Rattle.layout.specs.Config.{Supported};

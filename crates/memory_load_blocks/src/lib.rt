@@ -1,5 +1,7 @@
 // The fields of an object's blocks, one block after the other, loaded into variables. From memory.rs.
 // `kinds` is binding records, of which the first is variable `first`'s.
+#![tactic(auto)]
+
 ghost use Rattle.std.specs.Prelude.{◌≡◌, refl, not, ◌&&◌, ◌||◌, cond, ◌+◌, ◌*◌, ◌-◌, ◌<◌, ◌≤◌, ◌^◌, ltb, length};
 ghost use Rattle.records.specs.declared.code.Code.TheVariants.{MOVL};
 ghost use Rattle.trees.specs.Tree.{nop, leaf};

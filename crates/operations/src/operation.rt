@@ -14,7 +14,7 @@ use layout::config::{Choice, Shape};
 use records::number::{JMPL, JMPLN, LAB};
 
 // The operations of code.rs but print_i64. Operands are words, labels are those of records, immediates 64-bit two's complement.
-#[derive(Drop)]
+#[derive(Clone, Copy)]
 pub enum Operation {
     Label(u32),
     Jump(u64),

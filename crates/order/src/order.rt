@@ -62,7 +62,7 @@ pub fn is_accepted(answer: OrderAnswer) -> bool
 }
 
 // An order that is read, on the k variables of a context, and the label counter before it.
-#[derive(Drop)]
+#[derive(Clone, Copy)]
 pub struct Work {
     pub k: u64,
     pub counter: u64,
@@ -153,7 +153,7 @@ fn judge(
 }
 
 // An order whose context, bindings and bytes pass 15 to 17 and 2, with the number of the context's variables; or the refusal.
-#[derive(Drop)]
+#[derive(Clone, Copy)]
 pub enum Begun {
     With(u64, Order),
     Refused(OrderAnswer),

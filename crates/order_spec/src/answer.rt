@@ -2,7 +2,7 @@
 use records::context::Flaw;
 
 // Accepted, with the number of records, the counter after them and the number of bindings in the context after them; or refused, by the documents' causes.
-#[derive(Drop)]
+#[derive(Clone, Copy)]
 pub enum OrderAnswer {
     Accepted(usize, u64, usize),
     // 15 to 17: what is bad in the context or in the bindings, with its place; those of the bindings count on

@@ -1,4 +1,6 @@
 // Orders in words, turned to order records and binding records.
+#![tactic(auto)]
+
 mod lines; // the records of a line and of a text
 mod messages; // what is wrong with a line, in words
 
@@ -16,7 +18,7 @@ use plan_line::wrong::Wrong;
 // No more bytes than this are a text.
 pub const LONGEST: usize = 131072;
 
-#[derive(Drop)]
+#[derive(Clone, Copy)]
 pub enum Planned {
     Written(usize), // how many bytes were written
     Bad(usize, Wrong), // the number of the first bad line, and what is wrong with it

@@ -16,14 +16,14 @@ use records::order::Order;
 use records::{binding, order};
 
 // The index past a line's records, or what is wrong with the line.
-#[derive(Drop)]
+#[derive(Clone, Copy)]
 pub enum Step {
     Next(usize),
     Stop(Wrong),
 }
 
 // The index past a text's records, or the number of its first bad line and what is wrong with it.
-#[derive(Drop)]
+#[derive(Clone, Copy)]
 pub enum Laid {
     Whole(usize),
     BadLine(usize, Wrong),

@@ -5,7 +5,7 @@ ghost use Rattle.plan_line.specs.Numbers.{is_digit, all_digits, digits_value, wi
 use crate::wrong::Wrong;
 
 // A number, or what is wrong with the word that should be one.
-#[derive(Drop)]
+#[derive(Clone, Copy)]
 pub enum Number {
     Value(u64),
     NoValue(Wrong),

@@ -11,7 +11,7 @@ use crate::{numbers, words};
 use records::order::{Calculation, Order};
 
 // What a line asks for.
-#[derive(Drop)]
+#[derive(Clone, Copy)]
 pub enum Line {
     Empty,
     Asks(Order),
@@ -19,7 +19,7 @@ pub enum Line {
 }
 
 // Whether a word is the one that is expected.
-#[derive(Drop)]
+#[derive(Clone, Copy)]
 pub enum Named {
     Yes,
     Other,
@@ -27,13 +27,13 @@ pub enum Named {
 }
 
 // The operation of compute, or what is wrong with its word.
-#[derive(Drop)]
+#[derive(Clone, Copy)]
 pub enum Operator {
     Is(Calculation),
     NoOperator(Wrong),
 }
 
-#[derive(Drop)]
+#[derive(Clone, Copy)]
 pub enum Name {
     PutName,
     ComputeName,

@@ -4,7 +4,7 @@ ghost use Rattle.plan_line.specs.Words.{blank, sought_in, found, same_bytes};
 ghost use Rattle.plan_line.specs.Finding.{NextWord, WordAt};
 
 // What a search in bytes stops at.
-#[derive(Drop)]
+#[derive(Clone, Copy)]
 pub enum Sought {
     Byte(u8),
     Blank,
@@ -12,7 +12,7 @@ pub enum Sought {
 }
 
 // A word from an index to another, or none.
-#[derive(Drop)]
+#[derive(Clone, Copy)]
 pub enum FoundWord {
     Word(usize, usize),
     NoWord,

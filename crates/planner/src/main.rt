@@ -1,5 +1,7 @@
 // Reads orders in words on standard input, and writes their records to standard output, or the message of the first bad line to
 // standard error.
+#![tactic(auto)]
+
 use libc::{STDERR_FILENO, STDIN_FILENO, STDOUT_FILENO};
 use plan::Planned;
 use plan_line::wrong::Wrong;

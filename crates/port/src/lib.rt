@@ -1,4 +1,6 @@
 // The library for C and Rust. A function answers the scope's number, 0 where its input is accepted; a value goes out beside it.
+#![tactic(auto)]
+
 ghost use Rattle.std.specs.Prelude.{◌≡◌, [], ◌∷◌, length, replicate};
 ghost use Rattle.records.specs.Bytes.{stored};
 ghost use Rattle.listing.specs.Names.{code_names};

@@ -1,5 +1,7 @@
 // The sizes of buffers that include/axcut.h recommends for each edition and frame are enough, and nothing less is.
 // Each promise is the claim of a function that does nothing: its statement is in specs/Claims.antt, and its proof cites the theorem.
+#![tactic(auto)]
+
 ghost use Rattle.port_rooms_proof.specs.Claims.{ListingsFill, ListingsFit, OperationsFit, OrdersAtOnce, OrdersFill, OrdersFit, RoomsByShape, RoutinesFit};
 
 // no order on as many variables as have positions is refused for want of room

@@ -1,4 +1,6 @@
 // The edition and the frame that a program's words choose: `edition N` and `frame N`, each for the files named after it.
+#![tactic(auto)]
+
 ghost use Rattle.std.specs.Prelude.{◌≡◌, ◌+◌, ◌≤◌};
 ghost use Rattle.text.specs.Putting.{farthest, Puts};
 ghost use Rattle.program_options.specs.Options.{at_first, one_of_two, with_edition, with_frame, chosen_edition, chosen_frame, chosen_any, heard, still_to_come, is_played, said_words};
@@ -6,7 +8,7 @@ ghost use Rattle.program_options.specs.Options.{at_first, one_of_two, with_editi
 use plan_line::words;
 
 // What the next word is: any, or the number of an edition or of a frame.
-#[derive(Drop)]
+#[derive(Clone, Copy)]
 pub enum Next {
     Any,
     Edition,
@@ -14,7 +16,7 @@ pub enum Next {
 }
 
 // What is chosen. A number is 0 while it is still to come, and where there is no edition or no frame of the number that came.
-#[derive(Drop)]
+#[derive(Clone, Copy)]
 pub struct Options {
     pub edition: u64,
     pub frame: u64,
@@ -22,7 +24,7 @@ pub struct Options {
 }
 
 // What is to be said of a choice: nothing, or that there is no edition or no frame of that number.
-#[derive(Drop)]
+#[derive(Clone, Copy)]
 pub enum Said {
     Nothing,
     NoEdition,
@@ -30,7 +32,7 @@ pub enum Said {
 }
 
 // A word that chooses, with what is chosen after it, or another.
-#[derive(Drop)]
+#[derive(Clone, Copy)]
 pub enum Heard {
     Choice(Options, Said),
     Other,
@@ -48,7 +50,7 @@ pub fn at_first() -> Options
 }
 
 // Which of two words a word is.
-#[derive(Drop)]
+#[derive(Clone, Copy)]
 pub enum Which {
     First,
     Second,

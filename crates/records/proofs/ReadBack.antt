@@ -2,7 +2,7 @@
 use Prim.Native.Nat.{ℕ, ◌≤◌, min}
 use mathlib.Core.Path.{◌≡◌, refl}
 use mathlib.Core.Bool.{Bool, true, false, cond}
-use mathlib.Core.List.{List, [], append_nil}
+use mathlib.Core.List.{List, [], append-nil}
 use native.Mathlib.Omega.{arith}
 use lib.Dec.{eqb}
 use lib.ListN.{length, drop_of_length-le}
@@ -25,8 +25,8 @@ use Rattle.records.proofs.OrdersBack.{order_laws}
 order_reads : (o : Order) → WellFormedOrder o → order_read (order_bytes (order_fields_of o)) ≡ Whole o
 unfolding order_read
 order_reads o w =
-    let starts = rw append_nil at (order_laws.good o [] w) in
-    let item = rw append_nil at (order_laws.same o [] w) in
+    let starts = rw append-nil at (order_laws.good o [] w) in
+    let item = rw append-nil at (order_laws.same o [] w) in
     rw (starts, order_laws.long o, item)
 
 whole : {o p : Order} (b c : Bool) → cond b (cond c (Whole p) (Malformed 2)) (Malformed 1) ≡ Whole o → (b ≡ true) × (c ≡ true) × (p ≡ o)
@@ -40,15 +40,15 @@ order_written s o bytes e =
     let w = whole (order_starts s) (eqb (length s) 24) e in
     let n = eqb-true (length s) 24 w.1 in
     let h : length s ≤ 24 = omega arith in
-    rw (← w.2) (rw (drop_of_length-le s h, append_nil) at (order_laws.back s w.0 bytes))
+    rw (← w.2) (rw (drop_of_length-le s h, append-nil) at (order_laws.back s w.0 bytes))
 
 context_accepted : (bs : List Binding) → Each WellFormedBinding bs → length bs ≤ 4096 → checked_context (joined binding_bytes bs) ≡ Good (length bs)
 context_accepted bs each h =
-    contexts.is_accepted (joined binding_bytes bs)
+    contexts.is_accepted_lem (joined binding_bytes bs)
     (record {
       long = joined_length binding_laws bs;
       within = h;
-      each = λ k l. rw append_nil at (starts_at binding_laws bs [] k (binding_in []) each l);
+      each = λ k l. rw append-nil at (starts_at binding_laws bs [] k (binding_in []) each l);
     })
 
 context_written : (n : ℕ) (s : List ℕ) → Bytes s → checked_context s ≡ Good n → joined binding_bytes (items 8 binding_in n s) ≡ s

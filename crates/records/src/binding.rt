@@ -6,13 +6,13 @@ ghost use Rattle.records.specs.Contexts.{kind_byte, kind_of, binding_bytes, bind
 use crate::bytes;
 
 // What a variable holds: linked, for any Chirality but Ext, or an integer.
-#[derive(Drop)]
+#[derive(Clone, Copy)]
 pub enum Kind {
     Linked,
     Ext,
 }
 
-#[derive(Drop)]
+#[derive(Clone, Copy)]
 pub struct Binding {
     pub kind: Kind,
     pub id: u32,

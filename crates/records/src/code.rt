@@ -12,7 +12,7 @@ use crate::check::Checked;
 use crate::name::{FIRST_UNNAMED, LAST_UNNAMED};
 
 // The machine instructions, labels and directives. Registers are 0 to 15, immediates are 64-bit two's complement, labels are numbers.
-#[derive(Drop)]
+#[derive(Clone, Copy)]
 pub enum Code {
     ADD(u8, u8),
     ADDRM(u8, u8, u64),
@@ -61,7 +61,7 @@ pub enum Code {
 }
 
 // The fields of an instruction record. Those that its code does not use are zero.
-#[derive(Drop)]
+#[derive(Clone, Copy)]
 pub struct Fields {
     pub code: u8,
     pub a: u8,
@@ -86,7 +86,7 @@ impl Fields {
     }
 }
 
-#[derive(Drop)]
+#[derive(Clone, Copy)]
 pub enum CodeRead {
     Record(Code),
     Malformed,

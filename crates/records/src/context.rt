@@ -6,7 +6,7 @@ ghost use Rattle.records.specs.Contexts.{marked, kind_ok, first_flaw, counted_on
 use crate::bytes;
 
 // What is bad; places count from 1.
-#[derive(Drop)]
+#[derive(Clone, Copy)]
 pub enum Flaw {
     // 15: not whole bindings, or more than 4,096
     Length,
@@ -17,7 +17,7 @@ pub enum Flaw {
 }
 
 // How many bindings there are, or what is bad.
-#[derive(Drop)]
+#[derive(Clone, Copy)]
 pub enum ContextRead {
     Good(usize),
     Bad(Flaw),

@@ -1,4 +1,6 @@
 // The records of the scope as bytes: bindings, instructions and orders, read, written, and refused by place.
+#![tactic(auto)]
+
 ghost use Rattle.records.specs.Flaws.{BadBindingsAreTold};
 ghost use Rattle.records.specs.ReadBack.{RecordsReadBack};
 

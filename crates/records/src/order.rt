@@ -7,7 +7,7 @@ ghost use Rattle.records.specs.Orders.{flag_of, operation_of, newline_flag, orde
 use crate::bytes;
 use crate::bytes::{MOST4, MOST8};
 
-#[derive(Drop)]
+#[derive(Clone, Copy)]
 pub enum Calculation {
     Add,
     Sub,
@@ -17,7 +17,7 @@ pub enum Calculation {
 }
 
 // The seven orders. Variables go by place in the context, from 0.
-#[derive(Drop)]
+#[derive(Clone, Copy)]
 pub enum Order {
     // value
     Put(u64),
@@ -35,7 +35,7 @@ pub enum Order {
 }
 
 // The fields of an order record. Those that its code does not use are zero.
-#[derive(Drop)]
+#[derive(Clone, Copy)]
 pub struct OrderFields {
     pub code: u8,
     pub flag: u8,
@@ -46,14 +46,14 @@ pub struct OrderFields {
 }
 
 // The order that starts some bytes, where a whole one does.
-#[derive(Drop)]
+#[derive(Clone, Copy)]
 pub enum OrderStart {
     Starts(Order),
     Malformed,
 }
 
 // One whole order, or the place of the first bad or surplus record.
-#[derive(Drop)]
+#[derive(Clone, Copy)]
 pub enum OrderRead {
     Whole(Order),
     Malformed(usize),

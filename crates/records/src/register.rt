@@ -2,7 +2,7 @@
 ghost use Rattle.std.specs.Prelude.{◌≡◌};
 ghost use Rattle.records.specs.Registers.{hardware_of};
 
-#[derive(Drop)]
+#[derive(Clone, Copy)]
 pub enum Hardware {
     Number(u8),
     Absent,

@@ -1,4 +1,6 @@
 // The lines that operators of a channel read, put into a text at an index as `text` does.
+#![tactic(auto)]
+
 pub mod parts; // words, then a number
 pub mod answers; // the line of an order's answer
 pub mod stops; // the line of a run that did not end

@@ -1,4 +1,6 @@
 // into_routine.rs: a body of records made a whole routine.
+#![tactic(auto)]
+
 ghost use Rattle.routine.specs.Records.{RoutineIsRecords};
 
 pub mod into_routine; // the records around the body, and the whole

@@ -1,6 +1,8 @@
 // Plays lists of order records of any length, from standard input or from the files named, each on a fresh channel beside 65,536 blocks, or 32,768 of the second
 // edition, and prints the most blocks that were reachable at once and the heap to fit for it. A run that does not end is told instead. An argument `edition N` asks
 // for the blocks of an edition and `frame N` for a frame of so many spills, of the files after it; the edition is 1 and a frame has 256 where none is asked.
+#![tactic(auto)]
+
 ghost use Rattle.std.specs.Prelude.{◌-◌, ◌≤◌, length};
 
 use channel_step::channel::Channel;
@@ -13,7 +15,7 @@ use program_options::{Heard, Options, Said};
 const LEFT: u64 = 0x5A5A5A5A5A5A5A5A;
 
 // How many orders were accepted and refused, whether the list goes on, whether a run did not end, and the channel.
-#[derive(Drop)]
+#[derive(Clone, Copy)]
 struct Going {
     accepted: u64,
     refused: u64,
@@ -186,7 +188,7 @@ fn size_of(name: &[u8], edition: u64, frame: u64) {
 }
 
 // What the arguments asked so far: an edition and a frame, and whether a file was named.
-#[derive(Drop)]
+#[derive(Clone, Copy)]
 struct Asked {
     options: Options,
     named: bool,

@@ -1,4 +1,6 @@
 // Demand 3: the heap stays sound for every list of orders; and how much heap to fit. The claims are in specs/Claims.antt and specs/Peak.antt; their proofs cite the theorems.
+#![tactic(auto)]
+
 ghost use Rattle.soundness.specs.Claims.{HeapStaysSound, HeapStaysSoundOnAcquired};
 ghost use Rattle.soundness.specs.Operations.{OperationsDoWhatTheyName, OperationsDoWhatTheyNameOnAcquired};
 ghost use Rattle.soundness.specs.Prints.{PrintedIsCalled};

@@ -1,4 +1,6 @@
 // A check of the scope's demand 3 on one state: its words beside the plain machine's values. It stands on no other crate.
+#![tactic(auto)]
+
 pub mod arithmetic; // 64-bit numbers
 pub mod shape; // how many fields a block has, and how many spills a frame
 pub mod table; // the checker's memory, words by number

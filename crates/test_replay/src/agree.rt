@@ -5,7 +5,7 @@ use crate::perform::Answered;
 use crate::request::Request;
 use crate::{checksum, perform};
 
-#[derive(Drop)]
+#[derive(Clone, Copy)]
 pub enum Agreed {
     Yes,
     No,

@@ -1,5 +1,7 @@
 // Reads requests with the published Rust's answers on standard input (docs/FORMATS.md), puts each to the port, and prints the place of each one that is
 // answered otherwise, from 1 on, then how many there were.
+#![tactic(auto)]
+
 mod agree; // the port's answer against the Rust's
 mod checksum; // a number for many bytes
 mod perform; // the request put to the port
@@ -12,7 +14,7 @@ use libc::{STDIN_FILENO, STDOUT_FILENO};
 // More requests than are stored.
 const MOST: u64 = 1000000;
 
-#[derive(Drop)]
+#[derive(Clone, Copy)]
 struct Tally {
     replayed: u64,
     differ: u64,

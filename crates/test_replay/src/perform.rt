@@ -8,7 +8,7 @@ use operations::operation::Operation;
 use records::order;
 
 // What the port answers: the scope's number, 0 where it is not refused; records or another number; the counter after.
-#[derive(Drop)]
+#[derive(Clone, Copy)]
 pub struct Answered {
     pub number: u64,
     pub value: u64,

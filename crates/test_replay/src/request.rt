@@ -1,7 +1,7 @@
 // A request and the Rust's answer in 56 bytes, as docs/FORMATS.md has it. Contexts, or a body, follow.
 use records::bytes;
 
-#[derive(Drop)]
+#[derive(Clone, Copy)]
 pub struct Request {
     pub operation: u8,
     // a condition, an operation of arithmetic, a newline, or which temporary

@@ -1,6 +1,8 @@
 // Plays the lists of orders on standard input, a load followed by its bindings, each list in its edition and its frame, and checks after each accepted order what
 // demand 3 says of the words: on a large heap, which gives the list's peak; on two blocks more than the peak, where all is sound; on one more, where the frontier
 // is no block of the heap; and on no more, where a run meets a fault.
+#![tactic(auto)]
+
 ghost use Rattle.std.specs.Prelude.{◌≤◌};
 
 use channel_step::channel::{Channel, Played, RECORDS};
@@ -9,7 +11,7 @@ use order_spec::answer::OrderAnswer;
 use records::bytes;
 
 // How many orders there were, and what came of them.
-#[derive(Drop)]
+#[derive(Clone, Copy)]
 struct Counts {
     orders: u64,
     accepted: u64,
@@ -18,7 +20,7 @@ struct Counts {
 }
 
 // Where the next order starts, what came of those before it, and the channel.
-#[derive(Drop)]
+#[derive(Clone, Copy)]
 struct Going {
     at: usize,
     counts: Counts,

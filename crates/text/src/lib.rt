@@ -1,5 +1,7 @@
 // Bytes and numbers put into a text at an index. Each function stores what fits and answers the index past all of it: run on a text
 // without room it gives the size.
+#![tactic(auto)]
+
 ghost use Rattle.std.specs.Prelude.{[], ◌∷◌, ◌+◌, ◌≤◌, length};
 ghost use Rattle.text.specs.Text.{digits, decimal, signed_decimal, spaced};
 ghost use Rattle.text.specs.Putting.{farthest, Puts};

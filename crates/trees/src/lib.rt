@@ -1,1 +1,2 @@
 // Structured code: definitions alone. `emit` writes trees, and the theorems on what records do go by them.
+#![tactic(auto)]

@@ -1,4 +1,6 @@
 // Arithmetic of 64-bit words: wrapped sums, differences and products; signed quotient, remainder and order.
+#![tactic(auto)]
+
 ghost use Rattle.std.specs.Prelude.{◌≡◌, ◌<◌};
 ghost use Rattle.word.specs.Words as is;
 

@@ -1,0 +1,26 @@
+use Prim.Native.Nat.{◌-◌}
+use native.Mathlib.Nat.{sub-zero}
+use native.Mathlib.Omega.{arith}
+use Rattle.records.proofs.ContextsRead.{done, bad_mark, bad_kind, turn}
+use Rattle.records.proofs.context.first_flaw.Goals as goal
+
+pub loop-k-init : goal.loop-k-init
+loop-k-init c = (omega arith, rw sub-zero)
+
+pub returns-then-marked : goal.returns-then-marked
+returns-then-marked c =
+    let l = c.loop-k in
+    bad_kind _ _ _ _ l.invariant.1 (omega arith) c.marked.ensures c.if-marked.true c.sound.ensures c.if-sound.false
+
+pub returns-else-sound : goal.returns-else-sound
+returns-else-sound c =
+    let l = c.loop-k in
+    bad_mark _ _ _ _ l.invariant.1 (omega arith) c.marked.ensures c.if-marked.false
+
+pub loop-k-preserved : goal.loop-k-preserved
+loop-k-preserved c =
+    let l = c.loop-k in
+    (omega arith, turn _ _ _ _ l.invariant.1 (omega arith) c.sound.ensures c.if-sound.true)
+
+pub returns : goal.returns
+returns c = done _ _ _ _ c.loop-k.invariant.1 (omega arith)
