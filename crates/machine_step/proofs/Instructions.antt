@@ -1,7 +1,7 @@
 -- What each kind of instruction does to the lent registers, stack and heap is its outcome, case by case.
 use Prim.Native.Nat.{ℕ, zero, suc, ◌%◌, ◌<◌}
 use mathlib.Core.Path.{◌≡◌, refl, sym, ap, ◌∙◌}
-use mathlib.Core.Bool.{Bool, true, false, true≢false, and_false}
+use mathlib.Core.Bool.{Bool, true, false, true≢false, and-false}
 use mathlib.Core.List.{List, []}
 use native.Mathlib.Omega.{arith}
 use lib.Dec.{eqb}
@@ -29,7 +29,7 @@ kept w p = record { went = w; pair = p }
 -- a divisor that divides is not zero
 pub divisor_positive : (high low d : ℕ) → divides high low d ≡ true → 0 < d
 unfolding divides
-divisor_positive high low zero e = absurd (true≢false (sym e ∙ and_false (eqb high (signs low))))
+divisor_positive high low zero e = absurd (true≢false (sym e ∙ and-false (eqb high (signs low))))
 divisor_positive high low (suc d) e = omega arith
 
 -- the stack is as it was

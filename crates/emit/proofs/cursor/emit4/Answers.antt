@@ -1,0 +1,5 @@
+use Rattle.emit.proofs.Laws.{◌⨾◌}
+use Rattle.emit.proofs.cursor.emit4.Goals as goal
+
+pub returns : goal.returns
+returns c = c.emit2-q.ensures ⨾ c.emit2.ensures
