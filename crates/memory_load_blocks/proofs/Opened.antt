@@ -2,7 +2,7 @@
 use Prim.Native.Nat.{ℕ}
 use mathlib.Core.Path.{◌≡◌, refl, ap}
 use mathlib.Core.Bool.{Bool, true, false, ◌||◌, cond}
-use mathlib.Core.List.{List, append_nil}
+use mathlib.Core.List.{List, append-nil}
 use native.Mathlib.Omega.{arith}
 use lib.Dec.{ltb}
 use Rattle.records.specs.declared.code.Code.TheVariants.{MOVL}
@@ -16,7 +16,7 @@ use Rattle.memory.specs.Objects.{fst, set_aside, restore, load_body, load_block}
 
 -- nothing before and after it
 alone : {o o' : List ℕ} {p q : Cursor} (t : Tree) → Emits o p o' q (seq nop (seq nop (seq t nop))) → Emits o p o' q t
-alone {p = p} t d = grown t (listed d) (ap fields_list (append_nil (flat t p.counter))) (omega arith)
+alone {p = p} t d = grown t (listed d) (ap fields_list (append-nil (flat t p.counter))) (omega arith)
 
 module _ (g : Shape) (ext : ℕ → Bool) (shared other aside : Bool) (v k : ℕ) where
   abbrev borrowed : Bool → ℕ → Tree

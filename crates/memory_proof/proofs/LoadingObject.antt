@@ -1,6 +1,6 @@
 -- All blocks of an object loaded, in either mode.
 use mathlib.Core.Bool.{Bool, true, false, not, cond}
-use mathlib.Core.List.{List, [], ◌∷◌, ◌++◌, append_nil}
+use mathlib.Core.List.{List, [], ◌∷◌, ◌++◌, append-nil}
 use mathlib.Core.Path.{◌≡◌, refl, sym, ◌∙◌, ap, subst}
 use Prim.Native.Nat.{ℕ, zero, suc, ◌+◌, ◌-◌, ◌*◌, ◌≤◌, ◌<◌}
 use native.Mathlib.Omega.{arith}
@@ -101,7 +101,7 @@ module _ {G : Shape} (words : ℕ → ℕ) (ext : ℕ → Bool) where
             let at : cells_from G.fields r.state.mem j 0 G.fields ≡ l.3 ++ c = sym (fields_at G.fields r.state.mem j) ∙ ap (block_fields G.fields r.state.mem) (sym l.2) ∙ l.4 in
             let o : cells_from G.fields r.state.mem j (G.fields - kk) kk ≡ c = lies_last G r.state.mem j kk c l.3 lc k3 at in
             let sc : shown_by G ext (e + k) kk r.state.mem j G.fields ≡ as_variables ext (e + k) c = ap (as_variables ext (e + k)) o in
-            let f₂ : MayShare G sh N (K - k) r.state.mem (pointers (shown_by G ext (e + k) kk r.state.mem j G.fields)) = rw (sc, ← (append_nil c)) f in
+            let f₂ : MayShare G sh N (K - k) r.state.mem (pointers (shown_by G ext (e + k) kk r.state.mem j G.fields)) = rw (sc, ← (append-nil c)) f in
             so (load_block_lem words ext sh false (e + k) kk j (K - k) l.1 k3 k1 vk (omega arith) fr r w.high w.placed l.2 f₂) (λ u x.
             let S : Config = restored fr r in
             let vo : restored (cond (ltb (location (2 * (e + k))) 16) false false) u ≡ u = restored_none (ltb (location (2 * (e + k))) 16) u in

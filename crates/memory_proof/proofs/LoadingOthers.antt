@@ -1,6 +1,6 @@
 -- The blocks of an object before the last loaded one after the other: what has become of the heap and the variables so far.
 use mathlib.Core.Bool.{Bool, true, false, cond}
-use mathlib.Core.List.{List, [], ◌∷◌, ◌++◌, append_assoc, append_nil}
+use mathlib.Core.List.{List, [], ◌∷◌, ◌++◌, append_assoc, append-nil}
 use mathlib.Core.Logic.{◌≢◌}
 use mathlib.Core.Path.{◌≡◌, refl, sym, ◌∙◌, ap}
 use Prim.Native.Nat.{ℕ, suc, ◌+◌, ◌-◌, ◌*◌, ◌≤◌, ◌<◌}
@@ -111,7 +111,7 @@ as_variables_append ext v [] ys = let e : v + 0 ≡ v = omega arith in rw e
 as_variables_append ext v (x ∷ xs) ys = let e : v + suc (length xs) ≡ suc v + length xs = omega arith in rw e (ap (λ (z : List Cell). as_variable ext v x ∷ z) (as_variables_append ext (suc v) xs ys))
 
 pub concat_snoc : (pre : List (List Cell)) (d : List Cell) → concat (pre ++ (d ∷ [])) ≡ concat pre ++ d
-concat_snoc [] d = append_nil d
+concat_snoc [] d = append-nil d
 concat_snoc (c ∷ pre) d = ap (λ (z : List Cell). c ++ z) (concat_snoc pre d) ∙ sym (append_assoc c (concat pre) d)
 
 pub as_variables_length : (ext : ℕ → Bool) (v : ℕ) (cs : List Cell) → length (pointers (as_variables ext v cs)) ≡ length cs

@@ -1,6 +1,6 @@
 -- A store of one value or more does the abstract heap's store of an object.
 use mathlib.Core.Bool.{Bool}
-use mathlib.Core.List.{List, [], ◌∷◌, ◌++◌, append_assoc, append_nil}
+use mathlib.Core.List.{List, [], ◌∷◌, ◌++◌, append_assoc, append-nil}
 use mathlib.Core.Logic.{◌≢◌}
 use mathlib.Core.Path.{◌≡◌, refl, sym, ◌∙◌, ap}
 use Prim.Native.Nat.{ℕ, zero, suc, ◌+◌, ◌-◌, ◌*◌, ◌≤◌, ◌<◌}
@@ -175,7 +175,7 @@ module _ {G : Shape} (words : ℕ → ℕ) (ext : ℕ → Bool) where
       let agree : (a y : ℕ) → a + y ≤ v → variables ext u a y ≡ variables ext s a y
       = λ a y e. variables_kept ext s u a y (λ p b d. let z = location_grows p (2 * v) (omega arith) in (omega (arith, z.0), omega (arith, z.1))) x.5 in
       let joined : variables ext u r left ++ concat (variables ext s v c ∷ []) ≡ variables ext s r k
-      = rw (agree r left (omega arith)) (ap (λ (q : List Cell). variables ext s r left ++ q) (append_nil (variables ext s v c)) ∙ sym (variables_append ext s r left c) ∙ ap (variables ext s r) (sym kc)) in
+      = rw (agree r left (omega arith)) (ap (λ (q : List Cell). variables ext s r left ++ q) (append-nil (variables ext s v c)) ∙ sym (variables_append ext s r left c) ∙ ap (variables ext s r) (sym kc)) in
       let shaped : other_sizes (G.fields - 1) blocks left (lengths (variables ext s v c ∷ [])) ≡ some_sizes G k = ap (λ (q : ℕ). other_sizes (G.fields - 1) blocks left (q ∷ [])) (variables_length ext s v c) in
       attempt_weaken (λ t y. (stored_whole G ext s u t y.0 (keeps_sub (λ a z. (z.0, below (2 * r) (2 * v) a (omega arith) z.1)) x.5) joined shaped, y.1))
       (attempt_why (λ o room lt. o (room rc.0 rc.1) lt) (others_does G words ext (heap_of G s) (pointers (variables ext s 0 (r + k))) g (length (some_sizes G k)) rc.1 le blocks left (chunks_chunked (G.fields - 1) left (omega (arith, en.shape.some))) u (variables ext s v c) [] r (omega (arith, other_sizes_length (G.fields - 1) blocks left (c ∷ []))) (omega arith) (placed_keeps (omega (arith, lb.0)) x.5 en) (sym x.3, x.0, x.1, x.2)

@@ -2,7 +2,7 @@
 use Prim.Native.Nat.{ℕ, ◌*◌, ◌-◌, ◌≤◌, ◌<◌}
 use mathlib.Core.Path.{◌≡◌, subst}
 use mathlib.Core.Bool.{Bool}
-use mathlib.Core.List.{List, ◌++◌, append_nil}
+use mathlib.Core.List.{List, ◌++◌, append-nil}
 use native.Mathlib.Omega.{arith}
 use lib.ListN.{length, take, length-append}
 use lib.Seq.{sets, take_all, take-length, length-take-le}
@@ -44,11 +44,11 @@ module _ (c : List ℕ) (k : ℕ) (b : List ℕ) {o : Order} where
   module _ (h : length c ≡ 8 * k) where
     pub put_left : (value : ℕ) → o ≡ Put value → take (8 * k) c ++ made_all Ext k 1 ≡ context_after c k b o
     unfolding context_after
-    put_left value e = rw (e, take_all (8 * k) c (omega arith), append_nil (made Ext k))
+    put_left value e = rw (e, take_all (8 * k) c (omega arith), append-nil (made Ext k))
 
     pub compute_left : (operation : Calculation) (x y : ℕ) → o ≡ Compute operation x y → take (8 * k) c ++ made_all Ext k 1 ≡ context_after c k b o
     unfolding context_after
-    compute_left operation x y e = rw (e, take_all (8 * k) c (omega arith), append_nil (made Ext k))
+    compute_left operation x y e = rw (e, take_all (8 * k) c (omega arith), append-nil (made Ext k))
 
     pub copy_left : {kind : Kind} (a n : ℕ) → o ≡ Copy a n → kind ≡ kind_at c a → take (8 * k) c ++ made_all kind k n ≡ context_after c k b o
     unfolding context_after
@@ -56,15 +56,15 @@ module _ (c : List ℕ) (k : ℕ) (b : List ℕ) {o : Order} where
 
     pub print_left : (newline : Bool) (a : ℕ) → o ≡ Print newline a → take (8 * k) c ++ made_all Ext k 0 ≡ context_after c k b o
     unfolding context_after
-    print_left newline a e = rw (e, take_all (8 * k) c (omega arith), append_nil c)
+    print_left newline a e = rw (e, take_all (8 * k) c (omega arith), append-nil c)
 
   pub drop_left : o ≡ Drop → take (8 * (k - 1)) c ++ made_all Ext (k - 1) 0 ≡ context_after c k b o
   unfolding context_after
-  drop_left e = rw (e, append_nil (take (8 * (k - 1)) c))
+  drop_left e = rw (e, append-nil (take (8 * (k - 1)) c))
 
   pub store_left : (n tag : ℕ) → o ≡ Store n tag → take (8 * (k - n)) c ++ made_all Linked (k - n) 1 ≡ context_after c k b o
   unfolding context_after
-  store_left n tag e = rw (e, append_nil (made Linked (k - n)))
+  store_left n tag e = rw (e, append-nil (made Linked (k - n)))
 
   pub load_left : (n : ℕ) → o ≡ Load n → take (8 * (k - 1)) c ++ b ≡ context_after c k b o
   unfolding context_after

@@ -18,9 +18,9 @@ use Rattle.text.proofs.Putting.{nothing, at_most, ◌⨟◌}
 use Rattle.plan_line.specs.Orders.{Words}
 use Rattle.plan.specs.Plan.{kind_of_word, bindings, following}
 
-pub append_nil : (xs : List ℕ) → xs ++ [] ≡ xs
-append_nil [] = refl
-append_nil (x ∷ xs) = ap (λ (l : List ℕ). x ∷ l) (append_nil xs)
+pub append-nil : (xs : List ℕ) → xs ++ [] ≡ xs
+append-nil [] = refl
+append-nil (x ∷ xs) = ap (λ (l : List ℕ). x ∷ l) (append-nil xs)
 
 -- a record that was written into bytes of its own size
 pub put_whole : {o o' s bs : List ℕ} {n i j : ℕ} → s ≡ bs → length bs ≡ n → Puts (length s) o i o' j s → Puts n o i o' j bs
@@ -62,7 +62,7 @@ module _ {most i j : ℕ} {o o' all left : List ℕ} (b : Begun most o i o' j al
 
   pub all_put : (n : ℕ) → left ≡ [] → most ≤ n → Puts n o i o' j all
   all_put n e h =
-      let g : all ≡ b.so_far = b.joins ∙ ap (λ (l : List ℕ). b.so_far ++ l) e ∙ append_nil b.so_far in
+      let g : all ≡ b.so_far = b.joins ∙ ap (λ (l : List ℕ). b.so_far ++ l) e ∙ append-nil b.so_far in
       subst (λ (l : List ℕ). Puts n o i o' j l) (sym g) (at_most b.put h)
 
 pub no_kind : (o : List ℕ) (i n : ℕ) (ws : Words) → Begun (8 * 0) o i o i (bindings 0 (take n ws)) (bindings 0 (take (n - 0) ws))

@@ -28,7 +28,7 @@ use Rattle.plan.specs.declared.lines.Laid.TheVariants.{Whole, BadLine}
 use Rattle.plan.specs.declared.Planned.TheVariants.{Written, Bad, Room, Long}
 use Rattle.plan.specs.Plan.{Plan, records, bad, onto_plan, with_line, plan_records, line_words, plan_from, plan_of, longest_plan, plan_answer, plan_bytes, planned, planned_bytes}
 use Rattle.plan.specs.Steps.{most_line, PutsLine, Stepped, next, stop, PutsPlan, LaidOut, laid, bad_line}
-use Rattle.plan.proofs.Putting.{append_nil}
+use Rattle.plan.proofs.Putting.{append-nil}
 
 -- what stands before a comment
 pub cut : (P : ℕ → Bool) (s : List ℕ) {end : ℕ} → end ≡ found P s 0 → take end s ≡ before P s
@@ -86,7 +86,7 @@ module _ {most j : ℕ} {o o' : List ℕ} {whole left : Plan} (l : Laying most o
 
   pub no_line_left : left ≡ records [] → most ≤ 0x10_0000_0030_0000 → PutsPlan o o' j whole
   no_line_left e h =
-      let g : whole ≡ records l.so_far = l.joins ∙ ap (onto_plan l.so_far) e ∙ ap records (append_nil l.so_far) in
+      let g : whole ≡ records l.so_far = l.joins ∙ ap (onto_plan l.so_far) e ∙ ap records (append-nil l.so_far) in
       subst (λ (p : Plan). PutsPlan o o' j p) (sym g) (record { whole = refl; put = at_most l.put h })
 
 -- a step's answer

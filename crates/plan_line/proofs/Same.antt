@@ -12,16 +12,16 @@ use lib.Seq.{drop-cons}
 use Rattle.plan_line.specs.Words.{same_bytes}
 use Rattle.plan_line.proofs.Searching.{drop_past}
 
-and_false : (x : Bool) → x && false ≡ false
-and_false true = refl
-and_false false = refl
+and-false : (x : Bool) → x && false ≡ false
+and-false true = refl
+and-false false = refl
 
 pub other_length : (w n : List ℕ) → (length w ≡ length n → ⊥) → same_bytes w n ≡ false
 unfolding same_bytes
 other_length [] [] h = absurd (h refl)
 other_length [] (c ∷ n) h = refl
 other_length (b ∷ w) [] h = refl
-other_length (b ∷ w) (c ∷ n) h = rw (other_length w n (λ e. h (ap suc e))) (and_false (eqb b c))
+other_length (b ∷ w) (c ∷ n) h = rw (other_length w n (λ e. h (ap suc e))) (and-false (eqb b c))
 
 module _ (w n : List ℕ) (i : ℕ) (e : length w ≡ length n) where
   pub same_on : i < length w → get_or w i 0 ≡ get_or n i 0 → same_bytes (drop i w) (drop i n) ≡ same_bytes (drop (i + 1) w) (drop (i + 1) n)

@@ -2,7 +2,7 @@
 use Prim.Native.Nat.{ℕ, zero, suc, ◌+◌, ◌*◌, ◌-◌, ◌≤◌, ◌<◌}
 use mathlib.Core.Path.{◌≡◌, refl, ◌∙◌}
 use mathlib.Core.Bool.{true}
-use mathlib.Core.List.{List, [], append_nil}
+use mathlib.Core.List.{List, [], append-nil}
 use native.Mathlib.Omega.{arith}
 use lib.ListN.{replicate, length-replicate}
 use borrow.Author.Tests.{le-leb, ne_eqb}
@@ -52,7 +52,7 @@ module _ (g : Shape) (context : List ℕ) (k : ℕ) (good : checked_context cont
   q = asked_with o records after
 
   is : order_is q ≡ o
-  is = rw append_nil at (order_laws.same o [] w)
+  is = rw append-nil at (order_laws.same o [] w)
 
   none_good : checked_context [] ≡ Good 0
   none_good = records_read_back.context_accepted [] tt (omega arith)
@@ -60,7 +60,7 @@ module _ (g : Shape) (context : List ℕ) (k : ℕ) (good : checked_context cont
   ordered : present context k [] o ≡ true → kinds_ok context k [] o ≡ true → count_ok o ≡ true → asked context k [] o ≤ positions g
       → answer_to g context q ≡ order_granted q (tree_of g context k [] o) (context_after context k [] o)
   ordered p n c h =
-      let starts = rw append_nil at (order_laws.good o [] w) in
+      let starts = rw append-nil at (order_laws.good o [] w) in
       rw is at
       (all_passed g context q good none_good starts (rw (is, alone)) (rw (order_laws.long o))
       ∙ all_judged g context q k (rw is p) (rw is n) (rw is c) (rw is (le-leb (asked context k [] o) (positions g) h)))

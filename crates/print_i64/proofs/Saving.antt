@@ -2,7 +2,7 @@
 use Prim.Native.Nat.{ℕ, zero, suc, ◌+◌, ◌-◌, ◌/◌, ◌%◌, ◌^◌, ◌≤◌, ◌<◌}
 use mathlib.Core.Path.{◌≡◌, refl, sym, ap, ◌∙◌}
 use mathlib.Core.Bool.{Bool, true, false, cond}
-use mathlib.Core.List.{List, [], ◌∷◌, ◌++◌, append_nil, append_assoc}
+use mathlib.Core.List.{List, [], ◌∷◌, ◌++◌, append-nil, append_assoc}
 use native.Mathlib.Nat.{add-zero}
 use native.Mathlib.Numerals.{add-one}
 use native.Mathlib.Omega.{arith}
@@ -60,8 +60,8 @@ module _ (back : Bool) where
   move_last : (f u r : ℕ) (rs : List ℕ)
       → move_all back f u (rs ++ (r ∷ [])) ≡ move_all back f u rs ++ cond (ltb (length rs) u) (near back (f + length rs) r) (far back r)
   unfolding move_all
-  move_last f zero r [] = simp append_nil
-  move_last f (suc u) r [] = let h : 0 < suc u = omega arith in rw (lt-ltb 0 (suc u) h, add-zero f) (append_nil (near back f r))
+  move_last f zero r [] = simp append-nil
+  move_last f (suc u) r [] = let h : 0 < suc u = omega arith in rw (lt-ltb 0 (suc u) h, add-zero f) (append-nil (near back f r))
   move_last f zero r (x ∷ rs) =
       let a : ltb (length rs) 0 ≡ false = le-ltb (length rs) 0 (omega arith) in
       let b : ltb (suc (length rs)) 0 ≡ false = le-ltb (suc (length rs)) 0 (omega arith) in
@@ -80,7 +80,7 @@ module _ (back : Bool) where
       by : (t : Bool) → move_all back f u (members r m ++ cond t (r ∷ []) [])
           ≡ move_all back f u (members r m) ++ cond t (cond (ltb (length (members r m)) u) (near back (f + length (members r m)) r) (far back r)) []
       by true = move_last f u r (members r m)
-      by false = simp append_nil
+      by false = simp append-nil
 
   near_most : (f r : ℕ) → length (near back f r) ≤ 1
   near_most f r = by back
@@ -146,7 +146,7 @@ pops_more u r m c n = rw (add-one r) (by (bit r m))
   where
     by : (t : Bool) → flat_at (pops (drop u (members r m ++ cond t (r ∷ []) []))) c n ≡ cond t (cond (leb u (length (members r m))) (POP r ∷ []) []) [] ++ flat_at (pops (drop u (members r m))) c n
     by true = pops_last u r (members r m) c n
-    by false = simp append_nil
+    by false = simp append-nil
 
 pops_rest : (u r k m c n : ℕ) → k ≤ r → flat_at (pops (drop u (members r m))) c n ≡ pops_down u r k m ++ flat_at (pops (drop u (members (r - k) m))) c n
 unfolding pops_down
@@ -170,7 +170,7 @@ pub popped : {o o' : List ℕ} {p q : Cursor} (u m : ℕ) {k : ℕ} → CallerSa
     → Emits o p o' q (pops (drop u (members 16 m)))
 popped {p = p} u m saved e d =
     let rest : flat_at (pops (drop u (members 16 m))) p.counter 0 ≡ pops_down u 16 12 m =
-    pops_rest u 16 12 m p.counter 0 (omega arith) ∙ rw (saved.0, drop-nil u, append_nil) in
+    pops_rest u 16 12 m p.counter 0 (omega arith) ∙ rw (saved.0, drop-nil u, append-nil) in
     grown (pops (drop u (members 16 m))) (rw e at d)
     (ap fields_list (sym rest))
     (sym (plain_pops (drop u (members 16 m))).0)

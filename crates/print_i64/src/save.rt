@@ -10,7 +10,7 @@ ghost use Rattle.print_i64.specs.Saved.{move_one, move_all, pop_one};
 
 use emit::cursor::{Cursor, Row};
 use layout::config::STACK;
-use records::number::{ADDI, MOV, POP, PUSH, SUBI};
+use records::number::{self, MOV, POP, PUSH, SUBI};
 
 // Register r, if it is in the set; `done` of the set are below it. `back` says that it is restored: one that was pushed is left to `pop_all`.
 fn move_one(
@@ -110,7 +110,7 @@ fn free_alignment(out: &mut [u8], p: Cursor, pushed: u64) -> Cursor
     ensures { Emits out.old p out.new result (if_even pushed (ADDI 0 8) refl) }
 {
     if pushed % 2 == 0 {
-        return emit::cursor::emit(out, p, Row(ADDI, STACK, 0, 0, 0, 8));
+        return emit::cursor::emit(out, p, Row(number::ADDI, STACK, 0, 0, 0, 8));
     }
     p
 }

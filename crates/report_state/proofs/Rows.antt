@@ -2,7 +2,7 @@
 use Prim.Native.Nat.{ℕ, zero, suc, ◌+◌, ◌*◌, ◌-◌, ◌≤◌, ◌<◌}
 use mathlib.Core.Path.{◌≡◌, refl, ap, subst}
 use mathlib.Core.Bool.{Bool, true, false}
-use mathlib.Core.List.{List, ◌++◌, append_assoc, append_nil}
+use mathlib.Core.List.{List, ◌++◌, append_assoc, append-nil}
 use native.Mathlib.Nat.{le_antisymm}
 use native.Mathlib.Numerals.{add-one}
 use native.Mathlib.Omega.{arith}
@@ -47,7 +47,7 @@ module _ (g : Shape) (ext : ℕ → Bool) (registers stack : ℕ → ℕ) where
   lines_more : (v k : ℕ) → cell_lines g ext v (variables_in ext registers stack v (suc k))
       ≡ cell_lines g ext v (variables_in ext registers stack v k) ++ cell_line g (v + k) (ext (v + k)) (variable_in ext registers stack (v + k))
   unfolding cell_lines
-  lines_more v zero = let e : v + 0 ≡ v = omega arith in rw e (append_nil _)
+  lines_more v zero = let e : v + 0 ≡ v = omega arith in rw e (append-nil _)
   lines_more v (suc k) =
       let e : v + suc k ≡ suc v + k = omega arith in
       rw (e, append_assoc) (ap (λ (z : List ℕ). cell_line g v (ext v) (variable_in ext registers stack v) ++ z) (lines_more (suc v) k))

@@ -1,5 +1,5 @@
 -- The list that meets the premises: what it acquires, leaves and owes, by computation, and the claim of it.
-use mathlib.Core.List.{List, [], ◌∷◌, ◌++◌, append_nil}
+use mathlib.Core.List.{List, [], ◌∷◌, ◌++◌, append-nil}
 use mathlib.Core.Logic.{◌≢◌}
 use mathlib.Core.Path.{◌≡◌, refl, sym, ◌∙◌, ap}
 use Prim.Native.Nat.{ℕ}
@@ -43,7 +43,7 @@ two_held fields c (d ∷ []) o l h =
     let first = h.0 in
     let second = h.4.0 in
     let is : d ≡ cell 0 7 ∷ cell 0 120 ∷ []
-    = sym (append_nil d) ∙ h.2 ∙ ap (λ (r : List Cell). first ∷ r) (h.4.2 ∙ ap (λ (r : List Cell). second ∷ r) h.4.4)
+    = sym (append-nil d) ∙ h.2 ∙ ap (λ (r : List Cell). first ∷ r) (h.4.2 ∙ ap (λ (r : List Cell). second ∷ r) h.4.4)
     ∙ rw (h.3.0, h.3.1, h.4.3.0, h.4.3.1) in
     (o.0, o.1, o.3 ∙ ap (λ (x : List Cell). o.1 ++ x) is)
 

@@ -1,7 +1,7 @@
 -- What is put for an order is what its calls write.
 use Prim.Native.Nat.{ℕ, ◌+◌, ◌*◌, ◌≤◌, ◌<◌}
 use mathlib.Core.Bool.{Bool, true, false, cond}
-use mathlib.Core.List.{List, [], ◌∷◌, ◌++◌, append_nil}
+use mathlib.Core.List.{List, [], ◌∷◌, ◌++◌, append-nil}
 use mathlib.Core.Path.{◌≡◌, refl, sym, ◌∙◌, ap}
 use native.Mathlib.Omega.{arith}
 use borrow.Author.Tests.{ltb-true, lt-ltb}
@@ -53,8 +53,8 @@ module _ {g : Shape} (sup : Supported g) {blocks : ℕ} {past : List HeapState} 
       rw (lt-ltb (2 * a + 1) (positions g) (omega arith), w) (texts newline (integer_of (value_at a vs)))
     where
       texts : (newline : Bool) (number : ℕ) → printed_text newline number ≡ call_texts (record { name = print_name newline; number = number } ∷ [])
-      texts true number = sym (append_nil (printed_text true number))
-      texts false number = sym (append_nil (printed_text false number))
+      texts true number = sym (append-nil (printed_text true number))
+      texts false number = sym (append-nil (printed_text false number))
 
 pub printed_is_called : PrintedIsCalled
 unfolding PrintedIsCalled

@@ -1,7 +1,7 @@
 -- The records of a tree do what the tree does: by induction over the tree, at any place of a list in which its labels stand once.
 use Prim.Native.Nat.{ℕ, zero, suc, ◌+◌, ◌-◌, ◌≤◌}
 use mathlib.Core.Path.{◌≡◌, refl, subst, ◌∙◌}
-use mathlib.Core.List.{List, [], ◌∷◌, ◌++◌, append_assoc, append_nil}
+use mathlib.Core.List.{List, [], ◌∷◌, ◌++◌, append_assoc, append-nil}
 use mathlib.Core.Option.{none}
 use native.Mathlib.Omega.{arith}
 use native.Mathlib.Nat.{add-zero, zero-add}
@@ -123,7 +123,7 @@ pub tree_runs_whole : TreeRunsWhole
 unfolding TreeRunsWhole TreeRunsWithin machine.places_of
 tree_runs_whole words t c more v =
     let z : Config = starting v in
-    let d : RunsAs words (flat t c) (size t) 0 (size t) z (evaluate words t z) = rw (append_nil, zero-add) at (tree_runs_within words t c 0 [] [] z (λ l a b. refl) (λ l a b. refl)) in
+    let d : RunsAs words (flat t c) (size t) 0 (size t) z (evaluate words t z) = rw (append-nil, zero-add) at (tree_runs_within words t c 0 [] [] z (λ l a b. refl) (λ l a b. refl)) in
     rw (← length_flat t c 0) (answers words (flat t c) more z (evaluate words t z) (rw (length_flat t c 0) d))
 
 -- the same for callers who know what the tree does
