@@ -16,7 +16,7 @@ use emit::cursor::{Cursor, Row};
 use layout::config::{MINUS_ONE, STACK, Shape, Shaped, TEMP};
 use records::context;
 use records::context::ContextRead;
-use records::number::{ADDIM, CMPIM, JEL, JMPL, LAB, MOVL};
+use records::number::{self, JEL, JMPL, LAB};
 
 fn one_if_linked(ext: bool) -> u64
     ensures { (result ≡ one_if_linked ext) × (result ≤ 1) }
@@ -42,7 +42,7 @@ fn load_shared(out: &mut [u8], p: Cursor, g: Shape, kinds: &[u8], v: u64, n: u64
     requires { (8 * n ≤ length kinds.now) × (2 * (v + n) < positions g) × (p.at + 400024 < 2 ^ 64) × (p.counter + 2000 < 2 ^ 32) × Supported g }
     ensures { Emits out.old p out.new result (seq (leaf (ADDIM r 0 MINUSONE) refl) (load_some g (ext_in kinds.now v) true v n)) }
 {
-    let q = emit::cursor::emit(out, p, Row(ADDIM, r, 0, 0, 0, MINUS_ONE));
+    let q = emit::cursor::emit(out, p, Row(number::ADDIM, r, 0, 0, 0, MINUS_ONE));
     memory_load_blocks::load_some(out, q, g, kinds, v, true, v, n)
 }
 
@@ -54,7 +54,7 @@ fn load_counted(out: &mut [u8], p: Cursor, g: Shape, kinds: &[u8], v: u64, n: u6
     let counter = p.counter + linked(kinds, n) + 2;
     let end = counter as u32;
     let l = end - 1;
-    let q = emit::cursor::emit2(out, p, Row(CMPIM, r, 0, 0, 0, 0), Row(JEL, 0, 0, l, 0, 0));
+    let q = emit::cursor::emit2(out, p, Row(number::CMPIM, r, 0, 0, 0, 0), Row(JEL, 0, 0, l, 0, 0));
     let s = load_shared(out, q, g, kinds, v, n, r);
     let t = emit::cursor::emit2(out, s, Row(JMPL, 0, 0, end, 0, 0), Row(LAB, 0, 0, l, 0, 0));
     let u = memory_load_blocks::load_some(
@@ -83,7 +83,7 @@ fn into_register(out: &mut [u8], p: Cursor, g: Shape, w: u64) -> Cursor
         return p;
     }
     let offset = layout::offset::spill_offset(g, w);
-    emit::cursor::emit(out, p, Row(MOVL, TEMP, STACK, 0, offset, 0))
+    emit::cursor::emit(out, p, Row(number::MOVL, TEMP, STACK, 0, offset, 0))
 }
 
 // n variables after v, out of the object in the Fst past those.

@@ -14,7 +14,7 @@ ghost use Rattle.memory_load_blocks.specs.Blocks.{AllBlocks};
 use emit::cursor::{Cursor, Row};
 use layout::config::{RETURN1, SPILL_TEMP, STACK, Shape, TEMP};
 use memory::block;
-use records::number::{MOVL, MOVS};
+use records::number::{self, MOVS};
 
 // A pointer just loaded to w is shared where it stays in its block too.
 fn share_loaded(out: &mut [u8], p: Cursor, shared: bool, w: u64) -> Cursor
@@ -149,7 +149,7 @@ fn restore_aside(out: &mut [u8], p: Cursor, g: Shape, other: bool) -> Cursor
         return p;
     }
     let offset = layout::offset::spill_offset(g, SPILL_TEMP);
-    emit::cursor::emit(out, p, Row(MOVL, RETURN1, STACK, 0, offset, 0))
+    emit::cursor::emit(out, p, Row(number::MOVL, RETURN1, STACK, 0, offset, 0))
 }
 
 fn capacity_of(g: Shape, other: bool) -> u64
@@ -205,7 +205,7 @@ fn borrow_register(out: &mut [u8], p: Cursor, g: Shape, w: u64) -> Cursor
         return p;
     }
     let offset = layout::offset::spill_offset(g, w);
-    emit::cursor::emit(out, p, Row(MOVL, RETURN1, STACK, 0, offset, 0))
+    emit::cursor::emit(out, p, Row(number::MOVL, RETURN1, STACK, 0, offset, 0))
 }
 
 // The same out of the block in variable v's Fst: one in a spill goes through register 4.
