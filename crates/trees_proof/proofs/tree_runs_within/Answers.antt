@@ -1,0 +1,5 @@
+use Rattle.trees_proof.proofs.Trees.{tree_runs_within}
+use Rattle.trees_proof.proofs.tree_runs_within.Goals as goal
+
+pub returns : goal.returns
+returns c = tree_runs_within
