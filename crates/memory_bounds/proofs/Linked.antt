@@ -12,7 +12,7 @@ use Rattle.layout.specs.declared.config.Shape.{Shape}
 use Rattle.layout.specs.Config.{STACK, TEMP, HEAP, stack_offset, fst_offset, snd_offset}
 use Rattle.layout.specs.Positions.{location}
 use Rattle.memory.specs.Blocks.{store_field, take_block, acquire_block}
-use Rattle.memory.specs.Objects.{fst, snd, store_value, store_values, store_other, store_others}
+use Rattle.memory.specs.Objects.{fst, snd, store_value, store_values, store_other, store_others, store_some, chunks}
 use Rattle.memory.proofs.Flattened.{fields_size}
 use Rattle.memory.proofs.Sizes.{zeros_size}
 use Rattle.memory.proofs.Unfolded.{next_other}
@@ -80,9 +80,24 @@ module _ (g : Shape) where
   pub block_more : {rest link values pointer : ℕ} (m v n : ℕ) → 2 ≤ g.fields → 0 < m → rest ≡ n - (g.fields - 1) → link ≡ word_records (v + n)
       → values ≡ size (store_values g linked (v + rest) (n - rest) (g.fields - 1)) → pointer ≡ word_records (v + rest)
       → size (store_others g linked m v n) ≡ link + values + 12 * g.fields + 17 + pointer + size (store_others g linked (m - 1) v rest)
-  block_more {rest} m v n f h e l s p =
-      let next = ap size (next_other g linked (g.fields - 1) (omega arith) m v n h) in
-      let block = other_records (v + rest) (n - rest) in
-      let end : v + rest + (n - rest) ≡ v + n = omega arith in
-      let w : word_records (v + rest + (n - rest)) ≡ word_records (v + n) = ap word_records end in
-      omega (arith, rw (← e) at next, block, w)
+  block_more m v n f h e l s p =
+      let r = n - (g.fields - 1) in
+      rw e
+      (omega (
+        arith,
+        ap size (next_other g linked (g.fields - 1) (omega arith) m v n h),
+        other_records (v + r) (n - r),
+        rw e at s,
+        rw e at p,
+        ap word_records (end v n r (omega arith)),
+      ))
+    where
+      end : (v n r : ℕ) → r ≤ n → v + r + (n - r) ≡ v + n
+      end v n r h = omega arith
+
+  -- all blocks, by the numbers that are added up for them
+  pub some_records : {rest values pointer others : ℕ} (m v n : ℕ) → rest ≡ n - g.fields → m ≡ chunks (g.fields - 1) rest
+      → values ≡ size (store_values g linked (v + rest) (n - rest) g.fields) → pointer ≡ word_records (v + rest)
+      → others ≡ size (store_others g linked m v rest) → size (store_some g linked v n) ≡ values + (12 * g.fields + 17 + pointer) + others
+  some_records m v n e c s p o =
+      omega (arith, acquire_records (v + (n - g.fields)), rw e at s, rw e at p, rw (c, e) at o)
