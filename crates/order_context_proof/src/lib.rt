@@ -1,3 +1,2 @@
 // What a context's bytes say after each accepted order: how many bindings, and of which kinds.
 #![tactic(auto)]
-
