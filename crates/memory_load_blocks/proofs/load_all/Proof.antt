@@ -84,7 +84,7 @@ one_block c κs =
     let w = entry.requires in
     let l = at-loop.loop in
     let b = bounded w.0 l.invariant.1 (omega (arith, at-loop-test.loop-test.true)) refl at-either.either.ensures in
-    (omega (arith, w.0.from_First), omega (arith, w.0.known, b.end_known, b.from_before), omega (arith, b.end_placed, b.from_before), b.end_held, omega (arith, l.invariant.3, at-loop-test.loop-test.true), omega (arith, l.invariant.4, at-loop-test.loop-test.true, b.end_few), w.0.supported)
+    (omega (arith, w.0.from_first), omega (arith, w.0.known, b.end_known, b.from_before), omega (arith, b.end_placed, b.from_before), b.end_held, omega (arith, l.invariant.3, at-loop-test.loop-test.true), omega (arith, l.invariant.4, at-loop-test.loop-test.true, b.end_few), w.0.supported)
 
 small_next : tie.Need-overflow-add-to-2 invariant-loop decreases-loop
 small_next c =
