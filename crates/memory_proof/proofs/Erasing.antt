@@ -135,7 +135,7 @@ module _ {G : Shape} (words : ℕ → ℕ) where
       let i₁ = erase_pointer e.0.did i in
       let i₂ : Invariant (L G) (children (block_fields G.fields r.state.mem)) (headers G.fields r.state.mem) heap (r.state.reg 3) n rest i₁.0 live (pointers (cells_from G.fields r.state.mem j (suc t) k) ++ roots) = rw (fields_all G.fields s.state.mem r.state.mem w, agree) i₁.1 in
       weaken (λ z d. (rw agree at (more e.0.did d.0), (λ x y a b. d.1 x y a b ∙ w x y a b), keeps_trans kp d.2))
-      (rest_does roots r j (suc t) k (placed_keeps (omega arith) kp v) (keeps_register e.1 2 (omega arith) (omega arith) ∙ p) h g o (omega arith) i₂))
+      (rest_does {lazy = i₁.0} roots r j (suc t) k (placed_keeps (omega arith) kp v) (keeps_register e.1 2 (omega arith) (omega arith) ∙ p) h g o (omega arith) i₂))
 
   pub children_does : {N n heap : ℕ} {rest lazy live : List ℕ} (roots : List ℕ) (s : Config) (j : ℕ) → Placed G N s → s.state.reg 2 ≡ block_address G j → j < N → n ≤ N → length roots ≤ 1048560
       → Invariant (L G) (children (block_fields G.fields s.state.mem)) (headers G.fields s.state.mem) heap (s.state.reg 3) n rest lazy live (pointers (cells_from G.fields s.state.mem j 0 G.fields) ++ roots)

@@ -2,7 +2,7 @@
 use mathlib.Core.Bool.{Bool, true, false, cond}
 use mathlib.Core.List.{List, [], ◌∷◌, ◌++◌, append_assoc, append-nil}
 use mathlib.Core.Logic.{◌≢◌}
-use mathlib.Core.Path.{◌≡◌, refl, sym, ◌∙◌, ap}
+use mathlib.Core.Path.{◌≡◌, refl, sym, ◌∙◌, ap, subst}
 use Prim.Native.Nat.{ℕ, suc, ◌+◌, ◌-◌, ◌*◌, ◌≤◌, ◌<◌}
 use native.Mathlib.Omega.{arith}
 use lib.Dec.{ltb}
@@ -216,7 +216,9 @@ module _ {G : Shape} (words : ℕ → ℕ) (ext : ℕ → Bool) where
           = ap (as_variables ext e) (concat_snoc w.pre c) ∙ as_variables_append ext e (concat w.pre) c ∙ ap (λ (z : ℕ). as_variables ext e (concat w.pre) ++ as_variables ext (e + z) c) w.count in
           let vs : variables ext R e k ≡ variables ext S e k = variables_kept ext S R e k (λ z a b. before_aside (e + k) kk z b) x.keeps in
           let three : u.state.reg 3 ≡ r.state.reg 3 = sym (restored_free fr₁ u) ∙ keeps_register x.keeps 3 (omega arith) (under_aside e (e + k) kk 3 (omega arith) (omega arith, omega arith, omega arith, omega (arith, (location_free (2 * e)).0))) ∙ restored_free fr r in
-          let l₆ : Lies G N (block_fields G.fields u.state.mem) (held R (location (2 * (e + (k + kk))))) (d ∷ ds) = rw (fu, lk) l.6 in
+          let l₆ : Lies G N (block_fields G.fields u.state.mem) (held R (location (2 * (e + (k + kk))))) (d ∷ ds) =
+          subst (λ (x : ℕ). Lies G N (block_fields G.fields u.state.mem) x (d ∷ ds)) (sym lk)
+          (subst (λ (M : ℕ → List Cell). Lies G N M l.4.fst (d ∷ ds)) (sym fu) l.6) in
           let p₂ : MayShare G sh N (K - k - kk) u.state.mem (pointers (as_variables ext (e + k + kk) (concat (d ∷ ds)))) = may_share_block (pointers (as_variables ext (e + k) c)) (pointers (as_variables ext (e + k + kk) (concat (d ∷ ds)))) (as_variables_length ext (e + k) c ∙ lc) (omega arith) w₁ f₁ in
           let m : K - (k + kk) ≡ K - k - kk = omega arith in
           record {
