@@ -54,7 +54,12 @@ fn load_counted(out: &mut [u8], p: Cursor, g: Shape, kinds: &[u8], v: u64, n: u6
     let counter = p.counter + linked(kinds, n) + 2;
     let end = counter as u32;
     let l = end - 1;
-    let q = emit::cursor::emit2(out, p, Row(number::CMPIM, r, 0, 0, 0, 0), Row(JEL, 0, 0, l, 0, 0));
+    let q = emit::cursor::emit2(
+        out,
+        p,
+        Row(number::CMPIM, r, 0, 0, 0, 0),
+        Row(JEL, 0, 0, l, 0, 0),
+    );
     let s = load_shared(out, q, g, kinds, v, n, r);
     let t = emit::cursor::emit2(out, s, Row(JMPL, 0, 0, end, 0, 0), Row(LAB, 0, 0, l, 0, 0));
     let u = memory_load_blocks::load_some(
