@@ -159,7 +159,7 @@ module _ (words : ℕ → ℕ) (p : List Code) where
   unfolding runs
   runs_deep zero made i c = on_record_lem c.state.depth (get_elem? p i) _ _ refl (λ x. refl)
   runs_deep (suc left) made i c =
-      on_record_lem c.state.depth (get_elem? p i) _ _ refl (λ x. follow_deep p made i c _ (step words x c) (step_deep words x c) (λ j d. runs_deep left (suc made) j d))
+      on_record_lem c.state.depth (get_elem? p i) _ _ refl (λ x. follow_deep p made i c (λ j d. runs words p left (suc made) j d) (step words x c) (step_deep words x c) (λ j d. runs_deep left (suc made) j d))
 
   -- with no step left, the last configuration is the one given
   last_here : (made i : ℕ) (d : Config) → (runs words p 0 made i d).last ≡ d
