@@ -34,7 +34,7 @@ pub struct Channel {
 }
 
 // The channel after an order, its answer, and how its run ended.
-#[derive(Clone, Copy)]
+#[derive(Drop)]
 pub struct Played {
     pub channel: Channel,
     pub answer: OrderAnswer,
