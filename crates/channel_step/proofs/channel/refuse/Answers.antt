@@ -1,0 +1,5 @@
+use Rattle.channel_step.proofs.Played.{refused_stays}
+use Rattle.channel_step.proofs.channel.refuse.Goals as goal
+
+pub returns : goal.returns
+returns c = refused_stays c.requires c.ask-answer.ensures
