@@ -7,8 +7,7 @@ use Rattle.layout.proofs.Placing.{base_supported, larger_supported}
 use Rattle.order_spec.specs.Plain.{plainly}
 use Rattle.soundness.proofs.AllStored.{held, next_refused, Stores, all_stored, after_all}
 use Rattle.soundness.specs.Larger.{store_all, LargerListIsSound}
-use Rattle.soundness.proofs.larger_list_is_sound.Statement.{statement}
-use Rattle.soundness.proofs.larger_list_is_sound.Tie as tie
+use Rattle.soundness.proofs.larger_list_is_sound.Goals as goal
 
 stores_all : Stores 200 9 store_all
 unfolding store_all order_bytes le number order_in order_of order_readers order_ok order_operands_ok used_by_order order_starts
@@ -26,8 +25,5 @@ holds =
       refused_in_larger = next_refused larger larger_supported 2 (omega arith) (omega arith);
     }
 
-returns : tie.Need-returns
+pub returns : goal.returns
 returns c = holds
-
-pub larger_list_is_sound_spec : {M : Type 1} → statement M
-larger_list_is_sound_spec = tie.close (tie.spec returns)

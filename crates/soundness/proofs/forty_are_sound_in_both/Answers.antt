@@ -7,8 +7,7 @@ use Rattle.layout.proofs.Placing.{base_supported, second_supported}
 use Rattle.order_spec.specs.Plain.{plainly}
 use Rattle.soundness.proofs.AllStored.{Stores, all_stored, after_all}
 use Rattle.soundness.specs.Second.{store_forty, FortyAreSoundInBoth}
-use Rattle.soundness.proofs.forty_are_sound_in_both.Statement.{statement}
-use Rattle.soundness.proofs.forty_are_sound_in_both.Tie as tie
+use Rattle.soundness.proofs.forty_are_sound_in_both.Goals as goal
 
 stores_forty : Stores 40 9 store_forty
 unfolding store_forty order_bytes le number order_in order_of order_readers order_ok order_operands_ok used_by_order order_starts
@@ -26,8 +25,5 @@ holds =
       second_after = after_all second second_supported store_forty stores_forty (omega arith) (omega arith) (omega arith) 9 (omega arith) (omega arith);
     }
 
-returns : tie.Need-returns
+pub returns : goal.returns
 returns c = holds
-
-pub forty_are_sound_in_both_spec : {M : Type 1} → statement M
-forty_are_sound_in_both_spec = tie.close (tie.spec returns)
