@@ -7,9 +7,9 @@ ghost use Rattle.std.specs.Prelude.{◌<◌, ◌≤◌};
 
 use channel_step::channel::Channel;
 use heap_chains::Counted;
-use libc::{STDERR_FILENO, STDIN_FILENO, STDOUT_FILENO};
 use order_spec::answer::OrderAnswer;
 use program_options::{Heard, Options, Said};
+use std::io::{Print, Read};
 
 // What print calls leave in registers: nothing depends on it.
 const LEFT: u64 = 0x5A5A5A5A5A5A5A5A;
@@ -37,14 +37,14 @@ fn start(edition: u64, frame: u64) -> Going {
     }
 }
 
-fn show_on(file: i32, text: &[u8], size: usize) {
+fn show_on(file: &impl Print, text: &[u8], size: usize) {
     if size <= text.len() {
-        io::write_all(file, &text[..size]);
+        program_files::write(file, &text[..size]);
     }
 }
 
-fn show(text: &[u8], size: usize) {
-    show_on(STDOUT_FILENO, text, size);
+fn show(rt: &HostRuntime, text: &[u8], size: usize) {
+    show_on(rt, text, size);
 }
 
 // Where a listing of 2,730 records ends, or all of them.
@@ -59,12 +59,12 @@ fn listing_end(from: usize, end: usize) -> usize
 }
 
 // Instructions, at most 2,730 to a listing.
-fn list(records: &[u8], text: &mut [u8]) {
+fn list(rt: &HostRuntime, records: &[u8], text: &mut [u8]) {
     let mut from = 0;
     while from < records.len() {
         let end = listing_end(from, records.len());
         let size = listing::print_records(&records[from..end], text);
-        show(text, size);
+        show(rt, text, size);
         from = end;
     }
 }
@@ -78,26 +78,26 @@ fn is_ended(ran: machine::run::RunAnswer) -> bool {
     }
 }
 
-fn tell(frame: u64, number: u64, order: &[u8], before: u64, answer: OrderAnswer) {
+fn tell(rt: &HostRuntime, frame: u64, number: u64, order: &[u8], before: u64, answer: OrderAnswer) {
     let mut line = [0u8; 256];
     let size = report::answers::put_order(&mut line, 0, frame, number, order, before, answer);
-    show(&line, size);
+    show(rt, &line, size);
 }
 
-fn tell_stop(number: u64, order: &[u8], ran: machine::run::RunAnswer) {
+fn tell_stop(rt: &HostRuntime, number: u64, order: &[u8], ran: machine::run::RunAnswer) {
     let mut line = [0u8; 256];
     let size = report::stops::put_stop(&mut line, 0, number, order, ran);
-    show(&line, size);
+    show(rt, &line, size);
 }
 
 // The first of them, if asked.
-fn list_first(records: &[u8], count: usize, text: &mut [u8], listed: bool) {
+fn list_first(rt: &HostRuntime, records: &[u8], count: usize, text: &mut [u8], listed: bool) {
     if !listed {
         return;
     }
     if count <= records.len() / 24 {
         let end = 24 * count;
-        list(&records[..end], text);
+        list(rt, &records[..end], text);
     }
 }
 
@@ -129,6 +129,7 @@ fn print(
 
 // An order that was accepted, with so many records.
 fn accepted(
+    rt: &HostRuntime,
     order: &[u8],
     records: &[u8],
     text: &mut [u8],
@@ -141,13 +142,14 @@ fn accepted(
     let channel = g.channel;
     let registers = channel.registers;
     let stack = channel.stack;
-    list_first(records, count, text, listed);
-    tell_stop(g.number, order, ran);
+    list_first(rt, records, count, text, listed);
+    tell_stop(rt, g.number, order, ran);
     print(prints, g.printed, channel.frame, order, &registers, &stack)
 }
 
 // One order with its bindings; the next starts at `next`.
 fn item(
+    rt: &HostRuntime,
     order: &[u8],
     bindings: &[u8],
     heap: &mut [u64],
@@ -165,7 +167,7 @@ fn item(
     let answer = played.answer;
     let ran = played.ran;
     let channel = played.channel;
-    tell(channel.frame, g.number, order, g.counter, answer);
+    tell(rt, channel.frame, g.number, order, g.counter, answer);
     let OrderAnswer::Accepted(count, counter, _) = answer else {
         return Going {
             at: next,
@@ -176,7 +178,7 @@ fn item(
             channel,
         };
     };
-    let printed = accepted(order, records, text, prints, listed, g, count, ran);
+    let printed = accepted(rt, order, records, text, prints, listed, g, count, ran);
     Going {
         at: next,
         number: word::sum(g.number, 1),
@@ -189,6 +191,7 @@ fn item(
 
 // The order at the byte that was reached, if there is one.
 fn turn(
+    rt: &HostRuntime,
     input: &[u8],
     heap: &mut [u64],
     records: &mut [u8],
@@ -208,6 +211,7 @@ fn turn(
     let middle = found.order_end;
     let end = found.end;
     item(
+        rt,
         &input[at..middle],
         &input[middle..end],
         heap,
@@ -222,6 +226,7 @@ fn turn(
 
 // All orders of a list, up to a run that does not end. All but the last have 24 bytes at least.
 fn play(
+    rt: &HostRuntime,
     input: &[u8],
     heap: &mut [u64],
     records: &mut [u8],
@@ -234,26 +239,27 @@ fn play(
     let mut g = start(edition, frame);
     let mut left = input.len() / 24 + 1;
     while 0 < left {
-        g = turn(input, heap, records, text, prints, listed, g);
+        g = turn(rt, input, heap, records, text, prints, listed, g);
         left -= 1;
     }
     g
 }
 
-fn show_prints(prints: &[u8], printed: usize) {
-    io::write_all(STDOUT_FILENO, b"printed\n");
-    show(prints, printed);
+fn show_prints(rt: &HostRuntime, prints: &[u8], printed: usize) {
+    program_files::write(rt, b"printed\n");
+    show(rt, prints, printed);
     if printed == 0 {
         return;
     }
     if printed <= prints.len() {
         if prints[printed - 1] != b'\n' {
-            io::write_all(STDOUT_FILENO, b"\n");
+            program_files::write(rt, b"\n");
         }
     }
 }
 
 fn show_context(
+    rt: &HostRuntime,
     context: &[u8],
     used: usize,
     edition: u64,
@@ -276,16 +282,17 @@ fn show_context(
             registers,
             &stack[..words],
         );
-        show(text, size);
+        show(rt, text, size);
     }
 }
 
-fn show_variables(channel: Channel, text: &mut [u8]) {
-    io::write_all(STDOUT_FILENO, b"variables\n");
+fn show_variables(rt: &HostRuntime, channel: Channel, text: &mut [u8]) {
+    program_files::write(rt, b"variables\n");
     let context = channel.context;
     let registers = channel.registers;
     let stack = channel.stack;
     show_context(
+        rt,
         &context,
         channel.used,
         channel.edition,
@@ -296,7 +303,7 @@ fn show_variables(channel: Channel, text: &mut [u8]) {
     );
 }
 
-fn show_blocks(channel: Channel, heap: &[u64]) {
+fn show_blocks(rt: &HostRuntime, channel: Channel, heap: &[u64]) {
     let registers = channel.registers;
     let Counted::Of(blocks) = heap_chains::count_blocks(channel.edition, &registers, heap) else {
         return;
@@ -310,16 +317,24 @@ fn show_blocks(channel: Channel, heap: &[u64]) {
         blocks.held,
         blocks.untouched,
     );
-    show(&line, size);
+    show(rt, &line, size);
 }
 
 // A list played on a channel of its own: 8,192 blocks, or 4,096 of the second edition, the records of the largest order, a store of 261 linked variables, and more
 // than the 10,922 orders of the longest list can print.
-fn channel(input: &[u8], text: &mut [u8], listed: bool, edition: u64, frame: u64) {
+fn channel(
+    rt: &HostRuntime,
+    input: &[u8],
+    text: &mut [u8],
+    listed: bool,
+    edition: u64,
+    frame: u64,
+) {
     let mut heap = [0u64; 65536];
     let mut records = [0u8; channel_step::channel::RECORDS];
     let mut prints = [0u8; 262144];
     let g = play(
+        rt,
         input,
         &mut heap,
         &mut records,
@@ -330,39 +345,38 @@ fn channel(input: &[u8], text: &mut [u8], listed: bool, edition: u64, frame: u64
         frame,
     );
     let last = g.channel;
-    show_prints(&prints, g.printed);
+    show_prints(rt, &prints, g.printed);
     if g.stopped {
         return;
     }
-    show_variables(last, text);
-    show_blocks(last, &heap);
+    show_variables(rt, last, text);
+    show_blocks(rt, last, &heap);
 }
 
 // What can be read of a file, played.
-fn channel_from(file: i32, listed: bool, edition: u64, frame: u64) {
+fn channel_from<R: Read>(rt: &HostRuntime, file: &mut R, listed: bool, edition: u64, frame: u64) {
     let mut input = [0u8; 262145];
     let mut text = [0u8; listing::LONGEST];
-    let n = io::read_full(file, &mut input);
+    let n = program_files::read_full(file, &mut input);
     if 262144 < n {
-        io::write_all(
-            STDERR_FILENO,
+        program_files::write(
+            &rt.stderr(),
             b"a list of more than 262144 bytes is not played\n",
         );
         return;
     }
-    channel(&input[..n], &mut text, listed, edition, frame);
+    channel(rt, &input[..n], &mut text, listed, edition, frame);
 }
 
-fn channel_of(name: &[u8], listed: bool, edition: u64, frame: u64) {
-    let file = os::open_read(name);
-    if file < 0 {
-        os::fail(name);
-        return;
+fn channel_of(rt: &HostRuntime, name: &[u8], listed: bool, edition: u64, frame: u64) {
+    match program_files::open_read(rt, name) {
+        Ok(mut file) => {
+            program_files::write(rt, name);
+            program_files::write(rt, b"\n");
+            channel_from(rt, &mut file, listed, edition, frame);
+        }
+        Err(error) => program_files::fail(rt, name, error),
     }
-    io::write_all(STDOUT_FILENO, name);
-    io::write_all(STDOUT_FILENO, b"\n");
-    channel_from(file, listed, edition, frame);
-    libc::close(file);
 }
 
 // What the arguments asked so far: an edition and a frame, instructions, and whether a file was named.
@@ -374,17 +388,17 @@ struct Asked {
 }
 
 // What is wrong with an edition or a frame.
-fn warn(said: Said) {
+fn warn(rt: &HostRuntime, said: Said) {
     let mut line = [0u8; 32];
     let size = program_options::put_said(&mut line, 0, said);
-    show_on(STDERR_FILENO, &line, size);
+    show_on(&rt.stderr(), &line, size);
 }
 
 // A list is played where there are such an edition and such a frame.
-fn play_file(name: &[u8], a: Asked) -> Asked {
+fn play_file(rt: &HostRuntime, name: &[u8], a: Asked) -> Asked {
     let chosen = a.options;
     if program_options::is_played(chosen) {
-        channel_of(name, a.listed, chosen.edition, chosen.frame);
+        channel_of(rt, name, a.listed, chosen.edition, chosen.frame);
     }
     Asked {
         options: chosen,
@@ -393,8 +407,8 @@ fn play_file(name: &[u8], a: Asked) -> Asked {
     }
 }
 
-fn read_other(word: &[u8], a: Asked) -> Asked {
-    if check::same(word, b"listing") {
+fn read_other(rt: &HostRuntime, word: &[u8], a: Asked) -> Asked {
+    if word == b"listing".as_slice() {
         let chosen = a.options;
         return Asked {
             options: chosen,
@@ -402,31 +416,31 @@ fn read_other(word: &[u8], a: Asked) -> Asked {
             named: a.named,
         };
     }
-    play_file(word, a)
+    play_file(rt, word, a)
 }
 
-fn read_word(word: &[u8], a: Asked) -> Asked {
+fn read_word(rt: &HostRuntime, word: &[u8], a: Asked) -> Asked {
     match program_options::hear(word, a.options) {
         Heard::Choice(chosen, said) => {
-            warn(said);
+            warn(rt, said);
             Asked {
                 options: chosen,
                 listed: a.listed,
                 named: a.named,
             }
         }
-        Heard::Other => read_other(word, a),
+        Heard::Other => read_other(rt, word, a),
     }
 }
 
-fn read_argument(i: usize, a: Asked) -> Asked {
-    let mut word = io::buffer();
-    let n = os::arg(i, &mut word);
-    read_word(&word[..n], a)
+fn read_argument(rt: &HostRuntime, i: usize, a: Asked) -> Asked {
+    let mut word = [0u8; 4096];
+    let n = program_files::arg(rt, i, &mut word);
+    read_word(rt, &word[..n], a)
 }
 
 // The files are played as they are named.
-fn read_arguments(count: usize) -> Asked {
+fn read_arguments(rt: &HostRuntime, count: usize) -> Asked {
     let mut a = Asked {
         options: program_options::at_first(),
         listed: false,
@@ -434,20 +448,20 @@ fn read_arguments(count: usize) -> Asked {
     };
     let mut i = 1;
     while i < count {
-        a = read_argument(i, a);
+        a = read_argument(rt, i, a);
         i += 1;
     }
     a
 }
 
-fn main() {
-    let a = read_arguments(os::arg_count());
+fn main(rt: HostRuntime) {
+    let a = read_arguments(&rt, program_files::arg_count(&rt));
     let chosen = a.options;
-    warn(program_options::still_to_come(chosen));
+    warn(&rt, program_options::still_to_come(chosen));
     if a.named {
         return;
     }
     if program_options::is_played(chosen) {
-        channel_from(STDIN_FILENO, a.listed, chosen.edition, chosen.frame);
+        channel_from(&rt, &mut rt.stdin(), a.listed, chosen.edition, chosen.frame);
     }
 }

@@ -23,7 +23,7 @@ pub const RECORDS: usize = 202464;
 
 // The context's bytes, of which the first `used` count, beside the machine's state: of the stack the frame's words count, its number of spills and 64. The heap
 // is lent, of the edition's blocks.
-#[derive(Drop)]
+#[derive(Clone, Copy)]
 pub struct Channel {
     pub edition: u64,
     pub frame: u64,
@@ -34,7 +34,7 @@ pub struct Channel {
 }
 
 // The channel after an order, its answer, and how its run ended.
-#[derive(Drop)]
+#[derive(Clone, Copy)]
 pub struct Played {
     pub channel: Channel,
     pub answer: OrderAnswer,

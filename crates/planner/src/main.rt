@@ -2,39 +2,38 @@
 // standard error.
 #![tactic(auto)]
 
-use libc::{STDERR_FILENO, STDIN_FILENO, STDOUT_FILENO};
 use plan::Planned;
 use plan_line::wrong::Wrong;
 
-fn say_wrong(line: usize, wrong: Wrong) {
+fn say_wrong(rt: &HostRuntime, line: usize, wrong: Wrong) {
     let mut message = [0u8; 59];
     let size = plan::put_wrong(&mut message, 0, line, wrong);
-    io::write_all(STDERR_FILENO, &message[..size]);
+    program_files::write(&rt.stderr(), &message[..size]);
 }
 
 // The records of a text, by way of `records`, or what is wrong with it.
-fn write_plan(text: &[u8], records: &mut [u8]) {
+fn write_plan(rt: &HostRuntime, text: &[u8], records: &mut [u8]) {
     match plan::plan(text, records) {
         Planned::Written(size) => {
-            io::write_all(STDOUT_FILENO, &records[..size]);
+            program_files::write(rt, &records[..size]);
         }
         Planned::Bad(line, wrong) => {
-            say_wrong(line, wrong);
+            say_wrong(rt, line, wrong);
         }
         Planned::Room(_) => {
-            io::write_all(STDERR_FILENO, b"records longer than 655360 bytes\n");
+            program_files::write(&rt.stderr(), b"records longer than 655360 bytes\n");
         }
         Planned::Long => {
-            io::write_all(STDERR_FILENO, b"text longer than 131072 bytes\n");
+            program_files::write(&rt.stderr(), b"text longer than 131072 bytes\n");
         }
     }
 }
 
-fn main() {
+fn main(rt: HostRuntime) {
     // One byte more than a text may have.
     let mut text = [0u8; 131073];
-    let n = io::read_full(STDIN_FILENO, &mut text);
+    let n = program_files::read_full(&mut rt.stdin(), &mut text);
     // Five bytes of records for each byte of text: 24 bytes stand for at least `drop` and its newline, 8 for ` e`.
     let mut records = [0u8; 655360];
-    write_plan(&text[..n], &mut records);
+    write_plan(&rt, &text[..n], &mut records);
 }

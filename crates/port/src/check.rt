@@ -3,8 +3,7 @@ ghost use Rattle.std.specs.Prelude.{◌≡◌, [], ◌∷◌};
 ghost use Rattle.port.specs.Check.{check_numbers};
 
 // 1 a context, 2 a list of instruction records, 3 an order.
-#[unsafe(no_mangle)]
-pub extern "C" fn axcut_check(kind: u64, bytes: &[u8], place: &mut u64) -> u64
+pub fn axcut_check(kind: u64, bytes: &[u8], place: &mut u64) -> u64
     ensures { result ∷ place.new ∷ [] ≡ check_numbers kind bytes.now }
 {
     match kind {

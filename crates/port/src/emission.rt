@@ -8,8 +8,7 @@ ghost use Rattle.port_numbers.specs.Emission.{counter_after, operation_numbered,
 ghost use Rattle.port.specs.Emission.{Tells, TellsRoutine};
 
 // The operations of code.rs but print_i64. Operands stand in the Rust's sequence, the target first; those that an operation lacks are not read.
-#[unsafe(no_mangle)]
-pub extern "C" fn axcut_operation(
+pub fn axcut_operation(
     frame: u64,
     operation: u64,
     first: u64,
@@ -31,8 +30,7 @@ pub extern "C" fn axcut_operation(
 
 // The operations of memory.rs: erase_block and share_block_n of an operand; a store of the context's last n variables and a load after the context, in the blocks
 // of an edition.
-#[unsafe(no_mangle)]
-pub extern "C" fn axcut_memory(
+pub fn axcut_memory(
     edition: u64,
     frame: u64,
     operation: u64,
@@ -56,8 +54,7 @@ pub extern "C" fn axcut_memory(
     port_numbers::emission::told(answer, value)
 }
 
-#[unsafe(no_mangle)]
-pub extern "C" fn axcut_print(
+pub fn axcut_print(
     frame: u64,
     newline: bool,
     source: u64,
@@ -71,8 +68,7 @@ pub extern "C" fn axcut_print(
     port_numbers::emission::told(answer, value)
 }
 
-#[unsafe(no_mangle)]
-pub extern "C" fn axcut_routine(
+pub fn axcut_routine(
     edition: u64,
     frame: u64,
     body: &[u8],

@@ -1,4 +1,4 @@
-// The library for C and Rust. A function answers the scope's number, 0 where its input is accepted; a value goes out beside it.
+// The library: what port_c exports to C and Rust. A function answers the scope's number, 0 where its input is accepted; a value goes out beside it.
 #![tactic(auto)]
 
 ghost use Rattle.std.specs.Prelude.{◌≡◌, [], ◌∷◌, length, replicate};
@@ -24,8 +24,7 @@ use records::check::Checked;
 use records::code;
 
 // The listing of at most 2,730 records: its bytes, the place of a bad record, or the bytes needed.
-#[unsafe(no_mangle)]
-pub extern "C" fn axcut_list(records: &[u8], text: &mut [u8], value: &mut u64) -> u64
+pub fn axcut_list(records: &[u8], text: &mut [u8], value: &mut u64) -> u64
     ensures number { result ≡ number_in (listed_numbers (listed code_names records.now (length text.old))) }
     ensures value { value.new ≡ value_in (listed_numbers (listed code_names records.now (length text.old))) }
     ensures written { text.new ≡ stored text.old 0 (listed_text code_names records.now) }
@@ -56,8 +55,7 @@ fn clear(stack: &mut [u64])
 }
 
 // The state with which a routine is entered, or that a list of orders starts from, on a stack of the frame's words.
-#[unsafe(no_mangle)]
-pub extern "C" fn axcut_start(
+pub fn axcut_start(
     edition: u64,
     frame: u64,
     fresh: bool,
@@ -97,8 +95,7 @@ fn unrun(block: usize, records: &[u8], heap: usize, steps: &mut u64, place: &mut
 }
 
 // The scope's run on a lent state, a heap of the edition's blocks and print words: the answer's number, with the steps and the record's place that go with it.
-#[unsafe(no_mangle)]
-pub extern "C" fn axcut_run(
+pub fn axcut_run(
     edition: u64,
     frame: u64,
     records: &[u8],
@@ -130,13 +127,7 @@ pub extern "C" fn axcut_run(
 }
 
 // The blocks of a channel's heap between two runs, counted, and the most that were reachable at once.
-#[unsafe(no_mangle)]
-pub extern "C" fn axcut_blocks(
-    edition: u64,
-    registers: &[u64; 16],
-    heap: &[u64],
-    counts: &mut [u64; 5],
-) -> u64
+pub fn axcut_blocks(edition: u64, registers: &[u64; 16], heap: &[u64], counts: &mut [u64; 5]) -> u64
     ensures { TellsBlocks (edition_of edition) (length heap.now) (words_of heap.now) (words_of registers.now HEAP) (words_of registers.now FREE) result counts.old counts.new }
 {
     let Choice::Of(g) = config::edition_of(edition) else {

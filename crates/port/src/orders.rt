@@ -4,8 +4,7 @@ ghost use Rattle.layout.specs.Config.{shape_of};
 ghost use Rattle.port.specs.Order.{TellsOrder};
 
 // Its records go into one output, the context after it into the other.
-#[unsafe(no_mangle)]
-pub extern "C" fn axcut_order(
+pub fn axcut_order(
     edition: u64,
     frame: u64,
     context: &[u8],

@@ -7,8 +7,7 @@ use layout::config::Choice;
 
 // 1 the operand of a position, 2 the fresh temporary past a context, 3 the temporary of a variable by its id, 4 a spill's offset from STACK,
 // 5 a field's offset in a block, whatever the frame. `at` is the position, the spill's word or the field.
-#[unsafe(no_mangle)]
-pub extern "C" fn axcut_query(
+pub fn axcut_query(
     edition: u64,
     frame: u64,
     query: u64,

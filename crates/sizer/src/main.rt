@@ -7,9 +7,9 @@ ghost use Rattle.std.specs.Prelude.{◌-◌, ◌≤◌, length};
 
 use channel_step::channel::Channel;
 use heap_chains::Fitted;
-use libc::{STDERR_FILENO, STDIN_FILENO, STDOUT_FILENO};
 use order_spec::answer::OrderAnswer;
 use program_options::{Heard, Options, Said};
+use std::io::{Print, Read};
 
 // What print calls leave in registers: nothing depends on it.
 const LEFT: u64 = 0x5A5A5A5A5A5A5A5A;
@@ -35,26 +35,33 @@ fn start(edition: u64, frame: u64) -> Going {
     }
 }
 
-fn show_on(file: i32, text: &[u8], size: usize) {
+fn show_on(file: &impl Print, text: &[u8], size: usize) {
     if size <= text.len() {
-        io::write_all(file, &text[..size]);
+        program_files::write(file, &text[..size]);
     }
 }
 
-fn show(text: &[u8], size: usize) {
-    show_on(STDOUT_FILENO, text, size);
+fn show(rt: &HostRuntime, text: &[u8], size: usize) {
+    show_on(rt, text, size);
 }
 
 // The line of a run that did not end, and whether there is one.
-fn tell_stop(number: u64, order: &[u8], ran: machine::run::RunAnswer) -> bool {
+fn tell_stop(rt: &HostRuntime, number: u64, order: &[u8], ran: machine::run::RunAnswer) -> bool {
     let mut line = [0u8; 256];
     let size = report::stops::put_stop(&mut line, 0, number, order, ran);
-    show(&line, size);
+    show(rt, &line, size);
     0 < size
 }
 
 // One order with its bindings. Each is given the counter 0, so that labels never run out.
-fn item(order: &[u8], bindings: &[u8], heap: &mut [u64], records: &mut [u8], g: Going) -> Going {
+fn item(
+    rt: &HostRuntime,
+    order: &[u8],
+    bindings: &[u8],
+    heap: &mut [u64],
+    records: &mut [u8],
+    g: Going,
+) -> Going {
     let before = g.channel;
     let played = channel_step::channel::play(before, heap, records, 0, order, bindings, [LEFT; 9]);
     let answer = played.answer;
@@ -70,7 +77,7 @@ fn item(order: &[u8], bindings: &[u8], heap: &mut [u64], records: &mut [u8], g: 
         };
     };
     let accepted = word::sum(g.accepted, 1);
-    let stopped = tell_stop(word::sum(accepted, g.refused), order, ran);
+    let stopped = tell_stop(rt, word::sum(accepted, g.refused), order, ran);
     Going {
         accepted,
         refused: g.refused,
@@ -81,16 +88,16 @@ fn item(order: &[u8], bindings: &[u8], heap: &mut [u64], records: &mut [u8], g: 
 }
 
 // At most so many bytes of the file, as far as there is space: how many were read.
-fn read_some(file: i32, space: &mut [u8], bytes: usize) -> usize
+fn read_some<R: Read>(file: &mut R, space: &mut [u8], bytes: usize) -> usize
     ensures upper_bound { result ≤ bytes }
     ensures upper_bound_2 { result ≤ length space.old }
 {
     let size = records::bytes::least(bytes, space.len());
-    io::read_full(file, &mut space[..size])
+    program_files::read_full(file, &mut space[..size])
 }
 
 // Some of the bytes left are read over: how many are left then, none where the file ends.
-fn pass(file: i32, space: &mut [u8], left: usize) -> usize
+fn pass<R: Read>(file: &mut R, space: &mut [u8], left: usize) -> usize
     ensures { result ≤ left - 1 }
 {
     let n = read_some(file, space, left);
@@ -101,7 +108,7 @@ fn pass(file: i32, space: &mut [u8], left: usize) -> usize
 }
 
 // Bindings past those that any order takes.
-fn skip(file: i32, space: &mut [u8], bytes: usize) {
+fn skip<R: Read>(file: &mut R, space: &mut [u8], bytes: usize) {
     let mut left = bytes;
     while 0 < left {
         left = pass(file, space, left);
@@ -109,9 +116,16 @@ fn skip(file: i32, space: &mut [u8], bytes: usize) {
 }
 
 // The next order of the file, if there is one, and the bindings that follow it.
-fn turn(file: i32, heap: &mut [u64], records: &mut [u8], bindings: &mut [u8], g: Going) -> Going {
+fn turn<R: Read>(
+    rt: &HostRuntime,
+    file: &mut R,
+    heap: &mut [u64],
+    records: &mut [u8],
+    bindings: &mut [u8],
+    g: Going,
+) -> Going {
     let mut order = [0u8; 24];
-    let n = io::read_full(file, &mut order);
+    let n = program_files::read_full(file, &mut order);
     if n == 0 {
         let channel = g.channel;
         return Going {
@@ -124,14 +138,15 @@ fn turn(file: i32, heap: &mut [u64], records: &mut [u8], bindings: &mut [u8], g:
     }
     let bytes = channel_step::list::bytes_after(records::order::read_order(&order[..n]));
     let m = read_some(file, bindings, bytes);
-    let next = item(&order[..n], &bindings[..m], heap, records, g);
+    let next = item(rt, &order[..n], &bindings[..m], heap, records, g);
     skip(file, bindings, bytes - m);
     next
 }
 
 // All orders of a file, up to a run that does not end.
-fn play(
-    file: i32,
+fn play<R: Read>(
+    rt: &HostRuntime,
+    file: &mut R,
     heap: &mut [u64],
     records: &mut [u8],
     bindings: &mut [u8],
@@ -144,13 +159,13 @@ fn play(
         if g.on {} else {
             return g;
         }
-        g = turn(file, heap, records, bindings, g);
+        g = turn(rt, file, heap, records, bindings, g);
         left -= 1;
     }
     g
 }
 
-fn show_fit(g: Going, heap: &[u64]) {
+fn show_fit(rt: &HostRuntime, g: Going, heap: &[u64]) {
     let channel = g.channel;
     let registers = channel.registers;
     let Fitted::Of(fit) = heap_chains::to_fit(channel.edition, &registers, heap) else {
@@ -160,31 +175,38 @@ fn show_fit(g: Going, heap: &[u64]) {
     let size = report::put_fit(
         &mut lines, 0, g.accepted, g.refused, fit.peak, fit.blocks, fit.bytes,
     );
-    show(&lines, size);
+    show(rt, &lines, size);
 }
 
 // A file's list on a channel of its own: the records of the largest order, a store of 261 linked variables, and one binding more than any order takes.
-fn size_from(file: i32, edition: u64, frame: u64) {
+fn size_from<R: Read>(rt: &HostRuntime, file: &mut R, edition: u64, frame: u64) {
     let mut heap = [0u64; 524288];
     let mut records = [0u8; channel_step::channel::RECORDS];
     let mut bindings = [0u8; 32776];
-    let g = play(file, &mut heap, &mut records, &mut bindings, edition, frame);
+    let g = play(
+        rt,
+        file,
+        &mut heap,
+        &mut records,
+        &mut bindings,
+        edition,
+        frame,
+    );
     if g.stopped {
         return;
     }
-    show_fit(g, &heap);
+    show_fit(rt, g, &heap);
 }
 
-fn size_of(name: &[u8], edition: u64, frame: u64) {
-    let file = os::open_read(name);
-    if file < 0 {
-        os::fail(name);
-        return;
+fn size_of(rt: &HostRuntime, name: &[u8], edition: u64, frame: u64) {
+    match program_files::open_read(rt, name) {
+        Ok(mut file) => {
+            program_files::write(rt, name);
+            program_files::write(rt, b"\n");
+            size_from(rt, &mut file, edition, frame);
+        }
+        Err(error) => program_files::fail(rt, name, error),
     }
-    io::write_all(STDOUT_FILENO, name);
-    io::write_all(STDOUT_FILENO, b"\n");
-    size_from(file, edition, frame);
-    libc::close(file);
 }
 
 // What the arguments asked so far: an edition and a frame, and whether a file was named.
@@ -195,16 +217,16 @@ struct Asked {
 }
 
 // What is wrong with an edition or a frame.
-fn warn(said: Said) {
+fn warn(rt: &HostRuntime, said: Said) {
     let mut line = [0u8; 32];
     let size = program_options::put_said(&mut line, 0, said);
-    show_on(STDERR_FILENO, &line, size);
+    show_on(&rt.stderr(), &line, size);
 }
 
 // A list is played where there are such an edition and such a frame.
-fn size_file(name: &[u8], chosen: Options) -> Asked {
+fn size_file(rt: &HostRuntime, name: &[u8], chosen: Options) -> Asked {
     if program_options::is_played(chosen) {
-        size_of(name, chosen.edition, chosen.frame);
+        size_of(rt, name, chosen.edition, chosen.frame);
     }
     Asked {
         options: chosen,
@@ -212,47 +234,47 @@ fn size_file(name: &[u8], chosen: Options) -> Asked {
     }
 }
 
-fn read_word(word: &[u8], a: Asked) -> Asked {
+fn read_word(rt: &HostRuntime, word: &[u8], a: Asked) -> Asked {
     match program_options::hear(word, a.options) {
         Heard::Choice(chosen, said) => {
-            warn(said);
+            warn(rt, said);
             Asked {
                 options: chosen,
                 named: a.named,
             }
         }
-        Heard::Other => size_file(word, a.options),
+        Heard::Other => size_file(rt, word, a.options),
     }
 }
 
-fn read_argument(i: usize, a: Asked) -> Asked {
-    let mut word = io::buffer();
-    let n = os::arg(i, &mut word);
-    read_word(&word[..n], a)
+fn read_argument(rt: &HostRuntime, i: usize, a: Asked) -> Asked {
+    let mut word = [0u8; 4096];
+    let n = program_files::arg(rt, i, &mut word);
+    read_word(rt, &word[..n], a)
 }
 
 // The files are played as they are named.
-fn read_arguments(count: usize) -> Asked {
+fn read_arguments(rt: &HostRuntime, count: usize) -> Asked {
     let mut a = Asked {
         options: program_options::at_first(),
         named: false,
     };
     let mut i = 1;
     while i < count {
-        a = read_argument(i, a);
+        a = read_argument(rt, i, a);
         i += 1;
     }
     a
 }
 
-fn main() {
-    let a = read_arguments(os::arg_count());
+fn main(rt: HostRuntime) {
+    let a = read_arguments(&rt, program_files::arg_count(&rt));
     let chosen = a.options;
-    warn(program_options::still_to_come(chosen));
+    warn(&rt, program_options::still_to_come(chosen));
     if a.named {
         return;
     }
     if program_options::is_played(chosen) {
-        size_from(STDIN_FILENO, chosen.edition, chosen.frame);
+        size_from(&rt, &mut rt.stdin(), chosen.edition, chosen.frame);
     }
 }

@@ -9,7 +9,6 @@ mod request; // a request and the Rust's answer as bytes
 
 use crate::agree::Agreed;
 use crate::request::Request;
-use libc::{STDIN_FILENO, STDOUT_FILENO};
 
 // More requests than are stored.
 const MOST: u64 = 1000000;
@@ -21,21 +20,27 @@ struct Tally {
 }
 
 // What follows a head: the contexts or the body, as long as the buffers.
-fn replay_filled(out: &mut [u8], r: Request, first: &mut [u8], second: &mut [u8]) -> Agreed {
-    let n = io::read_full(STDIN_FILENO, first);
+fn replay_filled(
+    rt: &HostRuntime,
+    out: &mut [u8],
+    r: Request,
+    first: &mut [u8],
+    second: &mut [u8],
+) -> Agreed {
+    let n = program_files::read_full(&mut rt.stdin(), first);
     if n < first.len() {
         return Agreed::No;
     }
-    let m = io::read_full(STDIN_FILENO, second);
+    let m = program_files::read_full(&mut rt.stdin(), second);
     if m < second.len() {
         return Agreed::No;
     }
     agree::replay(out, r, first, second)
 }
 
-fn replay_one(out: &mut [u8], first: &mut [u8], second: &mut [u8]) -> Agreed {
+fn replay_one(rt: &HostRuntime, out: &mut [u8], first: &mut [u8], second: &mut [u8]) -> Agreed {
     let mut head = [0u8; 56];
-    let got = io::read_full(STDIN_FILENO, &mut head);
+    let got = program_files::read_full(&mut rt.stdin(), &mut head);
     if got == 0 {
         return Agreed::Ended;
     }
@@ -51,39 +56,39 @@ fn replay_one(out: &mut [u8], first: &mut [u8], second: &mut [u8]) -> Agreed {
     if second.len() < m {
         return Agreed::No;
     }
-    replay_filled(out, r, &mut first[..n], &mut second[..m])
+    replay_filled(rt, out, r, &mut first[..n], &mut second[..m])
 }
 
-fn report(place: u64) {
-    io::print_decimal(STDOUT_FILENO, place);
-    io::write_all(STDOUT_FILENO, b" differs\n");
+fn report(rt: &HostRuntime, place: u64) {
+    program_files::write_number(rt, place);
+    program_files::write(rt, b" differs\n");
 }
 
 // A proved loop has to end, and nothing says that the input does.
-fn replay_all(out: &mut [u8], first: &mut [u8], second: &mut [u8]) -> Tally {
+fn replay_all(rt: &HostRuntime, out: &mut [u8], first: &mut [u8], second: &mut [u8]) -> Tally {
     let mut replayed = 0;
     let mut differ = 0;
     while replayed < MOST {
-        let agreed = replay_one(out, first, second);
+        let agreed = replay_one(rt, out, first, second);
         if agree::is_ended(agreed) {
             break;
         }
         replayed += 1;
         if agree::is_no(agreed) {
             differ += 1;
-            report(replayed);
+            report(rt, replayed);
         }
     }
     Tally { replayed, differ }
 }
 
-fn main() {
+fn main(rt: HostRuntime) {
     let mut out = [0u8; 262144];
-    let mut first = io::large_buffer();
-    let mut second = io::large_buffer();
-    let tally = replay_all(&mut out, &mut first, &mut second);
-    io::print_decimal(STDOUT_FILENO, tally.replayed);
-    io::write_all(STDOUT_FILENO, b" replayed, ");
-    io::print_decimal(STDOUT_FILENO, tally.differ);
-    io::write_all(STDOUT_FILENO, b" differ\n");
+    let mut first = [0u8; 65536];
+    let mut second = [0u8; 65536];
+    let tally = replay_all(&rt, &mut out, &mut first, &mut second);
+    program_files::write_number(&rt, tally.replayed);
+    program_files::write(&rt, b" replayed, ");
+    program_files::write_number(&rt, tally.differ);
+    program_files::write(&rt, b" differ\n");
 }

@@ -6,7 +6,6 @@
 ghost use Rattle.std.specs.Prelude.{◌≤◌};
 
 use channel_step::channel::{Channel, Played, RECORDS};
-use libc::{STDIN_FILENO, STDOUT_FILENO};
 use order_spec::answer::OrderAnswer;
 use records::bytes;
 
@@ -249,22 +248,23 @@ fn play(edition: u64, frame: u64, input: &[u8], heap: &mut [u64], memory: &mut [
     g.counts
 }
 
-fn print(words: &[u8], number: u64) {
-    io::write_all(STDOUT_FILENO, words);
-    io::print_decimal(STDOUT_FILENO, number);
+fn print(rt: &HostRuntime, words: &[u8], number: u64) {
+    program_files::write(rt, words);
+    program_files::write_number(rt, number);
 }
 
-fn report(counts: Counts, blocks: u64) {
-    print(b"on ", blocks);
-    print(b" blocks: orders ", counts.orders);
-    print(b", accepted ", counts.accepted);
+fn report(rt: &HostRuntime, counts: Counts, blocks: u64) {
+    print(rt, b"on ", blocks);
+    print(rt, b" blocks: orders ", counts.orders);
+    print(rt, b", accepted ", counts.accepted);
     print(
+        rt,
         b", refused ",
         word::difference(counts.orders, counts.accepted),
     );
-    print(b", unsound ", counts.unsound);
-    print(b", faults ", counts.faults);
-    io::write_all(STDOUT_FILENO, b"\n");
+    print(rt, b", unsound ", counts.unsound);
+    print(rt, b", faults ", counts.faults);
+    program_files::write(rt, b"\n");
 }
 
 fn least(x: u64, y: u64) -> u64
@@ -282,34 +282,35 @@ fn words_of(edition: u64, blocks: u64) -> usize
 }
 
 // A list on a zeroed heap of so many blocks. The result is its peak.
-fn play_on(edition: u64, frame: u64, input: &[u8], blocks: u64) -> u64 {
+fn play_on(rt: &HostRuntime, edition: u64, frame: u64, input: &[u8], blocks: u64) -> u64 {
     let mut heap = [0u64; 24000];
     let mut memory = [0u64; test_inspect::table::MEMORY];
     let words = words_of(edition, blocks);
     report(
+        rt,
         play(edition, frame, input, &mut heap[..words], &mut memory),
         blocks,
     );
     test_inspect::heap::peak(&memory)
 }
 
-fn play_list(edition: u64, frame: u64, input: &[u8]) {
-    print(b"edition ", edition);
-    print(b", frame ", frame);
-    io::write_all(STDOUT_FILENO, b"\n");
-    let peak = play_on(edition, frame, input, 1500);
-    print(b"peak ", peak);
-    io::write_all(STDOUT_FILENO, b"\n");
-    play_on(edition, frame, input, word::sum(peak, 2));
-    play_on(edition, frame, input, word::sum(peak, 1));
-    play_on(edition, frame, input, peak);
+fn play_list(rt: &HostRuntime, edition: u64, frame: u64, input: &[u8]) {
+    print(rt, b"edition ", edition);
+    print(rt, b", frame ", frame);
+    program_files::write(rt, b"\n");
+    let peak = play_on(rt, edition, frame, input, 1500);
+    print(rt, b"peak ", peak);
+    program_files::write(rt, b"\n");
+    play_on(rt, edition, frame, input, word::sum(peak, 2));
+    play_on(rt, edition, frame, input, word::sum(peak, 1));
+    play_on(rt, edition, frame, input, peak);
 }
 
 // The next list, after its edition, its frame and its length in bytes, 65,536 at most; whether there is one.
-fn next_list() -> bool {
+fn next_list(rt: &HostRuntime) -> bool {
     let mut head = [0u8; 24];
-    let mut buffer = io::large_buffer();
-    if io::read_full(STDIN_FILENO, &mut head) < 24 {
+    let mut buffer = [0u8; 65536];
+    if program_files::read_full(&mut rt.stdin(), &mut head) < 24 {
         return false;
     }
     let edition = bytes::number8(&head, 0);
@@ -318,15 +319,15 @@ fn next_list() -> bool {
     if 65536 < size {
         return false;
     }
-    let n = io::read_full(STDIN_FILENO, &mut buffer[..size]);
-    play_list(edition, frame, &buffer[..n]);
+    let n = program_files::read_full(&mut rt.stdin(), &mut buffer[..size]);
+    play_list(rt, edition, frame, &buffer[..n]);
     true
 }
 
-fn main() {
+fn main(rt: HostRuntime) {
     let mut left = 0xFFFFFFFFFFFFFFFFu64;
     while 0 < left {
-        if next_list() {} else {
+        if next_list(&rt) {} else {
             return;
         }
         left -= 1;

@@ -1,1 +1,0 @@
-pub mod Lent  -- arrays that a call was lent
