@@ -21,7 +21,7 @@ use Rattle.memory.specs.Blocks.{erase_register, erase_block, share_block}
 use Rattle.memory.specs.Objects.{object_sizes}
 use Rattle.heap.specs.Blocks.{Cell, pointers}
 use Rattle.heap.specs.Counting.{occ}
-use Rattle.heap.proofs.CountingLemmas.{same_self, split, occ_pointers, pointers_length}
+use Rattle.heap.proofs.CountingLemmas.{same_self, occ_pointers, pointers_length}
 use Rattle.heap.proofs.Invariant.{Represents}
 use Rattle.heap.specs.Operations.{Erase, null, with_headers, with_lazy, Share}
 use Rattle.heap.specs.Orders.{drop, Performs, drops}

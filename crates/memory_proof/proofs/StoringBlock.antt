@@ -9,10 +9,9 @@ use lib.ListN.{length}
 use Rattle.trees.specs.Tree.{Tree, seq}
 use Rattle.layout.specs.declared.config.Shape.{Shape}
 use Rattle.layout.specs.Config.{Supported, block_words, link_word, operands}
-use Rattle.machine_step.specs.Step.{Config, end}
+use Rattle.machine_step.specs.Step.{Config}
 use Rattle.machine_step.specs.View.{upd}
 use Rattle.memory.specs.Blocks.{acquire_block}
-use Rattle.memory.specs.Objects.{fst, snd}
 use Rattle.heap.specs.Blocks.{Cell, pointers, children}
 use Rattle.heap.specs.Counting.{occ}
 use Rattle.heap.proofs.CountingLemmas.{same_other, occ_append, occ_pointers}

@@ -17,7 +17,7 @@ use Rattle.memory.specs.Blocks.{store_field}
 use Rattle.memory.specs.Objects.{chunks, store_values, store_other, store_others, store_some, other_sizes, some_sizes}
 use Rattle.heap.specs.Blocks.{Cell, cell, pointers, Memory, Chain}
 use Rattle.heap.specs.Counting.{occ}
-use Rattle.heap.proofs.CountingLemmas.{split, occ_pointers}
+use Rattle.heap.proofs.CountingLemmas.{occ_pointers}
 use Rattle.heap.proofs.Invariant.{Consistent, spare}
 use Rattle.heap.specs.Operations.{StoreObject}
 use Rattle.heap.specs.Reachability.{ReachableCount}

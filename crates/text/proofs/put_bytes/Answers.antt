@@ -1,4 +1,3 @@
-use Prim.Native.Nat.{◌-◌}
 use native.Mathlib.Omega.{arith}
 use Rattle.text.proofs.Putting.{nothing, same_length, one_more, all_put}
 use Rattle.text.proofs.put_bytes.Goals as goal

@@ -1,4 +1,3 @@
-use Prim.Native.Nat.{◌-◌}
 use native.Mathlib.Omega.{arith}
 use Rattle.listing.proofs.Accepted.{few_records, record_whole, record_code}
 use Rattle.listing.proofs.Parts.{no_lines, line_more, all_lines}

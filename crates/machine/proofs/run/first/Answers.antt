@@ -1,5 +1,4 @@
 use borrow.Author.Rules.{rules}
-use Prim.Native.Nat.{◌-◌}
 use mathlib.Core.Path.{refl}
 use Rattle.machine.proofs.Labels.{first_none, first_here, first_later}
 use native.Mathlib.Omega.{arith}

@@ -1,5 +1,4 @@
 use borrow.Author.Rules.{rules}
-use Prim.Native.Nat.{◌-◌}
 use mathlib.Core.Path.{refl, ◌∙◌}
 use Rattle.machine_step.specs.View.{view, words_of}
 use Rattle.machine.proofs.Running.{listed_ok, turned, going_first, going_limit, going_past, going_on, going_ended, going_faulted}

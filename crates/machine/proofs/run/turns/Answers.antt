@@ -1,5 +1,4 @@
 use borrow.Author.Rules.{rules}
-use Prim.Native.Nat.{◌-◌}
 use mathlib.Core.Path.{refl, ap, ◌∙◌}
 use Rattle.machine_step.specs.View.{words_of}
 use Rattle.machine_step.specs.Memory.{heap_ok}

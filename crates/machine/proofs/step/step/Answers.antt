@@ -1,5 +1,4 @@
 use mathlib.Core.Path.{refl, sym, ◌∙◌}
-use lib.ListN.{length-map}
 use Rattle.records.proofs.Answers.{answers_by}
 use Rattle.machine_step.specs.View.{words_of}
 use Rattle.machine.specs.State.{see}

@@ -1,4 +1,3 @@
-use Prim.Native.Nat.{◌-◌}
 use lib.ListN.{drop}
 use Rattle.plan_line.specs.Words.{words_in}
 use Rattle.text.proofs.Putting.{same_length}

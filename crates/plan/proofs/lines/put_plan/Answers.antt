@@ -1,4 +1,3 @@
-use Prim.Native.Nat.{◌-◌}
 use mathlib.Core.Path.{◌∙◌}
 use Rattle.plan_line.specs.declared.words.Sought.TheVariants.{Byte}
 use Rattle.plan_line.specs.Words.{sought_in}

@@ -1,4 +1,3 @@
-use Prim.Native.Nat.{◌-◌}
 use mathlib.Core.Path.{refl, sym, ◌∙◌}
 use Rattle.plan_line.proofs.Digits.{digits_on, no_digit, all_digits_lem}
 use native.Mathlib.Omega.{arith}

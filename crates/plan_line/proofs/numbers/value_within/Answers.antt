@@ -1,4 +1,3 @@
-use Prim.Native.Nat.{◌-◌}
 use mathlib.Core.Path.{refl, ◌∙◌}
 use Rattle.plan_line.proofs.Digits.{value_on, too_large, in_range, out_of_range}
 use native.Mathlib.Omega.{arith}

@@ -1,4 +1,3 @@
-use Prim.Native.Nat.{◌-◌}
 use mathlib.Core.Path.{refl, sym, ◌∙◌}
 use Rattle.plan_line.proofs.Finding.{starts, no_word}
 use Rattle.plan_line.proofs.Loads.{load_ends, other_kind, kind_on, all_counted}

@@ -1,4 +1,3 @@
-use Prim.Native.Nat.{◌-◌}
 use mathlib.Core.Path.{refl, sym, ◌∙◌}
 use Rattle.plan_line.proofs.Searching.{found_here, found_on, found_end}
 use native.Mathlib.Omega.{arith}

@@ -1,4 +1,3 @@
-use Prim.Native.Nat.{◌-◌}
 use mathlib.Core.Path.{refl, sym, ◌∙◌}
 use Rattle.plan_line.proofs.Same.{other_length, same_on, differ, same_all}
 use native.Mathlib.Omega.{arith}

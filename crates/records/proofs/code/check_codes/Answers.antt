@@ -1,7 +1,6 @@
-use Prim.Native.Nat.{◌*◌, ◌-◌}
+use Prim.Native.Nat.{◌*◌}
 use mathlib.Core.Path.{refl, sym}
 use native.Mathlib.Omega.{arith}
-use Rattle.records.specs.Instructions.{code_starts}
 use Rattle.records.proofs.Answers.{answers_by}
 use Rattle.records.proofs.Checking.{begun, turn, left_over, bad, done}
 use Rattle.records.proofs.CodesRead.{starts_short}

@@ -1,4 +1,3 @@
-use Rattle.std.proofs.Common.{◌-◌}
 use Rattle.test_inspect.proofs.values.unused_sound.Goals as goal
 
 pub loop-field-init : goal.loop-field-init
