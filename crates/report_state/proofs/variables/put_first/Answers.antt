@@ -1,4 +1,3 @@
-use Prim.Native.Nat.{◌-◌}
 use native.Mathlib.Omega.{arith}
 use Rattle.text.proofs.Putting.{same_length}
 use Rattle.report_state.proofs.Rows.{no_lines, line_more, all_lines}
