@@ -9,6 +9,7 @@ use channel_step::channel::Channel;
 use heap_chains::Fitted;
 use order_spec::answer::OrderAnswer;
 use program_options::{Heard, Options, Said};
+use std::alloc::AllocError;
 use std::io::{Print, Read};
 
 // What print calls leave in registers: nothing depends on it.
@@ -179,8 +180,13 @@ fn show_fit(rt: &HostRuntime, g: Going, heap: &[u64]) {
 }
 
 // A file's list on a channel of its own: the records of the largest order, a store of 261 linked variables, and one binding more than any order takes.
-fn size_from<R: Read>(rt: &HostRuntime, file: &mut R, edition: u64, frame: u64) {
-    let mut heap = [0u64; 524288];
+fn size_from<R: Read>(
+    rt: &HostRuntime,
+    file: &mut R,
+    edition: u64,
+    frame: u64,
+) -> Result<(), AllocError> {
+    let mut heap = Vec::from_elem(rt.alloc(), 0u64, 524288)?;
     let mut records = [0u8; channel_step::channel::RECORDS];
     let mut bindings = [0u8; 32776];
     let g = play(
@@ -193,19 +199,23 @@ fn size_from<R: Read>(rt: &HostRuntime, file: &mut R, edition: u64, frame: u64) 
         frame,
     );
     if g.stopped {
-        return;
+        return Ok(());
     }
     show_fit(rt, g, &heap);
+    Ok(())
 }
 
-fn size_of(rt: &HostRuntime, name: &[u8], edition: u64, frame: u64) {
+fn size_of(rt: &HostRuntime, name: &[u8], edition: u64, frame: u64) -> Result<(), AllocError> {
     match program_files::open_read(rt, name) {
         Ok(mut file) => {
             program_files::write(rt, name);
             program_files::write(rt, b"\n");
-            size_from(rt, &mut file, edition, frame);
+            size_from(rt, &mut file, edition, frame)
         }
-        Err(error) => program_files::fail(rt, name, error),
+        Err(error) => {
+            program_files::fail(rt, name, error);
+            Ok(())
+        }
     }
 }
 
@@ -224,57 +234,58 @@ fn warn(rt: &HostRuntime, said: Said) {
 }
 
 // A list is played where there are such an edition and such a frame.
-fn size_file(rt: &HostRuntime, name: &[u8], chosen: Options) -> Asked {
+fn size_file(rt: &HostRuntime, name: &[u8], chosen: Options) -> Result<Asked, AllocError> {
     if program_options::is_played(chosen) {
-        size_of(rt, name, chosen.edition, chosen.frame);
+        size_of(rt, name, chosen.edition, chosen.frame)?;
     }
-    Asked {
+    Ok(Asked {
         options: chosen,
         named: true,
-    }
+    })
 }
 
-fn read_word(rt: &HostRuntime, word: &[u8], a: Asked) -> Asked {
+fn read_word(rt: &HostRuntime, word: &[u8], a: Asked) -> Result<Asked, AllocError> {
     match program_options::hear(word, a.options) {
         Heard::Choice(chosen, said) => {
             warn(rt, said);
-            Asked {
+            Ok(Asked {
                 options: chosen,
                 named: a.named,
-            }
+            })
         }
         Heard::Other => size_file(rt, word, a.options),
     }
 }
 
-fn read_argument(rt: &HostRuntime, i: usize, a: Asked) -> Asked {
+fn read_argument(rt: &HostRuntime, i: usize, a: Asked) -> Result<Asked, AllocError> {
     let mut word = [0u8; 4096];
     let n = program_files::arg(rt, i, &mut word);
     read_word(rt, &word[..n], a)
 }
 
 // The files are played as they are named.
-fn read_arguments(rt: &HostRuntime, count: usize) -> Asked {
+fn read_arguments(rt: &HostRuntime, count: usize) -> Result<Asked, AllocError> {
     let mut a = Asked {
         options: program_options::at_first(),
         named: false,
     };
     let mut i = 1;
     while i < count {
-        a = read_argument(rt, i, a);
+        a = read_argument(rt, i, a)?;
         i += 1;
     }
-    a
+    Ok(a)
 }
 
-fn main(rt: HostRuntime) {
-    let a = read_arguments(&rt, program_files::arg_count(&rt));
+fn main(rt: HostRuntime) -> Result<(), AllocError> {
+    let a = read_arguments(&rt, program_files::arg_count(&rt))?;
     let chosen = a.options;
     warn(&rt, program_options::still_to_come(chosen));
     if a.named {
-        return;
+        return Ok(());
     }
     if program_options::is_played(chosen) {
-        size_from(&rt, &mut rt.stdin(), chosen.edition, chosen.frame);
+        size_from(&rt, &mut rt.stdin(), chosen.edition, chosen.frame)?;
     }
+    Ok(())
 }
