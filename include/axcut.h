@@ -1,5 +1,5 @@
 /*
- * AxCut's x86-64 back end, proved: the functions of libport.a (`rt staticlib port`), for C99 and C++.
+ * AxCut's x86-64 back end, proved: the functions of libport.a (`tools/build port`), for C99 and C++.
  *
  * Numbers. Every function answers 0 (AXCUT_OK) where its input is accepted, else the number of the cause. AXCUT_EDITION is checked
  * before every other cause, then what is bad in a context (15 to 17), then the others in rising order, so that of these the lowest

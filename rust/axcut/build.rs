@@ -14,7 +14,7 @@ fn main() {
     println!("cargo:rerun-if-changed={}", archive.display());
     if !archive.is_file() {
         panic!(
-            "no archive {}: make it by `rt staticlib port`",
+            "no archive {}: make it by `tools/build port`",
             archive.display()
         );
     }
