@@ -9,7 +9,6 @@ use channel_step::channel::Channel;
 use heap_chains::Fitted;
 use order_spec::answer::OrderAnswer;
 use program_options::{Heard, Options, Said};
-use std::alloc::AllocError;
 use std::io::{Print, Read};
 
 // What print calls leave in registers: nothing depends on it.
@@ -90,8 +89,8 @@ fn item(
 
 // At most so many bytes of the file, as far as there is space: how many were read.
 fn read_some<R: Read>(file: &mut R, space: &mut [u8], bytes: usize) -> usize
-    ensures upper_bound { result ≤ bytes }
-    ensures upper_bound_2 { result ≤ length space.old }
+    ensures asked { result ≤ bytes }
+    ensures room { result ≤ length space.old }
 {
     let size = records::bytes::least(bytes, space.len());
     program_files::read_full(file, &mut space[..size])
@@ -179,43 +178,27 @@ fn show_fit(rt: &HostRuntime, g: Going, heap: &[u64]) {
     show(rt, &lines, size);
 }
 
-// A file's list on a channel of its own: the records of the largest order, a store of 261 linked variables, and one binding more than any order takes.
-fn size_from<R: Read>(
-    rt: &HostRuntime,
-    file: &mut R,
-    edition: u64,
-    frame: u64,
-) -> Result<(), AllocError> {
-    let mut heap = Vec::from_elem(rt.alloc(), 0u64, 524288)?;
+// A file's list on a channel of its own, its blocks all zero: the records of the largest order, a store of 261 linked variables, and one binding more than any
+// order takes.
+fn size_from<R: Read>(rt: &HostRuntime, file: &mut R, heap: &mut [u64], edition: u64, frame: u64) {
+    heap.fill(0);
     let mut records = [0u8; channel_step::channel::RECORDS];
     let mut bindings = [0u8; 32776];
-    let g = play(
-        rt,
-        file,
-        &mut heap,
-        &mut records,
-        &mut bindings,
-        edition,
-        frame,
-    );
+    let g = play(rt, file, heap, &mut records, &mut bindings, edition, frame);
     if g.stopped {
-        return Ok(());
+        return;
     }
-    show_fit(rt, g, &heap);
-    Ok(())
+    show_fit(rt, g, heap);
 }
 
-fn size_of(rt: &HostRuntime, name: &[u8], edition: u64, frame: u64) -> Result<(), AllocError> {
+fn size_of(rt: &HostRuntime, name: &[u8], heap: &mut [u64], edition: u64, frame: u64) {
     match program_files::open_read(rt, name) {
         Ok(mut file) => {
             program_files::write(rt, name);
             program_files::write(rt, b"\n");
-            size_from(rt, &mut file, edition, frame)
+            size_from(rt, &mut file, heap, edition, frame);
         }
-        Err(error) => {
-            program_files::fail(rt, name, error);
-            Ok(())
-        }
+        Err(error) => program_files::fail(rt, name, error),
     }
 }
 
@@ -234,58 +217,64 @@ fn warn(rt: &HostRuntime, said: Said) {
 }
 
 // A list is played where there are such an edition and such a frame.
-fn size_file(rt: &HostRuntime, name: &[u8], chosen: Options) -> Result<Asked, AllocError> {
+fn size_file(rt: &HostRuntime, name: &[u8], heap: &mut [u64], chosen: Options) -> Asked {
     if program_options::is_played(chosen) {
-        size_of(rt, name, chosen.edition, chosen.frame)?;
+        size_of(rt, name, heap, chosen.edition, chosen.frame);
     }
-    Ok(Asked {
+    Asked {
         options: chosen,
         named: true,
-    })
+    }
 }
 
-fn read_word(rt: &HostRuntime, word: &[u8], a: Asked) -> Result<Asked, AllocError> {
+fn read_word(rt: &HostRuntime, word: &[u8], heap: &mut [u64], a: Asked) -> Asked {
     match program_options::hear(word, a.options) {
         Heard::Choice(chosen, said) => {
             warn(rt, said);
-            Ok(Asked {
+            Asked {
                 options: chosen,
                 named: a.named,
-            })
+            }
         }
-        Heard::Other => size_file(rt, word, a.options),
+        Heard::Other => size_file(rt, word, heap, a.options),
     }
 }
 
-fn read_argument(rt: &HostRuntime, i: usize, a: Asked) -> Result<Asked, AllocError> {
+fn read_argument(rt: &HostRuntime, i: usize, heap: &mut [u64], a: Asked) -> Asked {
     let mut word = [0u8; 4096];
     let n = program_files::arg(rt, i, &mut word);
-    read_word(rt, &word[..n], a)
+    read_word(rt, &word[..n], heap, a)
 }
 
 // The files are played as they are named.
-fn read_arguments(rt: &HostRuntime, count: usize) -> Result<Asked, AllocError> {
+fn read_arguments(rt: &HostRuntime, count: usize, heap: &mut [u64]) -> Asked {
     let mut a = Asked {
         options: program_options::at_first(),
         named: false,
     };
     let mut i = 1;
     while i < count {
-        a = read_argument(rt, i, a)?;
+        a = read_argument(rt, i, heap, a);
         i += 1;
     }
-    Ok(a)
+    a
 }
 
-fn main(rt: HostRuntime) -> Result<(), AllocError> {
-    let a = read_arguments(&rt, program_files::arg_count(&rt))?;
+// All lists that are named, or the one on standard input.
+fn size_all(rt: &HostRuntime, heap: &mut [u64]) {
+    let a = read_arguments(rt, program_files::arg_count(rt), heap);
     let chosen = a.options;
-    warn(&rt, program_options::still_to_come(chosen));
+    warn(rt, program_options::still_to_come(chosen));
     if a.named {
-        return Ok(());
+        return;
     }
     if program_options::is_played(chosen) {
-        size_from(&rt, &mut rt.stdin(), chosen.edition, chosen.frame)?;
+        size_from(rt, &mut rt.stdin(), heap, chosen.edition, chosen.frame);
     }
-    Ok(())
+}
+
+fn main(rt: HostRuntime) {
+    // The blocks of the larger edition's channel, lent to one list after the other.
+    let mut heap = [0u64; 524288];
+    size_all(&rt, &mut heap);
 }
