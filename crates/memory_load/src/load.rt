@@ -13,7 +13,7 @@ ghost use Rattle.memory_load.specs.Linked.{one_if_linked, linked_in};
 
 use emit::answer::Answer;
 use emit::cursor::{Cursor, Row};
-use layout::config::{MINUS_ONE, STACK, Shape, Shaped, TEMP};
+use layout::config::{self, MINUS_ONE, Shape, Shaped};
 use records::context;
 use records::context::ContextRead;
 use records::number::{self, JEL, JMPL, LAB};
@@ -88,7 +88,7 @@ fn into_register(out: &mut [u8], p: Cursor, g: Shape, w: u64) -> Cursor
         return p;
     }
     let offset = layout::offset::spill_offset(g, w);
-    emit::cursor::emit(out, p, Row(number::MOVL, TEMP, STACK, 0, offset, 0))
+    emit::cursor::emit(out, p, Row(number::MOVL, config::TEMP, config::STACK, 0, offset, 0))
 }
 
 // n variables after v, out of the object in the Fst past those.

@@ -12,7 +12,7 @@ ghost use Rattle.memory.specs.Objects.{ext_in, share_loaded, load_fst, load_valu
 ghost use Rattle.memory_load_blocks.specs.Blocks.{AllBlocks};
 
 use emit::cursor::{Cursor, Row};
-use layout::config::{RETURN1, SPILL_TEMP, STACK, Shape, TEMP};
+use layout::config::{self, SPILL_TEMP, Shape, TEMP};
 use memory::block;
 use records::number::{self, MOVS};
 
@@ -137,7 +137,7 @@ fn set_aside(out: &mut [u8], p: Cursor, g: Shape, aside: bool) -> Cursor
         return p;
     }
     let offset = layout::offset::spill_offset(g, SPILL_TEMP);
-    emit::cursor::emit(out, p, Row(MOVS, RETURN1, STACK, 0, offset, 0))
+    emit::cursor::emit(out, p, Row(MOVS, config::RETURN1, config::STACK, 0, offset, 0))
 }
 
 // And back, after the last block.
@@ -149,7 +149,7 @@ fn restore_aside(out: &mut [u8], p: Cursor, g: Shape, other: bool) -> Cursor
         return p;
     }
     let offset = layout::offset::spill_offset(g, SPILL_TEMP);
-    emit::cursor::emit(out, p, Row(number::MOVL, RETURN1, STACK, 0, offset, 0))
+    emit::cursor::emit(out, p, Row(number::MOVL, config::RETURN1, config::STACK, 0, offset, 0))
 }
 
 fn capacity_of(g: Shape, other: bool) -> u64
@@ -193,7 +193,7 @@ fn register_or(w: u64, b: bool) -> bool
 fn block_register(w: u64) -> u8
     ensures { result ≡ cond (ltb w 16) w RETURN1 }
 {
-    if w < 16 { w as u8 } else { RETURN1 }
+    if w < 16 { w as u8 } else { config::RETURN1 }
 }
 
 // A pointer in spill w into register 4.
@@ -205,7 +205,7 @@ fn borrow_register(out: &mut [u8], p: Cursor, g: Shape, w: u64) -> Cursor
         return p;
     }
     let offset = layout::offset::spill_offset(g, w);
-    emit::cursor::emit(out, p, Row(number::MOVL, RETURN1, STACK, 0, offset, 0))
+    emit::cursor::emit(out, p, Row(number::MOVL, config::RETURN1, config::STACK, 0, offset, 0))
 }
 
 // The same out of the block in variable v's Fst: one in a spill goes through register 4.
