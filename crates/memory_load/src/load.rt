@@ -88,7 +88,11 @@ fn into_register(out: &mut [u8], p: Cursor, g: Shape, w: u64) -> Cursor
         return p;
     }
     let offset = layout::offset::spill_offset(g, w);
-    emit::cursor::emit(out, p, Row(number::MOVL, config::TEMP, config::STACK, 0, offset, 0))
+    emit::cursor::emit(
+        out,
+        p,
+        Row(number::MOVL, config::TEMP, config::STACK, 0, offset, 0),
+    )
 }
 
 // n variables after v, out of the object in the Fst past those.

@@ -137,7 +137,11 @@ fn set_aside(out: &mut [u8], p: Cursor, g: Shape, aside: bool) -> Cursor
         return p;
     }
     let offset = layout::offset::spill_offset(g, SPILL_TEMP);
-    emit::cursor::emit(out, p, Row(MOVS, config::RETURN1, config::STACK, 0, offset, 0))
+    emit::cursor::emit(
+        out,
+        p,
+        Row(MOVS, config::RETURN1, config::STACK, 0, offset, 0),
+    )
 }
 
 // And back, after the last block.
@@ -149,7 +153,11 @@ fn restore_aside(out: &mut [u8], p: Cursor, g: Shape, other: bool) -> Cursor
         return p;
     }
     let offset = layout::offset::spill_offset(g, SPILL_TEMP);
-    emit::cursor::emit(out, p, Row(number::MOVL, config::RETURN1, config::STACK, 0, offset, 0))
+    emit::cursor::emit(
+        out,
+        p,
+        Row(number::MOVL, config::RETURN1, config::STACK, 0, offset, 0),
+    )
 }
 
 fn capacity_of(g: Shape, other: bool) -> u64
@@ -205,7 +213,11 @@ fn borrow_register(out: &mut [u8], p: Cursor, g: Shape, w: u64) -> Cursor
         return p;
     }
     let offset = layout::offset::spill_offset(g, w);
-    emit::cursor::emit(out, p, Row(number::MOVL, config::RETURN1, config::STACK, 0, offset, 0))
+    emit::cursor::emit(
+        out,
+        p,
+        Row(number::MOVL, config::RETURN1, config::STACK, 0, offset, 0),
+    )
 }
 
 // The same out of the block in variable v's Fst: one in a spill goes through register 4.
