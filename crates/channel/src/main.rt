@@ -3,20 +3,35 @@
 // and `frame N` for a frame of so many spills, of the files after it; the edition is 1 and a frame has 256 where none is asked.
 #![tactic(auto)]
 
-ghost use Rattle.std.specs.Prelude.{◌<◌, ◌≤◌};
-
+use channel_step::channel;
 use channel_step::channel::Channel;
-use heap_chains::Counted;
+use machine::run::RunAnswer;
 use order_spec::answer::OrderAnswer;
-use program_options::{Heard, Options, Said};
-use std::io::{Print, Read};
+use program_files::{start_of, write};
+use program_options::named;
+use program_options::named::Player;
+use std::io::Read;
 
 // What print calls leave in registers: nothing depends on it.
 const LEFT: u64 = 0x5A5A5A5A5A5A5A5A;
 
-// Where the next order starts, its number, the label counter, how many bytes were printed, whether a run did not end, and the channel.
-#[derive(Clone, Copy)]
-struct Going {
+// The bytes of 2,730 records.
+const LISTING: usize = 65520;
+
+// The most bytes of a list, and of what its orders print.
+const INPUT: usize = 262144;
+
+const PRINTS: usize = 262144;
+
+// A list that is played, on blocks, records and texts that are lent: whether instructions are listed, where the next order starts, its number, the label counter,
+// how many bytes were printed, whether a run did not end, and the channel.
+#[derive(Drop)]
+struct Run<'a> {
+    heap: &'a mut [u64],
+    records: &'a mut [u8],
+    text: &'a mut [u8],
+    prints: &'a mut [u8],
+    listed: bool,
     at: usize,
     number: u64,
     counter: u64,
@@ -25,304 +40,160 @@ struct Going {
     channel: Channel,
 }
 
-fn start(edition: u64, frame: u64) -> Going {
-    let channel = channel_step::channel::fresh(edition, frame);
-    Going {
-        at: 0,
-        number: 1,
-        counter: 0,
-        printed: 0,
-        stopped: false,
-        channel,
-    }
-}
-
-fn show_on(file: &impl Print, text: &[u8], size: usize) {
-    if size <= text.len() {
-        program_files::write(file, &text[..size]);
-    }
-}
-
-fn show(rt: &HostRuntime, text: &[u8], size: usize) {
-    show_on(rt, text, size);
-}
-
-// Where a listing of 2,730 records ends, or all of them.
-fn listing_end(from: usize, end: usize) -> usize
-    requires { from < end }
-    ensures { (from < result) × (result ≤ end) }
-{
-    if end - from < 65520 {
-        return end;
-    }
-    from + 65520
-}
-
 // Instructions, at most 2,730 to a listing.
 fn list(rt: &HostRuntime, records: &[u8], text: &mut [u8]) {
-    let mut from = 0;
-    while from < records.len() {
-        let end = listing_end(from, records.len());
-        let size = listing::print_records(&records[from..end], text);
-        show(rt, text, size);
-        from = end;
-    }
-}
-
-fn is_ended(ran: machine::run::RunAnswer) -> bool {
-    match ran {
-        machine::run::RunAnswer::Ended(_) => true,
-        machine::run::RunAnswer::Malformed(_) => false,
-        machine::run::RunAnswer::Fault(_, _) => false,
-        machine::run::RunAnswer::Limit(_) => false,
+    for part in records.chunks(LISTING) {
+        let size = listing::print_records(part, text);
+        write(rt, start_of(text, size));
     }
 }
 
 fn tell(rt: &HostRuntime, frame: u64, number: u64, order: &[u8], before: u64, answer: OrderAnswer) {
     let mut line = [0u8; 256];
     let size = report::answers::put_order(&mut line, 0, frame, number, order, before, answer);
-    show(rt, &line, size);
+    write(rt, start_of(&line, size));
 }
 
-fn tell_stop(rt: &HostRuntime, number: u64, order: &[u8], ran: machine::run::RunAnswer) {
+fn tell_stop(rt: &HostRuntime, number: u64, order: &[u8], ran: RunAnswer) {
     let mut line = [0u8; 256];
     let size = report::stops::put_stop(&mut line, 0, number, order, ran);
-    show(rt, &line, size);
+    write(rt, start_of(&line, size));
 }
 
-// The first of them, if asked.
-fn list_first(rt: &HostRuntime, records: &[u8], count: usize, text: &mut [u8], listed: bool) {
-    if !listed {
-        return;
-    }
+// The first of the records.
+fn list_first(rt: &HostRuntime, records: &mut [u8], text: &mut [u8], count: usize) {
     if count <= records.len() / 24 {
-        let end = 24 * count;
-        list(rt, &records[..end], text);
+        list(rt, &records[..24 * count], text);
     }
 }
 
-// What an accepted order prints goes after what was printed before.
-fn print(
-    prints: &mut [u8],
-    printed: usize,
-    frame: u64,
-    order: &[u8],
-    registers: &[u64; 16],
-    stack: &[u64],
-) -> usize {
-    let words = channel_step::channel::stack_words(frame);
-    if stack.len() < words {
-        return printed;
-    }
-    if printed < 262144 {
-        return report_state::prints::put_print(
-            prints,
-            printed,
-            frame,
-            order,
-            registers,
-            &stack[..words],
-        );
-    }
-    printed
-}
-
-// An order that was accepted, with so many records.
-fn accepted(
-    rt: &HostRuntime,
-    order: &[u8],
-    records: &[u8],
-    text: &mut [u8],
-    prints: &mut [u8],
-    listed: bool,
-    g: Going,
-    count: usize,
-    ran: machine::run::RunAnswer,
-) -> usize {
-    let channel = g.channel;
-    let registers = channel.registers;
-    let stack = channel.stack;
-    list_first(rt, records, count, text, listed);
-    tell_stop(rt, g.number, order, ran);
-    print(prints, g.printed, channel.frame, order, &registers, &stack)
-}
-
-// One order with its bindings; the next starts at `next`.
-fn item(
-    rt: &HostRuntime,
-    order: &[u8],
-    bindings: &[u8],
-    heap: &mut [u64],
-    records: &mut [u8],
-    text: &mut [u8],
-    prints: &mut [u8],
-    listed: bool,
-    g: Going,
-    next: usize,
-) -> Going {
-    let before = g.channel;
-    let played = channel_step::channel::play(
-        before, heap, records, g.counter, order, bindings, [LEFT; 9],
-    );
-    let answer = played.answer;
-    let ran = played.ran;
-    let channel = played.channel;
-    tell(rt, channel.frame, g.number, order, g.counter, answer);
-    let OrderAnswer::Accepted(count, counter, _) = answer else {
-        return Going {
-            at: next,
-            number: word::sum(g.number, 1),
-            counter: g.counter,
-            printed: g.printed,
-            stopped: false,
-            channel,
+impl Run<'_> {
+    // What an accepted order prints goes after what was printed before.
+    fn print(&mut self, order: &[u8]) {
+        let at = self.printed;
+        let channel = self.channel;
+        let words = channel::stack_words(channel.frame);
+        let Some(stack) = channel.stack.as_slice().get(..words) else {
+            return;
         };
-    };
-    let printed = accepted(rt, order, records, text, prints, listed, g, count, ran);
-    Going {
-        at: next,
-        number: word::sum(g.number, 1),
-        counter,
-        printed,
-        stopped: !is_ended(ran),
-        channel,
-    }
-}
-
-// The order at the byte that was reached, if there is one.
-fn turn(
-    rt: &HostRuntime,
-    input: &[u8],
-    heap: &mut [u64],
-    records: &mut [u8],
-    text: &mut [u8],
-    prints: &mut [u8],
-    listed: bool,
-    g: Going,
-) -> Going {
-    let at = g.at;
-    if g.stopped {
-        return g;
-    }
-    if input.len() <= at {
-        return g;
-    }
-    let found = channel_step::list::item_at(input, at);
-    let middle = found.order_end;
-    let end = found.end;
-    item(
-        rt,
-        &input[at..middle],
-        &input[middle..end],
-        heap,
-        records,
-        text,
-        prints,
-        listed,
-        g,
-        end,
-    )
-}
-
-// All orders of a list, up to a run that does not end. All but the last have 24 bytes at least.
-fn play(
-    rt: &HostRuntime,
-    input: &[u8],
-    heap: &mut [u64],
-    records: &mut [u8],
-    text: &mut [u8],
-    prints: &mut [u8],
-    listed: bool,
-    edition: u64,
-    frame: u64,
-) -> Going {
-    let mut g = start(edition, frame);
-    let mut left = input.len() / 24 + 1;
-    while 0 < left {
-        g = turn(rt, input, heap, records, text, prints, listed, g);
-        left -= 1;
-    }
-    g
-}
-
-fn show_prints(rt: &HostRuntime, prints: &[u8], printed: usize) {
-    program_files::write(rt, b"printed\n");
-    show(rt, prints, printed);
-    if printed == 0 {
-        return;
-    }
-    if printed <= prints.len() {
-        if prints[printed - 1] != b'\n' {
-            program_files::write(rt, b"\n");
+        if at < PRINTS {
+            self.printed = report_state::prints::put_print(
+                self.prints,
+                at,
+                channel.frame,
+                order,
+                &channel.registers,
+                stack,
+            );
         }
     }
-}
 
-fn show_context(
-    rt: &HostRuntime,
-    context: &[u8],
-    used: usize,
-    edition: u64,
-    frame: u64,
-    registers: &[u64; 16],
-    stack: &[u64],
-    text: &mut [u8],
-) {
-    let words = channel_step::channel::stack_words(frame);
-    if stack.len() < words {
-        return;
-    }
-    if used <= context.len() {
-        let size = report_state::variables::put_variables(
-            text,
-            0,
-            edition,
-            frame,
-            &context[..used],
-            registers,
-            &stack[..words],
+    // One order with its bindings.
+    fn item(&mut self, rt: &HostRuntime, order: &[u8], bindings: &[u8]) {
+        let before = self.channel;
+        let counter = self.counter;
+        let played = channel::play(
+            before,
+            self.heap,
+            self.records,
+            counter,
+            order,
+            bindings,
+            [LEFT; 9],
         );
-        show(rt, text, size);
+        tell(
+            rt,
+            played.channel.frame,
+            self.number,
+            order,
+            counter,
+            played.answer,
+        );
+        if let Ok(accepted) = played.answer {
+            if self.listed {
+                list_first(rt, self.records, self.text, accepted.records);
+            }
+            tell_stop(rt, self.number, order, played.ran);
+            self.print(order);
+            self.counter = accepted.counter;
+            self.stopped = played.ran.is_err();
+        }
+        self.channel = played.channel;
+        self.number = self.number.wrapping_add(1);
     }
-}
 
-fn show_variables(rt: &HostRuntime, channel: Channel, text: &mut [u8]) {
-    program_files::write(rt, b"variables\n");
-    let context = channel.context;
-    let registers = channel.registers;
-    let stack = channel.stack;
-    show_context(
-        rt,
-        &context,
-        channel.used,
-        channel.edition,
-        channel.frame,
-        &registers,
-        &stack,
-        text,
-    );
-}
+    // All orders of a list, up to a run that does not end. All but the last have 24 bytes at least.
+    fn play(&mut self, rt: &HostRuntime, input: &[u8]) {
+        for _ in 0..input.len() / 24 + 1 {
+            let at = self.at;
+            if self.stopped || input.len() <= at {
+                return;
+            }
+            let found = channel_step::list::item_at(input, at);
+            self.item(
+                rt,
+                &input[at..found.order_end],
+                &input[found.order_end..found.end],
+            );
+            self.at = found.end;
+        }
+    }
 
-fn show_blocks(rt: &HostRuntime, channel: Channel, heap: &[u64]) {
-    let registers = channel.registers;
-    let Counted::Of(blocks) = heap_chains::count_blocks(channel.edition, &registers, heap) else {
-        return;
-    };
-    let mut line = [0u8; 256];
-    let size = report::put_blocks(
-        &mut line,
-        0,
-        blocks.linear,
-        blocks.lazy,
-        blocks.held,
-        blocks.untouched,
-    );
-    show(rt, &line, size);
+    fn show_prints(&self, rt: &HostRuntime) {
+        write(rt, b"printed\n");
+        let printed = start_of(self.prints, self.printed);
+        write(rt, printed);
+        if !printed.is_empty() && !printed.ends_with(b"\n") {
+            write(rt, b"\n");
+        }
+    }
+
+    fn show_variables(&mut self, rt: &HostRuntime) {
+        write(rt, b"variables\n");
+        let channel = self.channel;
+        let words = channel::stack_words(channel.frame);
+        let Some(stack) = channel.stack.as_slice().get(..words) else {
+            return;
+        };
+        let Some(context) = channel.context.as_slice().get(..channel.used) else {
+            return;
+        };
+        let size = report_state::variables::put_variables(
+            self.text,
+            0,
+            channel.edition,
+            channel.frame,
+            context,
+            &channel.registers,
+            stack,
+        );
+        write(rt, start_of(self.text, size));
+    }
+
+    fn show_blocks(&self, rt: &HostRuntime) {
+        let Some(blocks) = heap_chains::count_blocks(
+            self.channel.edition,
+            &self.channel.registers,
+            self.heap,
+        ) else {
+            return;
+        };
+        let mut line = [0u8; 256];
+        let size = report::put_blocks(
+            &mut line,
+            0,
+            blocks.linear,
+            blocks.lazy,
+            blocks.held,
+            blocks.untouched,
+        );
+        write(rt, start_of(&line, size));
+    }
 }
 
 // A list played on a channel of its own: 8,192 blocks, or 4,096 of the second edition, the records of the largest order, a store of 261 linked variables, and more
 // than the 10,922 orders of the longest list can print.
-fn channel(
+fn play_list(
     rt: &HostRuntime,
     input: &[u8],
     text: &mut [u8],
@@ -331,137 +202,60 @@ fn channel(
     frame: u64,
 ) {
     let mut heap = [0u64; 65536];
-    let mut records = [0u8; channel_step::channel::RECORDS];
-    let mut prints = [0u8; 262144];
-    let g = play(
-        rt,
-        input,
-        &mut heap,
-        &mut records,
+    let mut records = [0u8; channel::RECORDS];
+    let mut prints = [0u8; PRINTS];
+    let mut run = Run {
+        heap: &mut heap,
+        records: &mut records,
         text,
-        &mut prints,
+        prints: &mut prints,
         listed,
-        edition,
-        frame,
-    );
-    let last = g.channel;
-    show_prints(rt, &prints, g.printed);
-    if g.stopped {
-        return;
-    }
-    show_variables(rt, last, text);
-    show_blocks(rt, last, &heap);
-}
-
-// What can be read of a file, played.
-fn channel_from<R: Read>(rt: &HostRuntime, file: &mut R, listed: bool, edition: u64, frame: u64) {
-    let mut input = [0u8; 262145];
-    let mut text = [0u8; listing::LONGEST];
-    let n = program_files::read_full(file, &mut input);
-    if 262144 < n {
-        program_files::write(
-            &rt.stderr(),
-            b"a list of more than 262144 bytes is not played\n",
-        );
-        return;
-    }
-    channel(rt, &input[..n], &mut text, listed, edition, frame);
-}
-
-fn channel_of(rt: &HostRuntime, name: &[u8], listed: bool, edition: u64, frame: u64) {
-    match program_files::open_read(rt, name) {
-        Ok(mut file) => {
-            program_files::write(rt, name);
-            program_files::write(rt, b"\n");
-            channel_from(rt, &mut file, listed, edition, frame);
-        }
-        Err(error) => program_files::fail(rt, name, error),
-    }
-}
-
-// What the arguments asked so far: an edition and a frame, instructions, and whether a file was named.
-#[derive(Clone, Copy)]
-struct Asked {
-    options: Options,
-    listed: bool,
-    named: bool,
-}
-
-// What is wrong with an edition or a frame.
-fn warn(rt: &HostRuntime, said: Said) {
-    let mut line = [0u8; 32];
-    let size = program_options::put_said(&mut line, 0, said);
-    show_on(&rt.stderr(), &line, size);
-}
-
-// A list is played where there are such an edition and such a frame.
-fn play_file(rt: &HostRuntime, name: &[u8], a: Asked) -> Asked {
-    let chosen = a.options;
-    if program_options::is_played(chosen) {
-        channel_of(rt, name, a.listed, chosen.edition, chosen.frame);
-    }
-    Asked {
-        options: chosen,
-        listed: a.listed,
-        named: true,
-    }
-}
-
-fn read_other(rt: &HostRuntime, word: &[u8], a: Asked) -> Asked {
-    if word == b"listing".as_slice() {
-        let chosen = a.options;
-        return Asked {
-            options: chosen,
-            listed: true,
-            named: a.named,
-        };
-    }
-    play_file(rt, word, a)
-}
-
-fn read_word(rt: &HostRuntime, word: &[u8], a: Asked) -> Asked {
-    match program_options::hear(word, a.options) {
-        Heard::Choice(chosen, said) => {
-            warn(rt, said);
-            Asked {
-                options: chosen,
-                listed: a.listed,
-                named: a.named,
-            }
-        }
-        Heard::Other => read_other(rt, word, a),
-    }
-}
-
-fn read_argument(rt: &HostRuntime, i: usize, a: Asked) -> Asked {
-    let mut word = [0u8; 4096];
-    let n = program_files::arg(rt, i, &mut word);
-    read_word(rt, &word[..n], a)
-}
-
-// The files are played as they are named.
-fn read_arguments(rt: &HostRuntime, count: usize) -> Asked {
-    let mut a = Asked {
-        options: program_options::at_first(),
-        listed: false,
-        named: false,
+        at: 0,
+        number: 1,
+        counter: 0,
+        printed: 0,
+        stopped: false,
+        channel: channel::fresh(edition, frame),
     };
-    let mut i = 1;
-    while i < count {
-        a = read_argument(rt, i, a);
-        i += 1;
+    run.play(rt, input);
+    run.show_prints(rt);
+    if !run.stopped {
+        run.show_variables(rt);
+        run.show_blocks(rt);
     }
-    a
+}
+
+// Whether instructions are asked for.
+#[derive(Drop)]
+struct Asked {
+    listed: bool,
+}
+
+impl Player for Asked {
+    fn takes(&mut self, word: &[u8]) -> bool {
+        let listing = word == b"listing".as_slice();
+        if listing {
+            self.listed = true;
+        }
+        listing
+    }
+
+    fn play<R: Read>(&mut self, rt: &HostRuntime, file: &mut R, edition: u64, frame: u64) {
+        // One byte more than a list may have.
+        let mut input = [0u8; INPUT + 1];
+        let n = program_files::read_full(file, &mut input);
+        if INPUT < n {
+            write(
+                &rt.stderr(),
+                b"a list of more than 262144 bytes is not played\n",
+            );
+            return;
+        }
+        let mut text = [0u8; listing::LONGEST];
+        play_list(rt, &input[..n], &mut text, self.listed, edition, frame);
+    }
 }
 
 fn main(rt: HostRuntime) {
-    let a = read_arguments(&rt, program_files::arg_count(&rt));
-    let chosen = a.options;
-    warn(&rt, program_options::still_to_come(chosen));
-    if a.named {
-        return;
-    }
-    if program_options::is_played(chosen) {
-        channel_from(&rt, &mut rt.stdin(), a.listed, chosen.edition, chosen.frame);
-    }
+    named::play_named(&rt, &mut Asked { listed: false });
 }

@@ -1,4 +1,7 @@
 -- The item at a byte of a list, from where its parts end.
+use Rattle.records.specs.declared.order.Order.{Order}
+use Rattle.records.specs.declared.check.Malformed.{Malformed}
+use Rattle.std.specs.Prelude.{Result}
 use Prim.Native.Nat.{ℕ, ◌+◌, ◌-◌, ◌≤◌, ◌<◌, min}
 use mathlib.Core.Path.{◌≡◌, sym, ap, ◌∙◌}
 use mathlib.Core.List.{List}
@@ -6,19 +9,10 @@ use native.Mathlib.Nat.{min-le_right, min-eq_left, min-eq_right, add-zero}
 use native.Mathlib.Decide.{dec_lt}
 use native.Mathlib.Omega.{arith}
 use lib.ListN.{length, take, drop, length-take, length-drop}
-use lib.Seq.{take_all}
-use Rattle.records.specs.declared.order.OrderRead.{OrderRead}
+use Rattle.std.proofs.lemmas.List.{take_min}
 use Rattle.records.specs.Orders.{order_read}
 use Rattle.channel_step.specs.declared.list.ItemEnds.{ItemEnds}
 use Rattle.channel_step.specs.Lists.{bytes_after, order_at, bindings_at, item_at, FindsItem}
-
--- what is left of a list is taken whole
-same_part : (s : List ℕ) (n x : ℕ) → x ≡ min n (length s) → take x s ≡ take n s
-same_part s n x e = by (dec_lt n (length s))
-  where
-    by : Dec (n < length s) → take x s ≡ take n s
-    by (yes h) = ap (λ (i : ℕ). take i s) (e ∙ min-eq_left (omega arith))
-    by (no h) = let l : x ≡ length s = e ∙ min-eq_right (omega arith) in take_all x s (omega arith) ∙ sym (take_all n s (omega arith))
 
 -- how much is taken where a list has that much, else what is left
 taken : (n k : ℕ) (s : List ℕ) → length (take n (drop k s)) ≡ min n (length s - k)
@@ -47,13 +41,13 @@ module _ (list : List ℕ) (at : ℕ) where
         goes_on = λ l. absurd (omega arith);
       }
 
-  pub finds : {x y bytes : ℕ} {read : OrderRead} → at < length list → x ≡ min 24 (length list - at) → read ≡ order_read (take (at + x - at) (drop at list)) → bytes ≡ bytes_after read
+  pub finds : {x y bytes : ℕ} {read : Result Order Malformed} → at < length list → x ≡ min 24 (length list - at) → read ≡ order_read (take (at + x - at) (drop at list)) → bytes ≡ bytes_after read
       → y ≡ min bytes (length list - (at + x)) → FindsItem list at (record { order_end = at + x; end = at + x + y })
   finds {x} {y} {bytes} h p r b q =
       let a : at + x - at ≡ x = omega arith in
       let l = length-drop at list in
       let o : take (at + x - at) (drop at list) ≡ order_at list at =
-      ap (λ (i : ℕ). take i (drop at list)) a ∙ same_part (drop at list) 24 x (p ∙ ap (min 24) (sym l)) in
+      ap (λ (i : ℕ). take i (drop at list)) a ∙ ap (λ (i : ℕ). take i (drop at list)) (p ∙ ap (min 24) (sym l)) ∙ take_min 24 (drop at list) in
       let p' : x ≡ length (order_at list at) = p ∙ sym (taken 24 at list) in
       let n : bytes ≡ bytes_after (order_read (order_at list at)) = b ∙ ap bytes_after (r ∙ ap order_read o) in
       let q' : y ≡ length (bindings_at list at) =

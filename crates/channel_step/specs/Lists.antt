@@ -1,14 +1,14 @@
 -- A list of orders as bytes: each order's 24 bytes, and after a load the bytes of its n bindings. From the scope, 'Order record'.
-use Rattle.std.specs.Prelude.{ℕ, ◌+◌, ◌*◌, ◌≤◌, ◌<◌, ◌≡◌, List, length, take, drop}
-use Rattle.records.specs.declared.order.OrderRead.{OrderRead}
-use Rattle.records.specs.declared.order.OrderRead.TheVariants.{Whole, Malformed}
+use Rattle.records.specs.declared.order.Order.{Order}
+use Rattle.records.specs.declared.check.Malformed.{Malformed}
+use Rattle.std.specs.Prelude.{ℕ, ◌+◌, ◌*◌, ◌≤◌, ◌<◌, ◌≡◌, List, length, take, drop, Err, Ok, Result}
 use Rattle.records.specs.Orders.{order_read, wanted}
 use Rattle.channel_step.specs.declared.list.ItemEnds.{ItemEnds}
 
 -- how many bytes of bindings follow an order; none follow one that does not read
-abbrev pub bytes_after : OrderRead → ℕ
-bytes_after (Whole order) = 8 * wanted order
-bytes_after (Malformed place) = 0
+abbrev pub bytes_after : Result Order Malformed → ℕ
+bytes_after (Ok order) = 8 * wanted order
+bytes_after (Err bad) = 0
 
 -- the order at a byte of a list: 24 bytes, or what is left
 abbrev pub order_at : List ℕ → ℕ → List ℕ

@@ -1,21 +1,18 @@
 -- One order played on a channel: what it is answered, the run of its records, and the channel after it. From the scope, 'Order record' and 'Machine'.
 -- `answer_to`, `order_records` and `order_context` are what the contract of the order function cites, and `ran` is what the contract of the machine's run cites.
-use Rattle.std.specs.Prelude.{ℕ, ◌*◌, ◌≡◌, Bool, cond, List, [], length, replicate, take}
+use Rattle.layout.specs.declared.config.Unshaped.{Unshaped}
+use Rattle.std.specs.Prelude.{ℕ, ◌*◌, ◌≡◌, Bool, cond, List, [], length, replicate, take, Err, Ok, Result}
 use Rattle.records.specs.Answers.{AnswersBy}
 use Rattle.trees.specs.Tree.{size}
 use Rattle.layout.specs.declared.config.Shape.{Shape}
-use Rattle.layout.specs.declared.config.Shaped.{Shaped}
-use Rattle.layout.specs.declared.config.Shaped.TheVariants.{In, NoFrame, NoEdition}
+use Rattle.layout.specs.declared.config.Unshaped.TheVariants.{NoFrame, NoEdition}
 use Rattle.layout.specs.Config.{shape_of, most_variables, stack_depth, block_words}
 use Rattle.machine_step.specs.View.{View, view}
-use Rattle.machine.specs.declared.run.RunAnswer.{RunAnswer}
-use Rattle.machine.specs.declared.run.RunAnswer.TheVariants.{Ended}
 use Rattle.machine.specs.State.{see, fresh_state}
-use Rattle.machine.specs.Run.{Done, ran}
+use Rattle.machine.specs.Run.{Done, ran, RunAnswer}
 use Rattle.machine.specs.Run as machine
-use Rattle.order_spec.specs.declared.answer.OrderAnswer.{OrderAnswer}
-use Rattle.order_spec.specs.declared.answer.OrderAnswer.TheVariants.{Edition}
-use Rattle.order_spec.specs.Answered.{Asked, order_answer_cause, order_accepted, order_tree, order_context, answer_to, unframed_order, order_records, records_output}
+use Rattle.order_spec.specs.declared.answer.OrderRefusal.TheVariants.{Edition}
+use Rattle.order_spec.specs.Answered.{Asked, order_answer_cause, order_accepted, order_tree, order_context, answer_to, unframed_order, order_records, records_output, OrderAnswer}
 use Rattle.order.specs.Answers as orders
 use Rattle.channel_step.specs.declared.channel.Channel as code
 
@@ -46,14 +43,14 @@ module _ (g : Shape) where
 
   -- how an accepted order's run ended; a refused order makes no step
   abbrev pub ends : Channel → Asked → (ℕ → ℕ) → RunAnswer
-  ends ch q words = cond (is_accepted ch q) (run_of ch q words).answer (Ended 0)
+  ends ch q words = cond (is_accepted ch q) (run_of ch q words).answer (Ok 0)
 
 -- the channel of the program's words in a shape: the context's bytes in use, and the registers and the frame's part of the stack beside the lent heap
 abbrev pub channel_of : Shape → code.Channel → List ℕ → Channel
 channel_of g c heap = record { context = take c.used c.context; view = view c.registers (take (stack_depth g) c.stack) heap }
 
 -- the shape of its edition and frame
-abbrev pub shape_in : code.Channel → Shaped
+abbrev pub shape_in : code.Channel → Result Shape Unshaped
 shape_in c = shape_of c.edition c.frame
 
 -- the words with which a list of orders starts in an edition and a frame, on a zeroed heap of any number of blocks; where there is no such edition or frame any
@@ -61,7 +58,7 @@ shape_in c = shape_of c.edition c.frame
 pub record Starts (edition frame : ℕ) (c : code.Channel) : Type 0 where
   pub edition_is : c.edition ≡ edition
   pub frame_is : c.frame ≡ frame
-  pub starts : (g : Shape) → shape_of edition frame ≡ In g → (blocks : ℕ) → channel_of g c (replicate (block_words g * blocks) 0) ≡ fresh g blocks
+  pub starts : (g : Shape) → shape_of edition frame ≡ Ok g → (blocks : ℕ) → channel_of g c (replicate (block_words g * blocks) 0) ≡ fresh g blocks
 
 -- what goes in with an order: the bindings of as many variables as have both positions are all the context that orders can reach
 abbrev pub asking_on : Shape → List ℕ → List ℕ → ℕ → List ℕ → Asked
@@ -80,7 +77,7 @@ pub record Stays (c : code.Channel) (expected : OrderAnswer) (c' : code.Channel)
   pub answer : AnswersBy order_answer_cause r expected
   pub channel : c' ≡ c
   pub heap_kept : heap' ≡ heap
-  pub ran : AnswersBy machine.run_cause a (Ended 0)
+  pub ran : AnswersBy machine.run_cause a (Ok 0)
   pub records : o' ≡ o
 
 -- where there is no such frame an order is answered 15 to 17, 2 or 3
@@ -95,6 +92,6 @@ pub record SameShape (c c' : code.Channel) : Type 0 where
 -- an order's bytes and its bindings' on the program's words, by the channel's edition and frame
 pub record PlaysIn (c : code.Channel) (order bindings : List ℕ) (counter : ℕ) (words : ℕ → ℕ) (c' : code.Channel) (heap heap' : List ℕ) (r : OrderAnswer) (a : RunAnswer) (o o' : List ℕ) : Type 0 where
   pub same_shape : SameShape c c'
-  pub known : (g : Shape) → shape_in c ≡ In g → Plays g (channel_of g c heap) (asking_on g order bindings counter o) words (channel_of g c' heap') r a o o'
-  pub no_frame : shape_in c ≡ NoFrame → Stays c (unframed_on c (orders.asking order bindings counter o [])) c' heap heap' r a o o'
-  pub no_edition : shape_in c ≡ NoEdition → Stays c Edition c' heap heap' r a o o'
+  pub known : (g : Shape) → shape_in c ≡ Ok g → Plays g (channel_of g c heap) (asking_on g order bindings counter o) words (channel_of g c' heap') r a o o'
+  pub no_frame : shape_in c ≡ Err NoFrame → Stays c (unframed_on c (orders.asking order bindings counter o [])) c' heap heap' r a o o'
+  pub no_edition : shape_in c ≡ Err NoEdition → Stays c (Err Edition) c' heap heap' r a o o'

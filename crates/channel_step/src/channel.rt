@@ -1,7 +1,7 @@
 // A channel, and one order played on it.
-ghost use Rattle.std.specs.Prelude.{◌≡◌, ℕ, ◌*◌, ◌≤◌, List, [], length, take};
+ghost use Rattle.std.specs.Prelude.{◌≡◌, ℕ, ◌*◌, ◌≤◌, List, [], length, take, Ok, Err};
 ghost use Rattle.layout.specs.declared.config.Shape.{Shape};
-ghost use Rattle.layout.specs.declared.config.Shaped.TheVariants.{In, NoFrame};
+ghost use Rattle.layout.specs.declared.config.Unshaped.TheVariants.{NoFrame};
 ghost use Rattle.layout.specs.Config.{Supported, shape_of, in_frame, stack_depth, block_words};
 ghost use Rattle.machine_step.specs.View.{view, words_of};
 ghost use Rattle.machine.specs.State.{fresh_registers};
@@ -10,8 +10,9 @@ ghost use Rattle.order.specs.Answers as orders;
 ghost use Rattle.channel_step.specs.Playing as is;
 
 use layout::config;
-use layout::config::{Choice, Shape, Shaped};
-use order_spec::answer::OrderAnswer;
+use layout::config::{Shape, Unshaped};
+use machine::run::RunAnswer;
+use order_spec::answer::{OrderAnswer, OrderRefusal};
 
 // The bytes of a context with as many variables as the largest frame has positions for, and the words of that frame's stack.
 pub const CONTEXT: usize = 2088;
@@ -38,7 +39,20 @@ pub struct Channel {
 pub struct Played {
     pub channel: Channel,
     pub answer: OrderAnswer,
-    pub ran: machine::run::RunAnswer,
+    pub ran: RunAnswer,
+}
+
+impl Played {
+    // An order that is refused: the channel stays, and no step is made.
+    fn not_run(channel: Channel, answer: OrderAnswer) -> Self
+        ensures { result ≡ record { channel = channel; answer = answer; ran = Ok 0 } }
+    {
+        Self {
+            channel,
+            answer,
+            ran: Ok(0),
+        }
+    }
 }
 
 // How many words of a channel's stack are its frame's; none where there is no such frame.
@@ -46,19 +60,18 @@ pub fn stack_words(frame: u64) -> usize
     ensures { result ≡ in_frame frame stack_depth 0 }
 {
     match config::frame_of(frame) {
-        Choice::Of(g) => (g.spills + 64) as usize,
-        Choice::Unknown => 0,
+        Some(g) => (g.spills + 64) as usize,
+        None => 0,
     }
 }
 
 // Where there is no such edition or frame any will do: every order is refused there.
 fn fresh_registers(edition: u64, frame: u64) -> [u64; 16]
-    ensures { (g : Shape) → shape_of edition frame ≡ In g → result ≡ fresh_registers g }
+    ensures { (g : Shape) → shape_of edition frame ≡ Ok g → result ≡ fresh_registers g }
 {
     match config::shape_of(edition, frame) {
-        Shaped::In(g) => machine::state::fresh_registers(g),
-        Shaped::NoFrame => [0; 16],
-        Shaped::NoEdition => [0; 16],
+        Ok(g) => machine::state::fresh_registers(g),
+        Err(_) => [0; 16],
     }
 }
 
@@ -90,24 +103,13 @@ fn ask(
 ) -> OrderAnswer
     ensures { orders.AnswersOrder (shape_of edition frame) (take used context.now) (orders.asking order.now bindings.now counter records_out.old context_out.old) result records_out.old records_out.new context_out.old context_out.new }
 {
-    if used <= context.len() {
-        return order::order::order(
-            records_out,
-            context_out,
-            edition,
-            frame,
-            &context[..used],
-            counter,
-            order,
-            bindings,
-        );
-    }
+    let end = used.min(context.len());
     order::order::order(
         records_out,
         context_out,
         edition,
         frame,
-        context,
+        &context[..end],
         counter,
         order,
         bindings,
@@ -123,7 +125,7 @@ fn run_records(
     stack: &mut [u64],
     heap: &mut [u64],
     words: &[u64; 9],
-) -> machine::run::RunAnswer
+) -> RunAnswer
     requires { (24 * count ≤ length records.now) × Supported g }
     ensures { Leaves result (view registers.new stack.new heap.new) (ran (block_words g) (words_of words.now) (take (24 * count) records.now) count (view registers.old stack.old heap.old)) }
 {
@@ -151,7 +153,7 @@ fn play_in(
     bindings: &[u8],
     words: [u64; 9],
 ) -> Played
-    requires { (is.shape_in channel ≡ In g) × Supported g }
+    requires { (is.shape_in channel ≡ Ok g) × Supported g }
     ensures { is.SameShape channel result.channel × is.Plays g (is.channel_of g channel heap.old) (is.asking_on g order.now bindings.now counter records_out.old) (words_of words) (is.channel_of g result.channel heap.new) result.answer result.ran records_out.old records_out.new }
 {
     let room = (8 * ((g.spills + 11) / 2)) as usize;
@@ -171,16 +173,12 @@ fn play_in(
         order,
         bindings,
     );
-    let OrderAnswer::Accepted(records, _, count) = answer else {
-        return Played {
-            channel,
-            answer,
-            ran: machine::run::RunAnswer::Ended(0),
-        };
+    let Ok(accepted) = answer else {
+        return Played::not_run(channel, answer);
     };
     let ran = run_records(
         records_out,
-        records,
+        accepted.records,
         g,
         &mut registers,
         &mut stack[..depth],
@@ -189,12 +187,11 @@ fn play_in(
     );
     Played {
         channel: Channel {
-            edition: channel.edition,
-            frame: channel.frame,
-            used: 8 * count,
+            used: 8 * accepted.bindings,
             context: after,
             registers,
             stack,
+            ..channel
         },
         answer,
         ran,
@@ -209,7 +206,7 @@ fn refuse(
     order: &[u8],
     bindings: &[u8],
 ) -> Played
-    requires { is.shape_in channel ≡ NoFrame }
+    requires { is.shape_in channel ≡ Err NoFrame }
     ensures { (heap : List ℕ) → is.Stays channel (is.unframed_on channel (orders.asking order.now bindings.now counter records_out.old [])) result.channel heap heap result.answer result.ran records_out.old records_out.new }
 {
     let context = channel.context;
@@ -225,11 +222,7 @@ fn refuse(
         order,
         bindings,
     );
-    Played {
-        channel,
-        answer,
-        ran: machine::run::RunAnswer::Ended(0),
-    }
+    Played::not_run(channel, answer)
 }
 
 // An order's bytes and the bindings that follow it, played on a channel: its records go into `records_out`, and run on the heap.
@@ -245,7 +238,7 @@ pub fn play(
     ensures { is.PlaysIn channel order.now bindings.now counter (words_of words) result.channel heap.old heap.new result.answer result.ran records_out.old records_out.new }
 {
     match config::shape_of(channel.edition, channel.frame) {
-        Shaped::In(g) => play_in(
+        Ok(g) => play_in(
             g,
             channel,
             heap,
@@ -255,11 +248,7 @@ pub fn play(
             bindings,
             words,
         ),
-        Shaped::NoFrame => refuse(channel, records_out, counter, order, bindings),
-        Shaped::NoEdition => Played {
-            channel,
-            answer: OrderAnswer::Edition,
-            ran: machine::run::RunAnswer::Ended(0),
-        },
+        Err(Unshaped::NoFrame) => refuse(channel, records_out, counter, order, bindings),
+        Err(Unshaped::NoEdition) => Played::not_run(channel, Err(OrderRefusal::Edition)),
     }
 }

@@ -2,7 +2,8 @@
 ghost use Rattle.std.specs.Prelude.{◌≡◌};
 ghost use Rattle.channel_step.specs.Lists.{bytes_after, FindsItem};
 
-use records::order::OrderRead;
+use records::check::Malformed;
+use records::order::Order;
 
 // Where an order's bytes end, and where its bindings do.
 #[derive(Clone, Copy)]
@@ -12,12 +13,12 @@ pub struct ItemEnds {
 }
 
 // How many bytes of bindings follow an order.
-pub fn bytes_after(order: OrderRead) -> usize
+pub fn bytes_after(order: Result<Order, Malformed>) -> usize
     ensures { result ≡ bytes_after order }
 {
     match order {
-        OrderRead::Malformed(_) => 0,
-        OrderRead::Whole(read) => 8 * (records::order::wanted(read) as usize),
+        Ok(read) => 8 * (records::order::wanted(read) as usize),
+        Err(_) => 0,
     }
 }
 
@@ -31,10 +32,10 @@ pub fn item_at(list: &[u8], at: usize) -> ItemEnds
             end: at,
         };
     }
-    let order_end = at + records::bytes::least(24, list.len() - at);
+    let order_end = at + (list.len() - at).min(24);
     let bytes = bytes_after(records::order::read_order(&list[at..order_end]));
     ItemEnds {
         order_end,
-        end: order_end + records::bytes::least(bytes, list.len() - order_end),
+        end: order_end + (list.len() - order_end).min(bytes),
     }
 }

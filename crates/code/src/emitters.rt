@@ -83,6 +83,7 @@ fn emit_commutative(out: &mut [u8], p: Cursor, g: Shape, n: u8, w: u64, x: u64, 
     parts::through_temp(out, p, g, n, w, x, y)
 }
 
+// Kept beside `emit_commutative`: code.rs's `sub`, which goes by TEMP where its second source is the target.
 fn emit_subtraction(out: &mut [u8], p: Cursor, g: Shape, w: u64, x: u64, y: u64) -> Cursor
     requires { (p.at + 72 < 2 ^ 64) × (w < operands g) × (x < operands g) × (y < operands g) × Supported g }
     ensures { Emits out.old p out.new result (subtraction g w x y) }

@@ -32,7 +32,8 @@ pub fn move_to_register(out: &mut [u8], p: Cursor, g: Shape, r: u8, w: u64) -> C
     }
 }
 
-// The number of an operation's code on two registers. The form with a spill as source is one more, that with a spill as target two.
+// The number of an operation's code on two registers. The form with a spill as source is one more, that with a spill as target two. Kept by number, 0 add, 1 sub,
+// any other mul: `to_register`, `to_spill`, `into_register` and `through_temp` take any, and so do the functions of these names.
 fn code_number(n: u8) -> u8
     ensures { (result ≡ by_number n 1 6 10) × (result < 16) }
 {

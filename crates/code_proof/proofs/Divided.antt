@@ -1,4 +1,5 @@
 -- div and rem do what they name, or fault: RETURN2 waits in TEMP and RETURN1 in the target while the division uses both.
+use Rattle.std.specs.Prelude.{None, Some}
 use Prim.Native.Nat.{ℕ, ◌≤◌}
 use mathlib.Core.Path.{◌≡◌, refl, sym, ap, ◌∙◌}
 use mathlib.Core.Logic.{◌≢◌}
@@ -14,8 +15,6 @@ use Rattle.layout.specs.declared.config.Shape.{Shape}
 use Rattle.layout.specs.Config.{STACK, TEMP, RETURN1, RETURN2, stack_offset}
 use Rattle.code.specs.Code.{divide_by, divide_kept, restored, arithmetic}
 use Rattle.word.specs.Words.{signs, quotient, remainder, divisible, divides}
-use Rattle.machine_step.specs.declared.instruction.Compared.TheVariants.{Absent}
-use Rattle.machine_step.specs.declared.memory.Fetched.TheVariants.{Word}
 use Rattle.machine_step.specs.View.{put_reg}
 use Rattle.machine_step.specs.Memory.{Operand, register, memory, value_of}
 use Rattle.machine_step.specs.Step.{Config, changed, next, fault, divide, step}
@@ -61,7 +60,7 @@ extended c a = changed c (put_reg c.state RETURN2 (signs a))
 abbrev divided : Config → ℕ → ℕ → Config
 divided c a d = changed c (put_reg (put_reg c.state RETURN1 (quotient a d)) RETURN2 (remainder a d))
 
-divide_is : (c : Config) (src : Operand) (a d : ℕ) → value_of c.state src ≡ Word d → c.state.reg RETURN1 ≡ a → c.state.reg RETURN2 ≡ signs a
+divide_is : (c : Config) (src : Operand) (a d : ℕ) → value_of c.state src ≡ Some d → c.state.reg RETURN1 ≡ a → c.state.reg RETURN2 ≡ signs a
     → evaluated (divide src c) ≡ cond (divisible a d) (done (divided c a d)) (faulted c)
 divide_is c src a d e l h = rw (e, h, l, divides_where a d) (by (divisible a d))
   where
@@ -113,24 +112,24 @@ module _ (words : ℕ → ℕ) where
     placed_far : {d : Config} → Unchanged (Far t) c d → Placed G N d
     placed_far u = placed_keeps (omega (arith, f.above), omega arith, omega arith, omega arith) u.kept v
 
-    divisor_read : (d : Config) → Prepared d → value_of d.state (divisor_at G y) ≡ Word divisor
+    divisor_read : (d : Config) → Prepared d → value_of d.state (divisor_at G y) ≡ Some divisor
     divisor_read d r = by (ltb y 16) refl (eqb y RETURN2) refl
       where
         far : y ≢ RETURN2 → held d y ≡ divisor
         far m = r.rest.kept.kept y (λ z. n.not_divisor (sym z), omega (arith, k.above), n.divisor, m)
 
         by : (p : Bool) → ltb y 16 ≡ p → (q : Bool) → eqb y RETURN2 ≡ q
-            → value_of d.state (cond p (cond q (register TEMP) (register y)) (memory STACK (stack_offset G y))) ≡ Word divisor
-        by true e true h = ap Word (sym (held_register d.state.reg d.state.stk 1 (omega arith)) ∙ r.temp ∙ ap (held c) (sym (eqb-true y RETURN2 h)))
-        by true e false h = ap Word (sym (held_register d.state.reg d.state.stk y (ltb-true y 16 e)) ∙ far (eqb-false y RETURN2 h))
+            → value_of d.state (cond p (cond q (register TEMP) (register y)) (memory STACK (stack_offset G y))) ≡ Some divisor
+        by true e true h = ap Some (sym (held_register d.state.reg d.state.stk 1 (omega arith)) ∙ r.temp ∙ ap (held c) (sym (eqb-true y RETURN2 h)))
+        by true e false h = ap Some (sym (held_register d.state.reg d.state.stk y (ltb-true y 16 e)) ∙ far (eqb-false y RETURN2 h))
         by false e q h =
             let m : 16 ≤ y = ltb-false y 16 e in
-            spill_read d.state (placed_far r.rest) y m k.below ∙ ap Word (far (omega arith))
+            spill_read d.state (placed_far r.rest) y m k.below ∙ ap Some (far (omega arith))
 
     -- what RETURN2 holds is no matter
     ready_still : (d : Config) (w : ℕ) → Prepared d → Prepared (changed d (put_reg d.state RETURN2 w))
     ready_still d w r =
-        let p : Puts RETURN2 w d (changed d (put_reg d.state RETURN2 w)) = put d RETURN2 w Absent (λ z. absurd (omega arith)) in
+        let p : Puts RETURN2 w d (changed d (put_reg d.state RETURN2 w)) = put d RETURN2 w None (λ z. absurd (omega arith)) in
         record {
           temp = puts_other p TEMP (omega arith) ∙ r.temp;
           saved = puts_other p t n.not_remainder ∙ r.saved;
@@ -143,8 +142,8 @@ module _ (words : ℕ → ℕ) where
         let q : ℕ = quotient dividend divisor in
         let m : ℕ = remainder dividend divisor in
         let e : Config = changed d (put_reg d.state RETURN1 q) in
-        let a : Puts RETURN1 q d e = put d RETURN1 q Absent (λ z. absurd (omega arith)) in
-        let b : Puts RETURN2 m e (divided d dividend divisor) = put e RETURN2 m Absent (λ z. absurd (omega arith)) in (
+        let a : Puts RETURN1 q d e = put d RETURN1 q None (λ z. absurd (omega arith)) in
+        let b : Puts RETURN2 m e (divided d dividend divisor) = put e RETURN2 m None (λ z. absurd (omega arith)) in (
           puts_other b RETURN1 (omega arith) ∙ a.0,
           record {
             temp = puts_other b TEMP (omega arith) ∙ puts_other a TEMP (omega arith) ∙ r.temp;

@@ -1,4 +1,5 @@
 -- Jumps go where they name: a compare leaves the pair of words, and the conditional jump after it goes by their relation.
+use Rattle.std.specs.Prelude.{Some}
 use Prim.Native.Nat.{ℕ, suc, ◌+◌}
 use mathlib.Core.Path.{◌≡◌, refl, ap, subst, ◌∙◌}
 use mathlib.Core.Logic.{◌≢◌}
@@ -23,10 +24,8 @@ use Rattle.code.proofs.Sizes.{plain_compare, plain_compare_immediate}
 use Rattle.operations.specs.declared.operation.Operation.TheVariants.{Label}
 use Rattle.operations.specs.Operations.{operation_records}
 use Rattle.word.specs.Words.{choose}
-use Rattle.machine_step.specs.declared.instruction.Compared.TheVariants.{Of}
 use Rattle.machine_step.specs.Memory.{register, memory, immediate}
 use Rattle.machine_step.specs.Step.{Config, dropped, jump, next, step}
-use Rattle.machine.specs.declared.run.Found.TheVariants.{At}
 use Rattle.machine.specs.Run.{the_one, find}
 use Rattle.trees_proof.specs.Evaluation.{evaluated, done}
 use Rattle.trees_proof.specs.Claims.{RunsTo, RunsAs}
@@ -47,7 +46,7 @@ abbrev Same : Config → Config → Type 0
 Same c d = Unchanged (λ l. l ≢ TEMP) c d
 
 abbrev Compares : ℕ → ℕ → Config → Config → Type 0
-Compares x y c d = (d.pair ≡ Of x y) × Same c d
+Compares x y c d = (d.pair ≡ Some (x, y)) × Same c d
 
 same : (c : Config) → Same c c
 same c = record { kept = keeps_refl; heap = refl }
@@ -90,7 +89,7 @@ module _ (words : ℕ → ℕ) {G : Shape} {N : ℕ} (c : Config) (v : Placed G 
       by false e = one (ap evaluated (compares c (memory STACK (stack_offset G x)) (immediate value) refl (spill_read c.state v x (ltb-false x 16 e) f.below))) (refl, paired c _ _ (same c))
 
 -- a conditional jump goes by the relation of the words compared last
-jump_is : (words : ℕ → ℕ) (k : Condition) (label x y : ℕ) (d : Config) → d.pair ≡ Of x y
+jump_is : (words : ℕ → ℕ) (k : Condition) (label x y : ℕ) (d : Config) → d.pair ≡ Some (x, y)
     → step words (jump_if k label) d ≡ cond (relation k x y) (jump label (dropped d)) (next (dropped d))
 unfolding step
 jump_is words Equal label x y d e = rw e
@@ -100,7 +99,7 @@ jump_is words LessOrEqual label x y d e = rw e
 jump_is words Greater label x y d e = rw e
 jump_is words GreaterOrEqual label x y d e = rw e
 
-module _ (words : ℕ → ℕ) (p : List Code) (label i j : ℕ) (c : Config) (f : find label p ≡ At j) where
+module _ (words : ℕ → ℕ) (p : List Code) (label i j : ℕ) (c : Config) (f : find label p ≡ Some j) where
   -- a tree that compares x and y, and a conditional jump after it
   branch_goes : (u : Tree) (k : Condition) (x y : ℕ) → labels u ≡ 0 → Does words u c (Compares x y c) → GoesIf (relation k x y) words p i j (flat u 0 ++ (jump_if k label ∷ [])) c
   branch_goes u k x y z r rest e =

@@ -1,4 +1,5 @@
 -- One operand changed: what it holds, what stays, and two such changes one after the other.
+use Rattle.std.specs.Prelude.{Option}
 use Prim.Native.Nat.{ℕ, ◌≤◌, ◌<◌}
 use mathlib.Core.Path.{◌≡◌, refl, ◌∙◌}
 use mathlib.Core.Logic.{◌≢◌}
@@ -10,7 +11,6 @@ use Rattle.layout.specs.declared.config.Shape.{Shape}
 use Rattle.layout.specs.Config.{TEMP, operands}
 use Rattle.layout.specs.Positions.{operand_ok}
 use Rattle.layout.specs.Frame.{stack_word}
-use Rattle.machine_step.specs.declared.instruction.Compared.{Compared}
 use Rattle.machine_step.specs.View.{put_reg, put_stk}
 use Rattle.machine_step.specs.Step.{Config, config}
 use Rattle.layout_proof.specs.Held.{NoSpill, held, operands_in, Placed}
@@ -44,7 +44,7 @@ abbrev pub Puts : ℕ → ℕ → Config → Config → Type 0
 Puts t w c d = (held d t ≡ w) × Unchanged (λ l. l ≢ t) c d
 
 -- a spill is one of the frame's
-pub put : (c : Config) (t w : ℕ) (q : Compared) → (16 ≤ t → t < operands_in c.state.depth) → Puts t w c (config (with_operand c.state t w) q c.calls)
+pub put : (c : Config) (t w : ℕ) (q : Option (ℕ × ℕ)) → (16 ≤ t → t < operands_in c.state.depth) → Puts t w c (config (with_operand c.state t w) q c.calls)
 put c t w q h = (
   operand_same c.state t w,
   record {

@@ -1,8 +1,8 @@
 -- The trees of one record by what their operands are, a register or a spill: each is one move, sum or compare of operands.
+use Rattle.std.specs.Prelude.{Some}
 use Prim.Native.Nat.{ℕ, ◌≤◌, ◌<◌}
 use mathlib.Core.Path.{◌≡◌, refl, sym, ap, ◌∙◌}
 use mathlib.Core.Bool.{Bool, true, false, cond}
-use mathlib.Core.Option.{some}
 use native.Mathlib.Omega.{arith}
 use lib.Dec.{ltb}
 use borrow.Author.Tests.{lt-ltb, le-ltb}
@@ -12,7 +12,6 @@ use Rattle.layout.specs.declared.config.Shape.{Shape}
 use Rattle.layout.specs.Config.{STACK, operands, stack_offset}
 use Rattle.code.specs.Code.{register_register, register_spill, spill_register, move_from, move_to, to_register, load_immediate}
 use Rattle.word.specs.Words.{sum, difference, product}
-use Rattle.machine_step.specs.declared.memory.Fetched.TheVariants.{Word}
 use Rattle.machine_step.specs.Memory.{register, memory, immediate, value_of, assigned}
 use Rattle.machine_step.specs.Step.{Config, move, calculate, step}
 use Rattle.trees_proof.specs.Evaluation.{evaluate, evaluated}
@@ -92,10 +91,10 @@ module _ (G : Shape) (words : ℕ → ℕ) (c : Config) where
 -- ---- what it does
 
 module _ (c : Config) (r : ℕ) (h : r < 16) where
-  pub register_read : value_of c.state (register r) ≡ Word (held c r)
-  register_read = ap Word (sym (held_register c.state.reg c.state.stk r h))
+  pub register_read : value_of c.state (register r) ≡ Some (held c r)
+  register_read = ap Some (sym (held_register c.state.reg c.state.stk r h))
 
-  register_written : (x : ℕ) → assigned c.state (register r) x ≡ some (with_operand c.state r x)
+  register_written : (x : ℕ) → assigned c.state (register r) x ≡ Some (with_operand c.state r x)
   register_written x = rw (lt-ltb r 16 h)
 
 module _ (words : ℕ → ℕ) {G : Shape} {N : ℕ} (c : Config) (v : Placed G N c) where

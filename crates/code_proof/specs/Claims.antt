@@ -2,7 +2,7 @@
 -- may give (registers 4..15 and the frame's spills from 1, the target equal to a source included), with STACK where the routine's setup leaves it; and jumps go where they name
 -- in every list of records. An operand is a word, register r is r and spill p is 16 + p; `held c l` is the word at operand l. Words are any numbers: sums, differences and
 -- products are taken modulo 2^64 whatever the operands hold.
-use Rattle.std.specs.Prelude.{ℕ, ◌+◌, ◌^◌, ◌≤◌, ◌<◌, ◌≡◌, ◌≢◌, Bool, true, false, not, List, [], ◌∷◌, ◌++◌, eqb, length, drop}
+use Rattle.std.specs.Prelude.{ℕ, ◌+◌, ◌^◌, ◌≤◌, ◌<◌, ◌≡◌, ◌≢◌, Bool, true, false, not, List, [], ◌∷◌, ◌++◌, eqb, length, drop, Ok, Err}
 use Rattle.records.specs.declared.code.Code.{Code}
 use Rattle.records.specs.declared.order.Calculation.{Calculation}
 use Rattle.records.specs.declared.order.Calculation.TheVariants.{Add, Sub, Mul, Div, Rem}
@@ -20,7 +20,7 @@ use Rattle.word.specs.Results.{result, result_defined}
 use Rattle.machine_step.specs.View.{View, words_of}
 use Rattle.machine_step.specs.Memory.{heap_ok}
 use Rattle.machine_step.specs.Step.{Config}
-use Rattle.machine.specs.declared.run.RunAnswer.TheVariants.{Ended, Fault}
+use Rattle.machine.specs.declared.run.Stop.TheVariants.{Fault}
 use Rattle.machine.specs.Run.{places_of, done, ran, starting}
 use Rattle.machine.specs.State.{fresh_state}
 use Rattle.trees_proof.specs.Claims.{RunsTo}
@@ -108,7 +108,7 @@ pub record EndsWith (G : Shape) (words : ℕ → ℕ) (records : List Code) (v :
   pub steps : ℕ
   pub within : steps ≤ length records
   pub last : Config
-  pub run : ran (block_words G) words (joined code_bytes records) (length records) v ≡ done (Ended steps) last
+  pub run : ran (block_words G) words (joined code_bytes records) (length records) v ≡ done (Ok steps) last
   pub post : Q last
 
 -- they come to a fault, at one of them; a division's with target t, and only t, TEMP and registers 4 and 5 are then other than before
@@ -119,7 +119,7 @@ pub record FaultsWith (G : Shape) (words : ℕ → ℕ) (records : List Code) (v
   pub above : 0 < place
   pub below : place ≤ length records
   pub last : Config
-  pub run : ran (block_words G) words (joined code_bytes records) (length records) v ≡ done (Fault steps place) last
+  pub run : ran (block_words G) words (joined code_bytes records) (length records) v ≡ done (Err (Fault steps place)) last
   pub rest : Unchanged (λ l. (l ≢ t) × (l ≢ TEMP) × (l ≢ RETURN1) × (l ≢ RETURN2)) (starting v) last
 
 -- what the records that the operations without jumps write do when they are run, by the words that the sources held before

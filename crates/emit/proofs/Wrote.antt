@@ -1,4 +1,7 @@
 -- From what an emitter leaves to an operation's answer and output.
+use Rattle.std.specs.Prelude.{Ok, Err, Some, None, Option, Result}
+use Rattle.std.specs.Option.{ok_or}
+use Rattle.std.specs.Result.{IsErrAnd}
 use Prim.Native.Nat.{ℕ, ◌+◌, ◌*◌, ◌/◌, ◌≤◌, ◌<◌}
 use mathlib.Core.Bool.{Bool, true, false, cond}
 use mathlib.Core.Path.{◌≡◌, refl, sym, ap, ◌∙◌, subst}
@@ -20,10 +23,11 @@ use Rattle.records.specs.Names.{last_label}
 use Rattle.trees.specs.Tree.{Tree, labels, size, flat}
 use Rattle.trees.proofs.Flat.{length_flat}
 use Rattle.emit.specs.declared.cursor.Cursor.{Cursor}
-use Rattle.emit.specs.declared.answer.Answer.{Answer}
-use Rattle.emit.specs.declared.answer.Answer.TheVariants.{Written, Labels, Room}
+use Rattle.emit.specs.declared.answer.Written.{Written}
+use Rattle.emit.specs.declared.answer.Refusal.{Refusal}
+use Rattle.emit.specs.declared.answer.Refusal.TheVariants.{Labels, Room}
 use Rattle.emit.specs.Emitted.{written, fields_list, Emitted, Emits}
-use Rattle.emit.specs.Answers.{cause_of, ample, granted, accepted, output, Answers}
+use Rattle.emit.specs.Answers.{cause_of, ample, granted, accepted, output, Answers, written_with as outcome, Answer}
 use Rattle.emit.proofs.Laws.{length_fields, listed}
 
 pub bytes_long : (f : Fields) → length (fields_bytes f) ≡ 24
@@ -43,15 +47,15 @@ written_whole (c ∷ cs) o i h =
     ∙ sets_then f (joined code_bytes cs) o i (i + 24) (omega arith)
 
 module _ (counter room bytes n : ℕ) where
-  pub no_labels : last_label < counter + n → Labels ≡ granted counter room bytes n
+  pub no_labels : last_label < counter + n → Err Labels ≡ granted counter room bytes n
   unfolding granted
   no_labels h = rw (lt-ltb last_label (counter + n) h)
 
-  pub no_room : counter + n ≤ last_label → room < bytes → Room bytes ≡ granted counter room bytes n
+  pub no_room : counter + n ≤ last_label → room < bytes → Err (Room bytes) ≡ granted counter room bytes n
   unfolding granted
   no_room h r = rw (le-ltb last_label (counter + n) h, lt-ltb room bytes r)
 
-  pub granted_all : counter + n ≤ last_label → bytes ≤ room → Written (bytes / 24) (counter + n) ≡ granted counter room bytes n
+  pub granted_all : counter + n ≤ last_label → bytes ≤ room → Ok (outcome (bytes / 24) (counter + n)) ≡ granted counter room bytes n
   unfolding granted
   granted_all h r = rw (le-ltb last_label (counter + n) h, le-ltb room bytes r)
 
@@ -61,7 +65,7 @@ module _ (counter room bytes n : ℕ) where
   granted_if e = by (ltb last_label (counter + n)) (ltb room bytes) refl refl e
     where
       by : (a b : Bool) → ltb last_label (counter + n) ≡ a → ltb room bytes ≡ b
-          → accepted (cond a Labels (cond b (Room bytes) (Written (bytes / 24) (counter + n)))) ≡ true
+          → accepted (cond a (Err Labels) (cond b (Err (Room bytes)) (Ok (outcome (bytes / 24) (counter + n))))) ≡ true
           → (counter + n ≤ last_label) × (bytes ≤ room)
       by true b p q r = never r
       by false true p q r = never r
@@ -74,13 +78,32 @@ answers e f = record { answer = e; cause = ap cause_of e; bytes = f }
 pub refused : {o : List ℕ} {r expected : Answer} {cs : List Code} {b : Bool} → r ≡ expected → b ≡ accepted r → b ≡ false → Answers o o r expected cs
 refused e a f = answers e (rw (← e, ← a, f))
 
+-- a refusal handed on by `?` leaves the output too
+pub handed_on : {o : List ℕ} {r z expected : Answer} {cs : List Code} {x : Refusal} → r ≡ expected → r ≡ Err x → IsErrAnd z (λ y. y ≡ x) → Answers o o z expected cs
+handed_on {z = Ok w} e f h = absurd h
+handed_on {z = Err y} {expected} e f h =
+    let g : ◌≡◌ {A = Answer} (Err y) expected = ap (λ v. Err v) h ∙ sym f ∙ e in
+    refused g refl refl
+
+-- and one by `ok_or`, where an option is none
+pub wanting : {A : Type 0} {f : Option A} {r : Result A Refusal} {o : List ℕ} {z expected : Answer} {cs : List Code} {d x : Refusal}
+    → r ≡ ok_or f d → r ≡ Err x → IsErrAnd z (λ y. y ≡ x) → (f ≡ None → Err d ≡ expected) → Answers o o z expected cs
+wanting {A} {f = Some v} {x = x} e g h k =
+    let i : ◌≡◌ {A = Result A Refusal} (Ok v) (Err x) = sym e ∙ g in
+    let n : ◌≡◌ {A = ℕ} 0 1 = cc in
+    absurd (omega arith)
+wanting {A} {f = None} {expected = expected} {d = d} {x = x} e g h k =
+    let i : ◌≡◌ {A = Result A Refusal} (Err d) (Err x) = sym e ∙ g in
+    let j : d ≡ x = cc in
+    handed_on {r = expected} refl (sym (k refl) ∙ ap (λ v. Err v) j) h
+
 -- the answer's bounds on the counter and the room, from the size that a first pass told
-pub room_for : {o₀ o₁ : List ℕ} {p need : Cursor} {r : Answer} {b : Bool} (t : Tree) (counter room : ℕ) → Emits o₀ p o₁ need t → p.at ≡ 0 → p.counter ≡ 0
-    → r ≡ granted counter room need.at need.counter → b ≡ accepted r → b ≡ true
+pub room_for : {o₀ o₁ : List ℕ} {p need : Cursor} {r : Answer} {w : Written} (t : Tree) (counter room : ℕ) → Emits o₀ p o₁ need t → p.at ≡ 0 → p.counter ≡ 0
+    → r ≡ granted counter room need.at need.counter → r ≡ Ok w
     → (counter + labels t ≤ last_label) × (24 * size t ≤ room)
-room_for t counter room d a c e q k =
-    let w = granted_if counter room _ _ (ap accepted (sym e) ∙ sym q ∙ k) in
-    (omega (arith, w.0, d.drawn), omega (arith, w.1, d.place))
+room_for t counter room d a c e f =
+    let g = granted_if counter room _ _ (ap (λ v. accepted v) (sym e ∙ f)) in
+    (omega (arith, g.0, d.drawn), omega (arith, g.1, d.place))
 
 -- a first pass on another output tells the size; the second writes
 module _ {o₀ o₁ : List ℕ} {p need : Cursor} (t : Tree) (counter : ℕ) (d : Emits o₀ p o₁ need t) (a : p.at ≡ 0) (c : p.counter ≡ 0) where
@@ -90,16 +113,17 @@ module _ {o₀ o₁ : List ℕ} {p need : Cursor} (t : Tree) (counter : ℕ) (d 
       let k : need.counter ≡ labels t = omega (arith, d.drawn) in
       rw (h, k)
 
-  module _ (o : List ℕ) {r : Answer} (e : r ≡ granted counter (length o) need.at need.counter) {b : Bool} (f : b ≡ accepted r) where
-    pub not_written : b ≡ false → Answers o o r (granted counter (length o) (24 * size t) (labels t)) (flat t counter)
-    not_written g = refused (e ∙ same (length o)) f g
+  module _ (o : List ℕ) {r : Answer} (e : r ≡ granted counter (length o) need.at need.counter) where
+    pub not_written : {z : Answer} {x : Refusal} → r ≡ Err x → IsErrAnd z (λ y. y ≡ x) → Answers o o z (granted counter (length o) (24 * size t) (labels t)) (flat t counter)
+    not_written = handed_on (e ∙ same (length o))
 
-    pub wrote : {o' : List ℕ} {q z : Cursor} → b ≡ true → Emits o q o' z t → q.at ≡ 0 → q.counter ≡ counter
-        → Answers o o' r (granted counter (length o) (24 * size t) (labels t)) (flat t counter)
-    wrote g w i j =
-        let h = room_for t counter (length o) d a c e f g in
+    pub wrote : {w : Written} {o' : List ℕ} {q z : Cursor} → r ≡ Ok w → Emits o q o' z t → q.at ≡ 0 → q.counter ≡ counter
+        → Answers o o' (Ok w) (granted counter (length o) (24 * size t) (labels t)) (flat t counter)
+    wrote {w} f v i j =
+        let h = room_for t counter (length o) d a c e f in
         let l = length_flat t counter 0 in
-        answers (e ∙ same (length o)) (w.bytes ∙ rw (i, j, ← (e ∙ same (length o)), ← f, g) (written_whole (flat t counter) o 0 (omega arith)))
+        let g : ◌≡◌ {A = Answer} (Ok w) (granted counter (length o) (24 * size t) (labels t)) = sym f ∙ e ∙ same (length o) in
+        answers g (v.bytes ∙ rw (i, j, ← g) (written_whole (flat t counter) o 0 (omega arith)))
 
 -- what ample labels and room say
 module _ (counter room most records : ℕ) where
@@ -121,16 +145,16 @@ module _ (counter room most records : ℕ) where
 
 -- records written at once, where neither labels nor room can be wanting: a list's, and a tree's
 pub at_once_listed : {o o' : List ℕ} {p q : Cursor} {r : Answer} (cs : List Code) (counter : ℕ) {n : ℕ} → Emitted o p o' q (fields_list cs) n → p.at ≡ 0 → p.counter ≡ counter
-    → r ≡ Written (q.at / 24) q.counter → counter + n ≤ last_label → 24 * length cs ≤ length o
+    → r ≡ Ok (outcome (q.at / 24) q.counter) → counter + n ≤ last_label → 24 * length cs ≤ length o
     → Answers o o' r (granted counter (length o) (24 * length cs) n) cs
 at_once_listed {o} {q = q} cs counter {n} w i j k l h =
     let a : q.at ≡ 24 * length cs = omega (arith, w.place, length_fields cs) in
     let c : q.counter ≡ counter + n = omega (arith, w.drawn) in
-    let e : Written (q.at / 24) q.counter ≡ granted counter (length o) (24 * length cs) n = rw (a, c) (granted_all counter (length o) (24 * length cs) n l h) in
+    let e : Ok (outcome (q.at / 24) q.counter) ≡ granted counter (length o) (24 * length cs) n = rw (a, c) (granted_all counter (length o) (24 * length cs) n l h) in
     answers (k ∙ e) (w.bytes ∙ rw (i, ← e) (written_whole cs o 0 (omega arith)))
 
 pub at_once : {o o' : List ℕ} {p q : Cursor} {r : Answer} (t : Tree) (counter : ℕ) → Emits o p o' q t → p.at ≡ 0 → p.counter ≡ counter
-    → r ≡ Written (q.at / 24) q.counter → counter + labels t ≤ last_label → 24 * size t ≤ length o
+    → r ≡ Ok (outcome (q.at / 24) q.counter) → counter + labels t ≤ last_label → 24 * size t ≤ length o
     → Answers o o' r (granted counter (length o) (24 * size t) (labels t)) (flat t counter)
 at_once {o} {o'} {p} {q} t counter w i j k l h =
     let f = length_flat t counter 0 in

@@ -1,55 +1,54 @@
 -- What an operation answers and leaves in its output, where nothing but the labels or the room can refuse it, and where there is no such frame.
 -- From the scope, 'Causes and numbers', and 'Job 2': 15 to 17 before 3, 9 before 10, a refusal writes nothing, output bytes past the records stay.
-use Rattle.std.specs.Prelude.{ℕ, ◌+◌, ◌*◌, ◌/◌, Bool, true, false, ◌&&◌, cond, ◌≡◌, List, [], ◌∷◌, leb, ltb}
+use Rattle.records.specs.declared.context.Flaw.{Flaw}
+use Rattle.std.specs.Prelude.{ℕ, ◌+◌, ◌*◌, ◌/◌, Bool, true, false, ◌&&◌, cond, ◌≡◌, List, [], ◌∷◌, leb, ltb, Err, Ok, Result}
 use Rattle.std.proofs.lemmas.List.Edits.{sets}
 use Rattle.records.specs.Causes.{ACCEPTED, MALFORMED, OPERAND, MISSING, ARGUMENTS, COUNT, POSITION, LABELS, ROOM, EDITION}
-use Rattle.records.specs.declared.context.ContextRead.{ContextRead}
 use Rattle.records.specs.declared.code.Code.{Code}
 use Rattle.records.specs.Contexts.{flaw_cause, on_context}
 use Rattle.records.specs.ReadBack.{joined, code_bytes}
 use Rattle.records.specs.Names.{last_label}
-use Rattle.emit.specs.declared.answer.Answer.{Answer}
-use Rattle.emit.specs.declared.answer.Answer.TheVariants.{Written, Context, Body, Operand, Missing, Arguments, Count, Position, Labels, Room, Edition}
+use Rattle.emit.specs.declared.answer.Written.{Written}
+use Rattle.emit.specs.declared.answer.Refusal.{Refusal}
+use Rattle.emit.specs.declared.answer.Refusal.TheVariants.{Context, Body, Operand, Missing, Arguments, Count, Position, Labels, Room, Edition}
+
+abbrev pub Answer : Type 0
+Answer = Result Written Refusal
+
+-- so many records, and the counter after them
+abbrev pub written_with : ℕ → ℕ → Written
+written_with n counter = record { records = n; counter = counter }
 
 -- the scope's number and values for each answer: 0, with the records and the counter after them, where they are written
 abbrev pub cause_of : Answer → List ℕ
-cause_of (Written n counter) = ACCEPTED ∷ n ∷ counter ∷ []
-cause_of (Context flaw) = flaw_cause flaw
-cause_of (Body place) = MALFORMED ∷ place ∷ []
-cause_of Operand = OPERAND ∷ []
-cause_of Missing = MISSING ∷ []
-cause_of Arguments = ARGUMENTS ∷ []
-cause_of Count = COUNT ∷ []
-cause_of Position = POSITION ∷ []
-cause_of Labels = LABELS ∷ []
-cause_of (Room bytes) = ROOM ∷ bytes ∷ []
-cause_of Edition = EDITION ∷ []
+cause_of (Ok w) = ACCEPTED ∷ w.records ∷ w.counter ∷ []
+cause_of (Err (Context flaw)) = flaw_cause flaw
+cause_of (Err (Body place)) = MALFORMED ∷ place ∷ []
+cause_of (Err Operand) = OPERAND ∷ []
+cause_of (Err Missing) = MISSING ∷ []
+cause_of (Err Arguments) = ARGUMENTS ∷ []
+cause_of (Err Count) = COUNT ∷ []
+cause_of (Err Position) = POSITION ∷ []
+cause_of (Err Labels) = LABELS ∷ []
+cause_of (Err (Room bytes)) = ROOM ∷ bytes ∷ []
+cause_of (Err Edition) = EDITION ∷ []
 
 -- 15 to 17 come before 3, which another number of spills than a frame has is: by the context that is read
-abbrev pub unframed : ContextRead → Answer
-unframed read = on_context read (λ n. Operand) Context
+abbrev pub unframed : Result ℕ Flaw → Answer
+unframed read = on_context read (λ n. Err Operand) (λ flaw. Err (Context flaw))
 
 -- the answer for records of so many bytes that draw n labels
 unfoldable pub granted : ℕ → ℕ → ℕ → ℕ → Answer
 granted counter room bytes n =
-    cond (ltb last_label (counter + n)) Labels (cond (ltb room bytes) (Room bytes) (Written (bytes / 24) (counter + n)))
+    cond (ltb last_label (counter + n)) (Err Labels) (cond (ltb room bytes) (Err (Room bytes)) (Ok (written_with (bytes / 24) (counter + n))))
 
 -- whether neither labels nor room can be wanting, where at most so many labels and records are asked for
 unfoldable pub ample : ℕ → ℕ → ℕ → ℕ → Bool
 ample counter room labels records = leb (counter + labels) last_label && leb (24 * records) room
 
 abbrev pub accepted : Answer → Bool
-accepted (Written n counter) = true
-accepted (Context flaw) = false
-accepted (Body place) = false
-accepted Operand = false
-accepted Missing = false
-accepted Arguments = false
-accepted Count = false
-accepted Position = false
-accepted Labels = false
-accepted (Room bytes) = false
-accepted Edition = false
+accepted (Ok w) = true
+accepted (Err refusal) = false
 
 -- the output: the records from its start where they are written, else as it was
 abbrev pub output : Answer → List ℕ → List Code → List ℕ

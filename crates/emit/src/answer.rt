@@ -1,17 +1,36 @@
 // What an operation answers.
 ghost use Rattle.std.specs.Prelude.{◌≡◌, false, ◌+◌, ◌/◌, ◌<◌, ◌^◌};
 ghost use Rattle.records.specs.Contexts.{checked_context};
-ghost use Rattle.emit.specs.declared.answer.Answer.TheVariants.{Written};
-ghost use Rattle.emit.specs.Answers.{unframed, ample, granted, accepted};
+ghost use Rattle.emit.specs.declared.answer.Refusal.TheVariants.{Context, Body};
+ghost use Rattle.emit.specs.Answers.{unframed, ample, granted, accepted, written_with};
 
 use crate::cursor::Cursor;
-use records::context::{ContextRead, Flaw};
+use records::check::Malformed;
+use records::context::Flaw;
 use records::name::LAST_LABEL;
 
-// Written, with the number of records and the counter after them; or refused, by the documents' causes.
-#[derive(Clone, Copy)]
-pub enum Answer {
-    Written(usize, u64),
+// How many records an operation wrote, and the counter after them.
+#[derive(Clone, Copy, Debug, PartialEq, Eq)]
+pub struct Written {
+    pub records: usize,
+    pub counter: u64,
+}
+
+impl Written {
+    // From a cursor at 0 to this one.
+    pub fn up_to(q: Cursor) -> Self
+        ensures { result ≡ written_with (q.at / 24) q.counter }
+    {
+        Self {
+            records: q.at / 24,
+            counter: q.counter,
+        }
+    }
+}
+
+// Why an operation wrote nothing, by the documents' causes.
+#[derive(Clone, Copy, Debug, PartialEq, Eq)]
+pub enum Refusal {
     // 15 to 17: what is bad in a context, with its place
     Context(Flaw),
     // 2: a record of the body, with its place
@@ -34,14 +53,30 @@ pub enum Answer {
     Edition,
 }
 
+pub type Answer = Result<Written, Refusal>;
+
+impl From<Flaw> for Refusal {
+    ghost from_gives = { λ flaw r. r ≡ Context flaw };
+
+    fn from(flaw: Flaw) -> Refusal {
+        Refusal::Context(flaw)
+    }
+}
+
+impl From<Malformed> for Refusal {
+    ghost from_gives = { λ m r. r ≡ Body m.place };
+
+    fn from(malformed: Malformed) -> Refusal {
+        Refusal::Body(malformed.place)
+    }
+}
+
 // The answer where there is no such frame, by the context that an operation reads.
 pub fn unframed(context: &[u8]) -> Answer
     ensures { (result ≡ unframed (checked_context context.now)) × (accepted result ≡ false) }
 {
-    match records::context::check_context(context) {
-        ContextRead::Good(_) => Answer::Operand,
-        ContextRead::Bad(flaw) => Answer::Context(flaw),
-    }
+    records::context::check_context(context)?;
+    Err(Refusal::Operand)
 }
 
 // Whether so many labels and records are there to be had. An operation that takes no more is written in one pass, others are sized by a first one.
@@ -49,20 +84,7 @@ pub fn ample(counter: u64, room: usize, labels: u64, records: u64) -> bool
     requires { (labels < 2 ^ 32) × (records < 2 ^ 32) }
     ensures { result ≡ ample counter room labels records }
 {
-    if LAST_LABEL < counter {
-        return false;
-    }
-    if LAST_LABEL < counter + labels {
-        return false;
-    }
-    24 * records <= room as u64
-}
-
-// The answer of an operation written from a cursor at 0 to this one.
-pub fn written(q: Cursor) -> Answer
-    ensures { result ≡ Written (q.at / 24) q.counter }
-{
-    Answer::Written(q.at / 24, q.counter)
+    counter.saturating_add(labels) <= LAST_LABEL && 24 * records <= room as u64
 }
 
 // The answer where nothing but labels or room can refuse: need is the cursor past the records, from a cursor at 0 and counter 0.
@@ -71,32 +93,17 @@ pub fn grant(counter: u64, room: usize, need: Cursor) -> Answer
     ensures { result ≡ granted counter room need.at need.counter }
 {
     if LAST_LABEL < counter {
-        return Answer::Labels;
+        return Err(Refusal::Labels);
     }
     let after = counter + need.counter;
     if LAST_LABEL < after {
-        return Answer::Labels;
+        return Err(Refusal::Labels);
     }
     if room < need.at {
-        return Answer::Room(need.at);
+        return Err(Refusal::Room(need.at));
     }
-    Answer::Written(need.at / 24, after)
-}
-
-pub fn is_written(answer: Answer) -> bool
-    ensures { result ≡ accepted answer }
-{
-    match answer {
-        Answer::Written(_, _) => true,
-        Answer::Context(_) => false,
-        Answer::Body(_) => false,
-        Answer::Operand => false,
-        Answer::Missing => false,
-        Answer::Arguments => false,
-        Answer::Count => false,
-        Answer::Position => false,
-        Answer::Labels => false,
-        Answer::Room(_) => false,
-        Answer::Edition => false,
-    }
+    Ok(Written {
+        records: need.at / 24,
+        counter: after,
+    })
 }

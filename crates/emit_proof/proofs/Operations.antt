@@ -1,4 +1,5 @@
 -- What the operations of code.rs write is read back: at most ten well-formed records each.
+use Rattle.std.specs.Prelude.{Err}
 use Prim.Native.Nat.{ℕ, ◌^◌, ◌<◌}
 use mathlib.Core.Path.{◌≡◌, refl}
 use mathlib.Core.Bool.{true, ◌&&◌}
@@ -8,7 +9,7 @@ use Rattle.records.specs.declared.code.Code.{Code}
 use Rattle.records.specs.Instructions.{label_held}
 use Rattle.records.specs.ReadBack.{WellFormedCode}
 use Rattle.records.proofs.Conditions.{and_right, chosen}
-use Rattle.emit.specs.declared.answer.Answer.TheVariants.{Operand}
+use Rattle.emit.specs.declared.answer.Refusal.TheVariants.{Operand}
 use Rattle.emit.specs.Answers.{accepted}
 use Rattle.layout.specs.declared.config.Shape.{Shape}
 use Rattle.layout.specs.Config.{Supported}
@@ -63,4 +64,4 @@ module _ (G : Shape) (sup : Supported G) where
       readable (operation_records G o) s.each (omega (arith, s.most))
 
   pub operation_reads : (o : Operation) (room : ℕ) → OperationFits o → accepted (operation_answer G room o) ≡ true → Readable (operation_records G o)
-  operation_reads o room f e = operation_readable o f (chosen accepted (operands_allowed G o) _ Operand refl e).0
+  operation_reads o room f e = operation_readable o f (chosen accepted (operands_allowed G o) _ (Err Operand) refl e).0

@@ -1,4 +1,6 @@
 -- A routine's records are read back: those before the body and after it are well formed, and so are those that are read from an accepted body.
+use Rattle.records.specs.declared.check.Malformed.{Malformed}
+use Rattle.std.specs.Prelude.{Err, Ok, Result}
 use Prim.Native.Nat.{ℕ, zero, suc, ◌^◌, ◌≤◌, ◌<◌}
 use mathlib.Core.Path.{◌≡◌, refl, ap}
 use mathlib.Core.Bool.{Bool, true, ◌&&◌}
@@ -7,8 +9,6 @@ use native.Mathlib.Omega.{arith}
 use lib.Dec.{ltb}
 use lib.ListN.{length, length-append}
 use borrow.Author.Tests.{ltb-true, ltb-false}
-use Rattle.records.specs.declared.check.Checked.{Checked}
-use Rattle.records.specs.declared.check.Checked.TheVariants.{Good, Malformed}
 use Rattle.records.specs.declared.code.Code.{Code}
 use Rattle.records.specs.declared.code.Code.TheVariants.{ADDI, SUBI, MOV, PUSH, POP, RET}
 use Rattle.records.specs.Codes.{fields_of, readers, code_of}
@@ -18,9 +18,8 @@ use Rattle.records.proofs.CodesFormed.{codes_formed}
 use Rattle.records.proofs.Conditions.{never, both, passed}
 use Rattle.records.proofs.Each.{each_append}
 use Rattle.records.specs.Checked.{on_checked}
-use Rattle.emit.specs.declared.answer.Answer.{Answer}
-use Rattle.emit.specs.declared.answer.Answer.TheVariants.{Body, Arguments}
-use Rattle.emit.specs.Answers.{accepted}
+use Rattle.emit.specs.declared.answer.Refusal.TheVariants.{Body, Arguments}
+use Rattle.emit.specs.Answers.{accepted, Answer}
 use Rattle.layout.specs.declared.config.Shape.{Shape}
 use Rattle.layout.specs.Config.{Supported, STACK, HEAP, FREE, block_bytes}
 use Rattle.routine.specs.Routine.{argument, preamble, move_arguments, spill_space, setup, head, cleanup, routine_answer}
@@ -73,9 +72,9 @@ pub items_length : (k : ℕ) (s : List ℕ) → length (items 24 code_in k s) �
 items_length zero s = refl
 items_length (suc k) s = ap suc (items_length k _)
 
-on_body : (c : Checked) (r : Answer) → accepted (on_checked c (λ k. r) Body) ≡ true → (k : ℕ) × (c ≡ Good k) × (accepted r ≡ true)
-on_body (Good k) r e = (k, refl, e)
-on_body (Malformed place) r e = never e
+on_body : (c : Result ℕ Malformed) (r : Answer) → accepted (on_checked c (λ k. r) (λ place. Err (Body place))) ≡ true → (k : ℕ) × (c ≡ Ok k) × (accepted r ≡ true)
+on_body (Ok k) r e = (k, refl, e)
+on_body (Err m) r e = never e
 
 module _ (G : Shape) (sup : Supported G) where
   -- the frame's bytes and a block's
@@ -98,9 +97,9 @@ module _ (G : Shape) (sup : Supported G) where
   -- an accepted routine has at most five arguments
   pub few_arguments : (room n : ℕ) (body : List ℕ) → accepted (routine_answer G room n body) ≡ true → n ≤ 5
   unfolding routine_answer
-  few_arguments room n body e = ltb-false 5 n (passed accepted (ltb 5 n) Arguments _ refl (on_body (checked_codes 65506 body) _ e).2).0
+  few_arguments room n body e = ltb-false 5 n (passed accepted (ltb 5 n) (Err Arguments) _ refl (on_body (checked_codes 65506 body) _ e).2).0
 
-  pub routine_readable : (n k : ℕ) (body : List ℕ) → n ≤ 5 → Bytes body → checked_codes 65506 body ≡ Good k
+  pub routine_readable : (n k : ℕ) (body : List ℕ) → n ≤ 5 → Bytes body → checked_codes 65506 body ≡ Ok k
       → Readable (head G n ++ (items 24 code_in k body ++ cleanup G))
   routine_readable n k body five b e =
       let r = codes_formed 65506 k body b e in

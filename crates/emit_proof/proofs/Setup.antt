@@ -1,4 +1,5 @@
 -- The fresh state follows the setup's bytes: they are read back, and their run is that of the records.
+use Rattle.std.specs.Prelude.{Ok}
 use Prim.Native.Nat.{ℕ, zero, suc, ◌+◌, ◌-◌, ◌≤◌}
 use mathlib.Core.Path.{◌≡◌, refl, sym, subst}
 use mathlib.Core.List.{List}
@@ -12,7 +13,6 @@ use Rattle.word.specs.Words.{sum, difference}
 use Rattle.machine_step.specs.View.{View, from_end, words_of, upd}
 use Rattle.machine_step.specs.Memory.{heap_start}
 use Rattle.machine_step.specs.Step.{step}
-use Rattle.machine.specs.declared.run.RunAnswer.TheVariants.{Ended}
 use Rattle.machine.specs.Run.{done, runs, started, starting}
 use Rattle.machine.specs.State.{see, entry_state, firsts}
 use Rattle.machine.proofs.Places.{place_1, place_2, place_3, place_4, place_5, place_6}
@@ -58,7 +58,7 @@ module _ (G : Shape) (stack heap : ℕ → ℕ) (depth size : ℕ) where
   abbrev left : View
   left = record { reg = left_registers; stk = left_stack; mem = heap; depth = depth; size = size }
 
-  head_runs : (words : ℕ → ℕ) → 7 ≤ depth → started words (head G 0) 16 entered ≡ done (Ended 16) (starting left)
+  head_runs : (words : ℕ → ℕ) → 7 ≤ depth → started words (head G 0) 16 entered ≡ done (Ok 16) (starting left)
   unfolding runs step sum difference
   head_runs words deep =
       rw (place_1 depth size deep, place_2 depth size deep, place_3 depth size deep, place_4 depth size deep, place_5 depth size deep, place_6 depth size deep)
@@ -79,7 +79,7 @@ module _ (G : Shape) (sup : Supported G) where
   of_records words H =
       let n : ℕ = stack_depth G in
       let long : length (zeros n) ≡ n = length-replicate {A = ℕ} n 0 in
-      let run : started words (head G 0) 16 (see (entry_state G) H) ≡ done (Ended 16) (starting (end H))
+      let run : started words (head G 0) 16 (see (entry_state G) H) ≡ done (Ok 16) (starting (end H))
       = head_runs G (from_end (zeros n)) (words_of H) (length (zeros n)) (length H) words (omega arith) in
       subst (LeavesFresh G H) (sym run) (record {
         ended = refl;

@@ -1,11 +1,11 @@
 -- What the operations of memory.rs, print_i64 and the orders write is read back.
+use Rattle.records.specs.declared.context.Flaw.{Flaw}
+use Rattle.std.specs.Prelude.{Ok, Err, Result}
 use Prim.Native.Nat.{ℕ, ◌-◌}
 use mathlib.Core.Path.{◌≡◌, sym, ap, subst, ◌∙◌}
 use mathlib.Core.Bool.{Bool, true}
 use mathlib.Core.List.{List}
 use native.Mathlib.Omega.{arith}
-use Rattle.records.specs.declared.context.ContextRead.TheVariants.{Good, Bad}
-use Rattle.records.specs.declared.context.ContextRead.{ContextRead}
 use Rattle.records.specs.Contexts.{checked_context, ext_at, bindings_in}
 use Rattle.records.specs.ReadBack.{Bytes}
 use Rattle.records.proofs.Conditions.{never}
@@ -33,7 +33,7 @@ use Rattle.order_formed_proof.proofs.Granting.{stored_most, loaded_most, erase_g
 use Rattle.emit_proof.specs.Claims.{Readable}
 use Rattle.emit_proof.proofs.Lists.{tree_readable}
 
-good_is : (context : List ℕ) (k : ℕ) → checked_context context ≡ Good k → bindings_in (checked_context context) ≡ k
+good_is : (context : List ℕ) (k : ℕ) → checked_context context ≡ Ok k → bindings_in (checked_context context) ≡ k
 good_is context k e = ap bindings_in e
 
 module _ (G : Shape) (sup : Supported G) where
@@ -67,15 +67,15 @@ module _ (G : Shape) (sup : Supported G) where
       let g = share_granted G counter room w n e in
       tree_readable (share_block G w n) counter (formed_share G sup w (omega (arith, g.0))) g.1 (omega (arith, (share_size G w n).1))
 
-  pub print_readable : (newline : Bool) (w : ℕ) (context : List ℕ) (n : ℕ) → Readable (print_records G newline w context (Good n))
+  pub print_readable : (newline : Bool) (w : ℕ) (context : List ℕ) (n : ℕ) → Readable (print_records G newline w context (Ok n))
   print_readable newline w context n =
       let z = print_size G newline w (ext_at context) n in
       tree_readable (print_i64 G newline w (ext_at context) n) 0 (formed_print G sup newline w (ext_at context) n) (omega arith) (omega arith)
 
-  pub print_reads : (room : ℕ) (newline : Bool) (w : ℕ) (context : List ℕ) (c : ContextRead) → accepted (print_answer G room newline w context c) ≡ true
+  pub print_reads : (room : ℕ) (newline : Bool) (w : ℕ) (context : List ℕ) (c : Result ℕ Flaw) → accepted (print_answer G room newline w context c) ≡ true
       → Readable (print_records G newline w context c)
-  print_reads room newline w context (Good n) e = print_readable newline w context n
-  print_reads room newline w context (Bad flaw) e = never e
+  print_reads room newline w context (Ok n) e = print_readable newline w context n
+  print_reads room newline w context (Err flaw) e = never e
 
   pub order_reads : (context : List ℕ) (q : Asked) → Bytes q.order → order.order_accepted (answer_to G context q) ≡ true
       → Readable (flat (order_tree G context q) q.counter)

@@ -2,11 +2,9 @@
 -- accepted is well formed, so that the check accepts its bytes, reading gives each record back, and a run of the bytes is the run of the records.
 -- The records and the answers are those that the contracts of the functions cite. And demand 3's first state is what the bytes before a routine's body leave. All of it in every
 -- supported shape.
-use Rattle.std.specs.Prelude.{ℕ, ◌^◌, ◌≤◌, ◌<◌, ◌≡◌, Bool, true, List, [], ◌++◌, length, get_or}
-use Rattle.records.specs.declared.check.Checked.TheVariants.{Good}
+use Rattle.std.specs.Prelude.{ℕ, ◌^◌, ◌≤◌, ◌<◌, ◌≡◌, Bool, true, List, [], ◌++◌, length, get_or, Some, Ok}
 use Rattle.records.specs.declared.code.Code.{Code}
 use Rattle.records.specs.declared.code.Code.TheVariants.{RET}
-use Rattle.records.specs.declared.code.CodeRead.TheVariants.{Record}
 use Rattle.records.specs.Contexts.{checked_context}
 use Rattle.records.specs.Instructions.{checked_codes, code_at}
 use Rattle.records.specs.ReadBack.{Each, Bytes, WellFormedCode, joined, items, code_bytes, code_in}
@@ -24,7 +22,6 @@ use Rattle.print_i64.specs.Print.{print_answer, print_records}
 use Rattle.routine.specs.Routine.{head, cleanup, routine_bytes, routine_answer}
 use Rattle.machine_step.specs.View.{View, words_of}
 use Rattle.machine_step.specs.Memory.{heap_ok}
-use Rattle.machine.specs.declared.run.RunAnswer.TheVariants.{Ended}
 use Rattle.machine.specs.Run.{Done, ran, started}
 use Rattle.machine.specs.State.{see, entry_state, fresh_state, firsts}
 use Rattle.order_spec.specs.Answered as order
@@ -35,9 +32,9 @@ pub record Readable (cs : List Code) : Type 0 where
   pub formed : Each WellFormedCode cs
   -- they are no more than the machine takes, and the check accepts their bytes
   pub few : length cs ≤ 65536
-  pub checks : checked_codes 65536 (joined code_bytes cs) ≡ Good (length cs)
+  pub checks : checked_codes 65536 (joined code_bytes cs) ≡ Ok (length cs)
   -- each is read at its place, whatever follows; and all are
-  pub reads : (rest : List ℕ) (k : ℕ) → k < length cs → code_at (joined code_bytes cs ++ rest) k ≡ Record (get_or cs k RET)
+  pub reads : (rest : List ℕ) (k : ℕ) → k < length cs → code_at (joined code_bytes cs ++ rest) k ≡ Some (get_or cs k RET)
   pub all : items 24 code_in (length cs) (joined code_bytes cs) ≡ cs
   -- a run of the bytes is the run of the records, however many words a block has
   pub runs : (block : ℕ) (words : ℕ → ℕ) (limit : ℕ) (v : View) → heap_ok block v.size ≡ true
@@ -62,7 +59,7 @@ OperationFits (CompareImmediate w value) = value < 2 ^ 64
 -- a routine's bytes are those of its records, the body's as it was given, and they are read back; so it has at most 65,536 records, which the machine takes (`few`)
 pub record RoutineReads (G : Shape) (n : ℕ) (body : List ℕ) : Type 0 where
   pub count : ℕ
-  pub of_body : checked_codes 65506 body ≡ Good count
+  pub of_body : checked_codes 65506 body ≡ Ok count
   pub bytes : routine_bytes G n body ≡ joined code_bytes (head G n ++ (items 24 code_in count body ++ cleanup G))
   pub read : Readable (head G n ++ (items 24 code_in count body ++ cleanup G))
 
@@ -85,7 +82,7 @@ pub record WrittenIsRead : Type 0 where
 
 -- what a run from the entry state beside the heap H leaves: the fresh state, and the heap as it was
 pub record LeavesFresh (G : Shape) (H : List ℕ) (d : Done) : Type 0 where
-  pub ended : d.answer ≡ Ended 16
+  pub ended : d.answer ≡ Ok 16
   pub calls : d.last.calls ≡ []
   pub registers : firsts 16 d.last.state.reg ≡ (fresh_state G).registers
   pub stack : firsts (stack_depth G) d.last.state.stk ≡ (fresh_state G).stack

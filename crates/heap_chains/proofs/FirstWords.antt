@@ -2,12 +2,9 @@
 use Prim.Native.Nat.{ℕ, ◌+◌, ◌*◌, ◌-◌, ◌/◌, ◌≤◌, ◌<◌}
 use mathlib.Core.Path.{◌≡◌, sym, ap, ◌∙◌}
 use mathlib.Core.Logic.{◌≢◌}
-use mathlib.Core.List.{List}
 use native.Mathlib.Nat.{zero-div, mul-div-le, mul-le-mul_left}
 use native.Mathlib.Omega.{arith}
-use lib.ListN.{length, get_or-eq_default}
 use borrow.Author.Tests.{ne_eqb}
-use Rattle.machine_step.specs.View.{words_of}
 use Rattle.heap.specs.Words.{stride, address_of, block_number, by_address, headers}
 use Rattle.heap.proofs.WordLemmas.{header_at}
 use Rattle.heap_chains.specs.Blocks.{list_length, chain_length, chain_end, blocks_counted, fit_in}
@@ -42,10 +39,6 @@ module _ (f : ℕ) where
         let i : at ≡ stride f * block_number f b + 0 = omega arith in
         let a : address_of f (block_number f b) ≡ b = rw e at h in
         ap words i ∙ sym (header_at f words (block_number f b)) ∙ ap (headers f words) a
-
--- past the heap's last word
-pub past_heap : (heap : List ℕ) {i w : ℕ} → length heap ≤ i → words_of heap i ≡ w → 0 ≡ w
-past_heap heap h e = sym (get_or-eq_default heap 0 h) ∙ e
 
 -- on a heap of so many words, by the words of a block
 module _ (f size : ℕ) (words : ℕ → ℕ) {block : ℕ} (k : block ≡ stride f) where

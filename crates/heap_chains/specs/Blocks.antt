@@ -1,15 +1,11 @@
 -- The blocks of the lent heap, counted by their first words, and the heap to fit for the peak that they show. From the scope, 'Blocks and objects'; a block has as many fields as its edition says.
 -- What does not end within as many steps as there are blocks is cut off there; in a sound heap everything ends before.
-use Rattle.std.specs.Prelude.{ℕ, zero, suc, ◌+◌, ◌*◌, ◌-◌, ◌/◌, cond, List, [], ◌∷◌, eqb}
+use Rattle.std.specs.Prelude.{ℕ, zero, suc, ◌+◌, ◌*◌, ◌-◌, ◌/◌, cond, List, [], ◌∷◌, eqb, None, Some, Option}
 use Rattle.records.specs.Causes.{ACCEPTED, EDITION}
 use Rattle.layout.specs.Config.{block_words, in_edition}
 use Rattle.heap.specs.Words.{stride, block_number, headers}
 use Rattle.heap_chains.specs.declared.Blocks.{Blocks}
 use Rattle.heap_chains.specs.declared.Fit.{Fit}
-use Rattle.heap_chains.specs.declared.Counted.{Counted}
-use Rattle.heap_chains.specs.declared.Counted.TheVariants as counts
-use Rattle.heap_chains.specs.declared.Fitted.{Fitted}
-use Rattle.heap_chains.specs.declared.Fitted.TheVariants as fits
 
 -- HEAP's list: how many blocks it has, from first word to first word, until that is 0
 unfoldable pub list_length : (ℕ → ℕ) → ℕ → ℕ → ℕ
@@ -51,18 +47,18 @@ unfoldable pub fit_in : ℕ → ℕ → (ℕ → ℕ) → ℕ → Fit
 fit_in field_count blocks words lazy_head = fit_for field_count (frontier_in field_count blocks words lazy_head - 1)
 
 -- in an edition, on a heap of so many words
-abbrev pub counted_by : ℕ → ℕ → (ℕ → ℕ) → ℕ → ℕ → Counted
+abbrev pub counted_by : ℕ → ℕ → (ℕ → ℕ) → ℕ → ℕ → Option Blocks
 counted_by edition size words linear_head lazy_head =
-    in_edition edition (λ g. counts.Of (blocks_counted g.fields (size / block_words g) words linear_head lazy_head)) counts.Edition
+    in_edition edition (λ g. Some (blocks_counted g.fields (size / block_words g) words linear_head lazy_head)) None
 
-abbrev pub fitted_by : ℕ → ℕ → (ℕ → ℕ) → ℕ → Fitted
-fitted_by edition size words lazy_head = in_edition edition (λ g. fits.Of (fit_in g.fields (size / block_words g) words lazy_head)) fits.Edition
+abbrev pub fitted_by : ℕ → ℕ → (ℕ → ℕ) → ℕ → Option Fit
+fitted_by edition size words lazy_head = in_edition edition (λ g. Some (fit_in g.fields (size / block_words g) words lazy_head)) None
 
 -- the number for each answer: 0, with what was counted, where there is such an edition
-abbrev pub counted_cause : Counted → List ℕ
-counted_cause (counts.Of b) = ACCEPTED ∷ b.linear ∷ b.lazy ∷ b.held ∷ b.untouched ∷ []
-counted_cause counts.Edition = EDITION ∷ []
+abbrev pub counted_cause : Option Blocks → List ℕ
+counted_cause (Some b) = ACCEPTED ∷ b.linear ∷ b.lazy ∷ b.held ∷ b.untouched ∷ []
+counted_cause None = EDITION ∷ []
 
-abbrev pub fitted_cause : Fitted → List ℕ
-fitted_cause (fits.Of f) = ACCEPTED ∷ f.peak ∷ f.blocks ∷ f.bytes ∷ []
-fitted_cause fits.Edition = EDITION ∷ []
+abbrev pub fitted_cause : Option Fit → List ℕ
+fitted_cause (Some f) = ACCEPTED ∷ f.peak ∷ f.blocks ∷ f.bytes ∷ []
+fitted_cause None = EDITION ∷ []

@@ -8,8 +8,8 @@ ghost use Rattle.machine_step.specs.View.{words_of};
 ghost use Rattle.heap.specs.Words.{block_number, headers};
 ghost use Rattle.heap_chains.specs.Blocks.{list_length, chain_length, chain_end, blocks_counted, fit_in, counted_by, counted_cause, fitted_by, fitted_cause};
 
-use layout::config::{Choice, Shape};
-use layout::{config, utils};
+use layout::config;
+use layout::config::Shape;
 
 // Blocks on HEAP's list, on FREE's chain, held, and never used.
 #[derive(Clone, Copy)]
@@ -26,20 +26,6 @@ pub struct Fit {
     pub peak: u64,
     pub blocks: u64,
     pub bytes: u64,
-}
-
-// The blocks counted, or 23: no such edition.
-#[derive(Clone, Copy)]
-pub enum Counted {
-    Of(Blocks),
-    Edition,
-}
-
-// What to fit, or 23.
-#[derive(Clone, Copy)]
-pub enum Fitted {
-    Of(Fit),
-    Edition,
 }
 
 // A chain's blocks, and the block that ends it.
@@ -69,14 +55,10 @@ fn first_word(g: Shape, heap: &[u64], b: u64) -> u64
 {
     let block = config::block_words(g);
     let at = block * number_of(g, b);
-    if 65536 + 8 * at == b {} else {
+    if 65536 + 8 * at != b {
         return 0;
     }
-    if at < (heap.len() as u64) {
-        heap[at as usize]
-    } else {
-        0
-    }
+    heap.get(at as usize).copied().unwrap_or(0)
 }
 
 // The blocks of a list that ends in 0, at most `most`.
@@ -85,17 +67,13 @@ fn walk_list(g: Shape, heap: &[u64], most: u64, first: u64) -> u64
     ensures { result ≡ list_length (headers g.fields (words_of heap.now)) most first }
 {
     let mut b = first;
-    let mut left = most;
-    let mut passed = 0;
-    while 0 < left {
+    for passed in 0..most {
         if b == 0 {
             return passed;
         }
         b = first_word(g, heap, b);
-        left -= 1;
-        passed += 1;
     }
-    passed
+    most
 }
 
 // The blocks of a chain before the first whose first word is 0, at most `most`.
@@ -104,9 +82,7 @@ fn walk_chain(g: Shape, heap: &[u64], most: u64, first: u64) -> Walked
     ensures { (result.length ≡ chain_length (headers g.fields (words_of heap.now)) most first) × (result.end ≡ chain_end (headers g.fields (words_of heap.now)) most first) }
 {
     let mut b = first;
-    let mut left = most;
-    let mut passed = 0;
-    while 0 < left {
+    for passed in 0..most {
         let next = first_word(g, heap, b);
         if next == 0 {
             return Walked {
@@ -115,23 +91,18 @@ fn walk_chain(g: Shape, heap: &[u64], most: u64, first: u64) -> Walked
             };
         }
         b = next;
-        left -= 1;
-        passed += 1;
     }
     Walked {
-        length: passed,
+        length: most,
         end: b,
     }
 }
 
-// The blocks of an edition's heap.
-pub fn count_blocks(edition: u64, registers: &[u64; 16], heap: &[u64]) -> Counted
+// The blocks of an edition's heap, where there is such an edition: 23 is told where not.
+pub fn count_blocks(edition: u64, registers: &[u64; 16], heap: &[u64]) -> Option<Blocks>
     ensures { AnswersBy counted_cause result (counted_by edition (length heap.now) (words_of heap.now) (words_of registers.now HEAP) (words_of registers.now FREE)) }
 {
-    match config::edition_of(edition) {
-        Choice::Of(g) => Counted::Of(count_blocks_in(g, registers, heap)),
-        Choice::Unknown => Counted::Edition,
-    }
+    Some(count_blocks_in(config::edition_of(edition)?, registers, heap))
 }
 
 pub fn count_blocks_in(g: Shape, registers: &[u64; 16], heap: &[u64]) -> Blocks
@@ -142,23 +113,20 @@ pub fn count_blocks_in(g: Shape, registers: &[u64; 16], heap: &[u64]) -> Blocks
     let linear = walk_list(g, heap, all, registers[2]);
     let lazy = walk_chain(g, heap, all, registers[3]);
     let frontier = number_of(g, lazy.end);
-    let used = utils::excess(frontier, linear);
+    let used = frontier.saturating_sub(linear);
     Blocks {
         linear,
         lazy: lazy.length,
-        held: utils::excess(used, lazy.length),
-        untouched: utils::excess(all, frontier),
+        held: used.saturating_sub(lazy.length),
+        untouched: all.saturating_sub(frontier),
     }
 }
 
-// What to fit for the orders so far, by where the frontier is.
-pub fn to_fit(edition: u64, registers: &[u64; 16], heap: &[u64]) -> Fitted
+// What to fit for the orders so far, by where the frontier is; 23 again where there is no such edition.
+pub fn to_fit(edition: u64, registers: &[u64; 16], heap: &[u64]) -> Option<Fit>
     ensures { AnswersBy fitted_cause result (fitted_by edition (length heap.now) (words_of heap.now) (words_of registers.now FREE)) }
 {
-    match config::edition_of(edition) {
-        Choice::Of(g) => Fitted::Of(to_fit_in(g, registers, heap)),
-        Choice::Unknown => Fitted::Edition,
-    }
+    Some(to_fit_in(config::edition_of(edition)?, registers, heap))
 }
 
 pub fn to_fit_in(g: Shape, registers: &[u64; 16], heap: &[u64]) -> Fit
@@ -169,7 +137,7 @@ pub fn to_fit_in(g: Shape, registers: &[u64; 16], heap: &[u64]) -> Fit
     let all = (heap.len() as u64) / block;
     let lazy = walk_chain(g, heap, all, registers[3]);
     let frontier = number_of(g, lazy.end);
-    let peak = utils::excess(frontier, 1);
+    let peak = frontier.saturating_sub(1);
     let blocks = peak + 2;
     Fit {
         peak,

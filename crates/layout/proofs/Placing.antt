@@ -1,4 +1,6 @@
 -- The table of positions is the rule, by one computed test; and the answers of the queries.
+use Rattle.layout.specs.declared.utils.NoTemporary.{NoTemporary}
+use Rattle.std.specs.Prelude.{Err, Ok, None, Some, Option, Result}
 use Prim.Native.Nat.{ℕ, suc, ◌+◌, ◌*◌, ◌-◌, ◌≤◌, ◌<◌}
 use mathlib.Core.Path.{◌≡◌, refl, sym, ap, ◌∙◌}
 use mathlib.Core.Bool.{Bool, true, false, ◌&&◌, ◌||◌, cond}
@@ -7,21 +9,19 @@ use native.Mathlib.Numerals.{add-one}
 use native.Mathlib.Omega.{arith}
 use lib.Dec.{leb, ltb, eqb, eqb→eq}
 use lib.ListN.{get_or, drop}
-use borrow.Author.Tests.{eq-eqb, eqb-true, ne_eqb, lt-ltb, le-ltb, lt-leb, le-leb, leb-true, ltb-true}
+use Rattle.std.specs.Result.{IsErrAnd, result_ok}
+use Rattle.std.proofs.Math.Bool.{and-false}
+use borrow.Author.Tests.{eq-eqb, eqb-true, ne_eqb, lt-ltb, le-ltb, lt-leb, le-leb, leb-true, ltb-true, ltb-false}
 use Rattle.records.proofs.Conditions.{and_left, and_right, both_ways}
 use Rattle.records.proofs.Table.{at}
 use Rattle.records.specs.declared.context.Flaw.{Flaw}
-use Rattle.records.specs.declared.context.ContextRead.TheVariants.{Good, Bad}
 use Rattle.records.specs.Contexts.{binding_in, checked_context}
-use Rattle.layout.specs.declared.config.Offset.TheVariants as offset
+use Rattle.layout.specs.declared.config.NoOffset.TheVariants as offset
 use Rattle.layout.specs.declared.config.Shape.{Shape}
-use Rattle.layout.specs.declared.config.Choice.{Choice}
-use Rattle.layout.specs.declared.config.Choice.TheVariants.{Of, Unknown}
-use Rattle.layout.specs.declared.config.Shaped.TheVariants.{In}
+use Rattle.layout.specs.declared.config.Unshaped.{Unshaped}
 use Rattle.layout.specs.declared.utils.TemporaryNumber.{TemporaryNumber}
-use Rattle.layout.specs.declared.utils.Temporary.{Temporary}
-use Rattle.layout.specs.declared.utils.Temporary.TheVariants.{Operand, Missing, OutOfTemporaries}
-use Rattle.layout.specs.declared.utils.Temporary.TheVariants as temporary
+use Rattle.layout.specs.declared.utils.NoTemporary.TheVariants.{Missing, OutOfTemporaries}
+use Rattle.layout.specs.declared.utils.NoTemporary.TheVariants as temporary
 use Rattle.layout.specs.Config.{Supported, base, larger, second, frame_of, edition_of, combined, shape_of, in_choice, frame_on, shape_on, operands, positions, stack_offset, stack_depth}
 use Rattle.layout.specs.Positions.{location, Table, operand_ok, position_answer}
 use Rattle.layout.specs.Queries.{half_number, id_place, fresh_temporary, variable_temporary, spill_offset, word_offset, field_offset}
@@ -44,12 +44,21 @@ location_below p = by (ltb p 12) refl
     by true e = omega arith
     by false e = omega arith
 
+-- what stood in an option that was asked for by `ok_or`
+pub found : {A E : Type 0} {o : Option A} {r : Result A E} {x : A} → o ≡ result_ok r → r ≡ Ok x → o ≡ Some x
+found e h = e ∙ ap result_ok h
+
+-- a refusal handed on by `?`
+pub handed_on : {A E : Type 0} (r : Result A E) {e : E} → IsErrAnd r (λ x. x ≡ e) → r ≡ Err e
+handed_on (Ok x) h = absurd h
+handed_on (Err d) h = ap (λ x. Err x) h
+
 module _ (g : Shape) where
-  pub position_none : (p : ℕ) → positions g ≤ p → OutOfTemporaries ≡ position_answer g p
+  pub position_none : (p : ℕ) → positions g ≤ p → Err OutOfTemporaries ≡ position_answer g p
   unfolding position_answer
   position_none p h = rw (le-ltb p (positions g) h)
 
-  pub position_operand : {w : ℕ} (p : ℕ) → p < positions g → w ≡ location p → Operand w ≡ position_answer g p
+  pub position_operand : {w : ℕ} (p : ℕ) → p < positions g → w ≡ location p → Ok w ≡ position_answer g p
   unfolding position_answer
   position_operand p h e = rw (lt-ltb p (positions g) h, e)
 
@@ -91,41 +100,41 @@ unfolding id_place
 id_none s id k n h = let m : n - k ≡ 0 = omega arith in rw m
 
 module _ (g : Shape) (s : List ℕ) (half : TemporaryNumber) where
-  pub fresh : {r : Temporary} {d : ℕ} (n : ℕ) → checked_context s ≡ Good n → d ≡ half_number half → r ≡ position_answer g (2 * n + d) → r ≡ fresh_temporary g half s
+  pub fresh : {r : Result ℕ NoTemporary} {d : ℕ} (n : ℕ) → checked_context s ≡ Ok n → d ≡ half_number half → r ≡ position_answer g (2 * n + d) → r ≡ fresh_temporary g half s
   unfolding fresh_temporary
   fresh n e q p = rw (e, ← q) p
 
-  pub fresh_bad : (flaw : Flaw) → checked_context s ≡ Bad flaw → temporary.Context flaw ≡ fresh_temporary g half s
+  pub fresh_bad : (flaw : Flaw) → checked_context s ≡ Err flaw → Err (temporary.Context flaw) ≡ fresh_temporary g half s
   unfolding fresh_temporary
   fresh_bad flaw e = rw e
 
-  pub variable : {r : Temporary} {d k : ℕ} (id n : ℕ) → checked_context s ≡ Good n → d ≡ half_number half → k ≡ id_place s id 0 n → r ≡ cond (ltb k n) (position_answer g (2 * k + d)) Missing → r ≡ variable_temporary g half s id
+  pub variable : {r : Result ℕ NoTemporary} {d k : ℕ} (id n : ℕ) → checked_context s ≡ Ok n → d ≡ half_number half → k ≡ id_place s id 0 n → r ≡ cond (ltb k n) (position_answer g (2 * k + d)) (Err Missing) → r ≡ variable_temporary g half s id
   unfolding variable_temporary
   variable id n e q i p = rw (e, ← i, ← q) p
 
-  pub variable_bad : (id : ℕ) (flaw : Flaw) → checked_context s ≡ Bad flaw → temporary.Context flaw ≡ variable_temporary g half s id
+  pub variable_bad : (id : ℕ) (flaw : Flaw) → checked_context s ≡ Err flaw → Err (temporary.Context flaw) ≡ variable_temporary g half s id
   unfolding variable_temporary
   variable_bad id flaw e = rw e
 
 module _ (g : Shape) (w : ℕ) where
-  pub no_low_spill : w ≤ 16 → offset.Operand ≡ spill_offset g w
+  pub no_low_spill : w ≤ 16 → Err offset.Operand ≡ spill_offset g w
   unfolding spill_offset
   no_low_spill h = rw (le-ltb 16 w h)
 
-  pub no_high_spill : 16 < w → g.spills ≤ w - 16 → offset.Operand ≡ spill_offset g w
+  pub no_high_spill : 16 < w → g.spills ≤ w - 16 → Err offset.Operand ≡ spill_offset g w
   unfolding spill_offset
   no_high_spill l h = rw (lt-ltb 16 w l, le-ltb w (operands g) (omega arith))
 
-  pub spill_at : {n : ℕ} → 16 < w → w - 16 < g.spills → n ≡ stack_offset g w → offset.At n ≡ spill_offset g w
+  pub spill_at : {n : ℕ} → 16 < w → w - 16 < g.spills → n ≡ stack_offset g w → Ok n ≡ spill_offset g w
   unfolding spill_offset
   spill_at l h e = rw (lt-ltb 16 w l, lt-ltb w (operands g) (omega arith), e)
 
 module _ (g : Shape) (number : TemporaryNumber) (i : ℕ) where
-  pub no_field : g.fields ≤ i → offset.Operand ≡ field_offset g number i
+  pub no_field : g.fields ≤ i → Err offset.Operand ≡ field_offset g number i
   unfolding field_offset
   no_field h = rw (le-ltb i g.fields h)
 
-  pub field_at : {n : ℕ} → i < g.fields → n ≡ word_offset number i → offset.At n ≡ field_offset g number i
+  pub field_at : {n : ℕ} → i < g.fields → n ≡ word_offset number i → Ok n ≡ field_offset g number i
   unfolding field_offset
   field_at h e = rw (lt-ltb i g.fields h, e)
 
@@ -139,38 +148,38 @@ pub second_supported : Supported second
 second_supported = record { some = omega arith; few = omega arith; frame = omega arith; even = refl; aside = omega arith }
 
 module _ (frame : ℕ) where
-  pub small_frame : {g : Shape} → frame ≡ base.spills → g ≡ base → Of g ≡ frame_of frame
+  pub small_frame : {g : Shape} → frame ≡ base.spills → g ≡ base → Some g ≡ frame_of frame
   unfolding frame_of
   small_frame h e = rw (e, eq-eqb frame 256 h)
 
-  pub large_frame : {g : Shape} → (frame ≡ base.spills → ⊥) → frame ≡ larger.spills → g ≡ larger → Of g ≡ frame_of frame
+  pub large_frame : {g : Shape} → (frame ≡ base.spills → ⊥) → frame ≡ larger.spills → g ≡ larger → Some g ≡ frame_of frame
   unfolding frame_of
   large_frame n h e = rw (e, ne_eqb frame 256 n, eq-eqb frame 512 h)
 
-  pub no_frame : (frame ≡ base.spills → ⊥) → (frame ≡ larger.spills → ⊥) → Unknown ≡ frame_of frame
+  pub no_frame : (frame ≡ base.spills → ⊥) → (frame ≡ larger.spills → ⊥) → None ≡ frame_of frame
   unfolding frame_of
   no_frame n h = rw (ne_eqb frame 256 n, ne_eqb frame 512 h)
 
 module _ (edition : ℕ) where
-  pub first_edition : {g : Shape} → edition ≡ 1 → g ≡ base → Of g ≡ edition_of edition
+  pub first_edition : {g : Shape} → edition ≡ 1 → g ≡ base → Some g ≡ edition_of edition
   unfolding edition_of
   first_edition h e = rw (e, eq-eqb edition 1 h)
 
-  pub second_edition : {g : Shape} → (edition ≡ 1 → ⊥) → edition ≡ 2 → g ≡ second → Of g ≡ edition_of edition
+  pub second_edition : {g : Shape} → (edition ≡ 1 → ⊥) → edition ≡ 2 → g ≡ second → Some g ≡ edition_of edition
   unfolding edition_of
   second_edition n h e = rw (e, ne_eqb edition 1 n, eq-eqb edition 2 h)
 
-  pub no_edition : (edition ≡ 1 → ⊥) → (edition ≡ 2 → ⊥) → Unknown ≡ edition_of edition
+  pub no_edition : (edition ≡ 1 → ⊥) → (edition ≡ 2 → ⊥) → None ≡ edition_of edition
   unfolding edition_of
   no_edition n h = rw (ne_eqb edition 1 n, ne_eqb edition 2 h)
 
 -- frames and editions are among the shapes that the claims are for
-abbrev OnlySupported : Choice → Type 0
-OnlySupported (Of g) = Supported g
-OnlySupported Unknown = Unit {0}
+abbrev OnlySupported : Option Shape → Type 0
+OnlySupported (Some g) = Supported g
+OnlySupported None = Unit {0}
 
 -- one of two shapes, or none
-one_of_two : (b c : Bool) {g h : Shape} → Supported g → Supported h → OnlySupported (cond b (Of g) (cond c (Of h) Unknown))
+one_of_two : (b c : Bool) {g h : Shape} → Supported g → Supported h → OnlySupported (cond b (Some g) (cond c (Some h) None))
 one_of_two b c u v = both_ways OnlySupported b u (both_ways OnlySupported c v tt)
 
 frame_supported : (frame : ℕ) → OnlySupported (frame_of frame)
@@ -181,72 +190,72 @@ edition_supported : (edition : ℕ) → OnlySupported (edition_of edition)
 unfolding edition_of
 edition_supported edition = one_of_two (eqb edition 1) (eqb edition 2) base_supported second_supported
 
-pub framed_supported : (frame : ℕ) {g : Shape} → frame_of frame ≡ Of g → Supported g
+pub framed_supported : (frame : ℕ) {g : Shape} → frame_of frame ≡ Some g → Supported g
 framed_supported frame e = rw e at (frame_supported frame)
 
-pub edited_supported : (edition : ℕ) {g : Shape} → edition_of edition ≡ Of g → Supported g
+pub edited_supported : (edition : ℕ) {g : Shape} → edition_of edition ≡ Some g → Supported g
 edited_supported edition e = rw e at (edition_supported edition)
 
-same_in : {g h : Shape} → In g ≡ In h → g ≡ h
+same_in : {g h : Shape} → ◌≡◌ {A = Result Shape Unshaped} (Ok g) (Ok h) → g ≡ h
 same_in e = cc
 
 -- the blocks of the one in the frame of the other are supported too
-combined_supported : (b f : Choice) {g : Shape} → OnlySupported b → OnlySupported f → combined b f ≡ In g → Supported g
-combined_supported Unknown f u v e = let z : ◌≡◌ {A = ℕ} 0 1 = cc in absurd (omega arith)
-combined_supported (Of b) Unknown u v e = let z : ◌≡◌ {A = ℕ} 0 1 = cc in absurd (omega arith)
-combined_supported (Of b) (Of f) {g} u v e =
+combined_supported : (b f : Option Shape) {g : Shape} → OnlySupported b → OnlySupported f → combined b f ≡ Ok g → Supported g
+combined_supported None f u v e = let z : ◌≡◌ {A = ℕ} 0 1 = cc in absurd (omega arith)
+combined_supported (Some b) None u v e = let z : ◌≡◌ {A = ℕ} 0 1 = cc in absurd (omega arith)
+combined_supported (Some b) (Some f) {g} u v e =
     let w : Supported (record { fields = b.fields; spills = f.spills }) = record { some = u.some; few = u.few; frame = v.frame; even = v.even; aside = v.aside } in
     rw (same_in e) at w
 
-pub shaped_supported : (edition frame : ℕ) {g : Shape} → shape_of edition frame ≡ In g → Supported g
+pub shaped_supported : (edition frame : ℕ) {g : Shape} → shape_of edition frame ≡ Ok g → Supported g
 unfolding shape_of
 shaped_supported edition frame e = combined_supported (edition_of edition) (frame_of frame) (edition_supported edition) (frame_supported frame) e
 
 -- what is answered by a number, by what was found for it
-module _ {A : Type 0} {r found : Choice} (e : r ≡ found) (known : Shape → A) (other : A) where
-  pub chosen : {g : Shape} → r ≡ Of g → known g ≡ in_choice found known other
+module _ {A : Type 0} {r found : Option Shape} (e : r ≡ found) (known : Shape → A) (other : A) where
+  pub chosen : {g : Shape} → r ≡ Some g → known g ≡ in_choice found known other
   chosen h = rw (← e, h)
 
-  pub not_chosen : r ≡ Unknown → other ≡ in_choice found known other
+  pub not_chosen : r ≡ None → other ≡ in_choice found known other
   not_chosen h = rw (← e, h)
 
 module _ (frame words : ℕ) where
-  pub on_its_stack : {g : Shape} → frame_of frame ≡ Of g → words ≡ stack_depth g → Of g ≡ frame_on frame words
+  pub on_its_stack : {g : Shape} → frame_of frame ≡ Some g → words ≡ stack_depth g → Some g ≡ frame_on frame words
   unfolding frame_on
   on_its_stack {g} e h = rw (e, eq-eqb words (stack_depth g) h)
 
-  pub on_another_stack : {g : Shape} → frame_of frame ≡ Of g → (words ≡ stack_depth g → ⊥) → Unknown ≡ frame_on frame words
+  pub on_another_stack : {g : Shape} → frame_of frame ≡ Some g → (words ≡ stack_depth g → ⊥) → None ≡ frame_on frame words
   unfolding frame_on
   on_another_stack {g} e h = rw (e, ne_eqb words (stack_depth g) h)
 
-  pub on_no_frame : frame_of frame ≡ Unknown → Unknown ≡ frame_on frame words
+  pub on_no_frame : frame_of frame ≡ None → None ≡ frame_on frame words
   unfolding frame_on
   on_no_frame e = rw e
 
   -- a stack that goes with a frame has its words
-  pub on_stack : {g : Shape} → frame_on frame words ≡ Of g → (frame_of frame ≡ Of g) × (words ≡ stack_depth g)
+  pub on_stack : {g : Shape} → frame_on frame words ≡ Some g → (frame_of frame ≡ Some g) × (words ≡ stack_depth g)
   unfolding frame_on
   on_stack {g} = by (frame_of frame)
     where
-      same : {h : Shape} → Of h ≡ Of g → h ≡ g
+      same : {h : Shape} → Some h ≡ Some g → h ≡ g
       same e = cc
 
-      fits : (h : Shape) (b : Bool) → eqb words (stack_depth h) ≡ b → cond b (Of h) Unknown ≡ Of g → (Of h ≡ Of g) × (words ≡ stack_depth g)
+      fits : (h : Shape) (b : Bool) → eqb words (stack_depth h) ≡ b → cond b (Some h) None ≡ Some g → (Some h ≡ Some g) × (words ≡ stack_depth g)
       fits h true p e = (e, eqb-true words (stack_depth h) p ∙ ap (λ (x : Shape). stack_depth x) (same e))
       fits h false p e = let z : ◌≡◌ {A = ℕ} 0 1 = cc in absurd (omega arith)
 
-      by : (f : Choice) → in_choice f (λ h. cond (eqb words (stack_depth h)) (Of h) Unknown) Unknown ≡ Of g → (f ≡ Of g) × (words ≡ stack_depth g)
-      by (Of h) e = fits h (eqb words (stack_depth h)) refl e
-      by Unknown e = let z : ◌≡◌ {A = ℕ} 0 1 = cc in absurd (omega arith)
+      by : (f : Option Shape) → in_choice f (λ h. cond (eqb words (stack_depth h)) (Some h) None) None ≡ Some g → (f ≡ Some g) × (words ≡ stack_depth g)
+      by (Some h) e = fits h (eqb words (stack_depth h)) refl e
+      by None e = let z : ◌≡◌ {A = ℕ} 0 1 = cc in absurd (omega arith)
 
   -- and with a shape
-  pub shape_stack : (edition : ℕ) {g : Shape} → shape_on edition frame words ≡ In g → (shape_of edition frame ≡ In g) × (words ≡ stack_depth g)
+  pub shape_stack : (edition : ℕ) {g : Shape} → shape_on edition frame words ≡ Ok g → (shape_of edition frame ≡ Ok g) × (words ≡ stack_depth g)
   unfolding shape_on shape_of
   shape_stack edition {g} = by (edition_of edition) (frame_on frame words) refl
     where
-      by : (b f : Choice) → frame_on frame words ≡ f → combined b f ≡ In g → (combined b (frame_of frame) ≡ In g) × (words ≡ stack_depth g)
-      by Unknown f k e = let z : ◌≡◌ {A = ℕ} 0 1 = cc in absurd (omega arith)
-      by (Of b) Unknown k e = let z : ◌≡◌ {A = ℕ} 0 1 = cc in absurd (omega arith)
-      by (Of b) (Of f) k e =
+      by : (b f : Option Shape) → frame_on frame words ≡ f → combined b f ≡ Ok g → (combined b (frame_of frame) ≡ Ok g) × (words ≡ stack_depth g)
+      by None f k e = let z : ◌≡◌ {A = ℕ} 0 1 = cc in absurd (omega arith)
+      by (Some b) None k e = let z : ◌≡◌ {A = ℕ} 0 1 = cc in absurd (omega arith)
+      by (Some b) (Some f) k e =
           let w = on_stack k in
-          (ap (combined (Of b)) w.0 ∙ e, w.1 ∙ ap (λ (x : Shape). stack_depth x) (same_in e))
+          (ap (combined (Some b)) w.0 ∙ e, w.1 ∙ ap (λ (x : Shape). stack_depth x) (same_in e))

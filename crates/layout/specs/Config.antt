@@ -1,12 +1,10 @@
 -- The numbers of config.rs: what a shape decides, the reserved registers, offsets in the frame and in a block.
 -- From the scope, 'Instruction record': spill p is at 2048 − 8(p+1) from STACK; 'Blocks and objects': field i of a block at 16+16i and 24+16i; and 'Job 8' and 'Job 11':
 -- frames of 256 or 512 spills, blocks of 3 or 7 fields.
-use Rattle.std.specs.Prelude.{ℕ, ◌+◌, ◌*◌, ◌-◌, ◌/◌, ◌%◌, ◌^◌, ◌≤◌, ◌≡◌, cond, eqb, ltb}
+use Rattle.layout.specs.declared.config.Unshaped.{Unshaped}
+use Rattle.std.specs.Prelude.{ℕ, ◌+◌, ◌*◌, ◌-◌, ◌/◌, ◌%◌, ◌^◌, ◌≤◌, ◌≡◌, cond, eqb, ltb, Err, None, Some, Ok, Option, Result}
 use Rattle.layout.specs.declared.config.Shape.{Shape}
-use Rattle.layout.specs.declared.config.Choice.{Choice}
-use Rattle.layout.specs.declared.config.Choice.TheVariants.{Of, Unknown}
-use Rattle.layout.specs.declared.config.Shaped.{Shaped}
-use Rattle.layout.specs.declared.config.Shaped.TheVariants.{In, NoFrame, NoEdition}
+use Rattle.layout.specs.declared.config.Unshaped.TheVariants.{NoFrame, NoEdition}
 
 -- the first edition's blocks, and the smaller frame
 abbrev pub base : Shape
@@ -41,26 +39,26 @@ pub record Supported (g : Shape) : Type 0 where
   pub aside : 1 ≤ g.spills
 
 -- a frame by its number of spills, 256 or 512, and an edition by its number, 1 or 2; there is none of another number
-unfoldable pub frame_of : ℕ → Choice
-frame_of frame = cond (eqb frame base.spills) (Of base) (cond (eqb frame larger.spills) (Of larger) Unknown)
+unfoldable pub frame_of : ℕ → Option Shape
+frame_of frame = cond (eqb frame base.spills) (Some base) (cond (eqb frame larger.spills) (Some larger) None)
 
-unfoldable pub edition_of : ℕ → Choice
-edition_of edition = cond (eqb edition 1) (Of base) (cond (eqb edition 2) (Of second) Unknown)
+unfoldable pub edition_of : ℕ → Option Shape
+edition_of edition = cond (eqb edition 1) (Some base) (cond (eqb edition 2) (Some second) None)
 
 -- the blocks of the one in the frame of the other: where there is no such edition, the frame is not asked for
-abbrev pub combined : Choice → Choice → Shaped
-combined Unknown frame = NoEdition
-combined (Of b) Unknown = NoFrame
-combined (Of b) (Of f) = In (record { fields = b.fields; spills = f.spills })
+abbrev pub combined : Option Shape → Option Shape → Result Shape Unshaped
+combined None frame = Err NoEdition
+combined (Some b) None = Err NoFrame
+combined (Some b) (Some f) = Ok (record { fields = b.fields; spills = f.spills })
 
 -- the shape of an edition and a frame by their numbers
-unfoldable pub shape_of : ℕ → ℕ → Shaped
+unfoldable pub shape_of : ℕ → ℕ → Result Shape Unshaped
 shape_of edition frame = combined (edition_of edition) (frame_of frame)
 
 -- what is answered in the shape that a number stands for, and what where it stands for none
-abbrev pub in_choice : {A : Type 0} → Choice → (Shape → A) → A → A
-in_choice (Of g) known other = known g
-in_choice Unknown known other = other
+abbrev pub in_choice : {A : Type 0} → Option Shape → (Shape → A) → A → A
+in_choice (Some g) known other = known g
+in_choice None known other = other
 
 -- what depends on the frame alone, and what on the edition alone
 abbrev pub in_frame : {A : Type 0} → ℕ → (Shape → A) → A → A
@@ -70,10 +68,10 @@ abbrev pub in_edition : {A : Type 0} → ℕ → (Shape → A) → A → A
 in_edition edition known other = in_choice (edition_of edition) known other
 
 -- what is answered in a shape, what where there is no such frame, and what where there is no such edition
-abbrev pub in_shape : {A : Type 0} → Shaped → (Shape → A) → A → A → A
-in_shape (In g) known unframed unknown = known g
-in_shape NoFrame known unframed unknown = unframed
-in_shape NoEdition known unframed unknown = unknown
+abbrev pub in_shape : {A : Type 0} → Result Shape Unshaped → (Shape → A) → A → A → A
+in_shape (Ok g) known unframed unknown = known g
+in_shape (Err NoFrame) known unframed unknown = unframed
+in_shape (Err NoEdition) known unframed unknown = unknown
 
 abbrev pub STACK : ℕ
 STACK = 0
@@ -126,10 +124,10 @@ abbrev pub stack_depth : Shape → ℕ
 stack_depth g = g.spills + 64
 
 -- a frame where a stack of so many words goes with it, and a shape
-unfoldable pub frame_on : ℕ → ℕ → Choice
-frame_on frame words = in_frame frame (λ g. cond (eqb words (stack_depth g)) (Of g) Unknown) Unknown
+unfoldable pub frame_on : ℕ → ℕ → Option Shape
+frame_on frame words = in_frame frame (λ g. cond (eqb words (stack_depth g)) (Some g) None) None
 
-unfoldable pub shape_on : ℕ → ℕ → ℕ → Shaped
+unfoldable pub shape_on : ℕ → ℕ → ℕ → Result Shape Unshaped
 shape_on edition frame words = combined (edition_of edition) (frame_on frame words)
 
 -- where STACK is once six registers and the frame are on the stack, which begins at 2 ^ 40 − 8

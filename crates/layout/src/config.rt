@@ -1,8 +1,8 @@
 // Registers, spills and offsets, from config.rs.
-ghost use Rattle.std.specs.Prelude.{◌≡◌, ◌≤◌};
+ghost use Rattle.std.specs.Prelude.{◌≡◌, ◌≤◌, Err};
 ghost use Rattle.records.specs.Answers.{AnswersBy};
 ghost use Rattle.layout.specs.Config.{Supported, base, larger, second, block_words, frame_of, frame_on, edition_of, combined, shape_of, shape_on, in_frame, in_edition};
-ghost use Rattle.layout.specs.declared.config.Offset.TheVariants.{Operand, Edition};
+ghost use Rattle.layout.specs.declared.config.NoOffset.TheVariants.{Operand, Edition};
 ghost use Rattle.layout.specs.Queries.{spill_offset, field_offset, offset_cause};
 
 use crate::offset;
@@ -55,94 +55,75 @@ pub fn second() -> Shape
     }
 }
 
-// The shape that a number stands for, if it stands for one.
-#[derive(Clone, Copy)]
-pub enum Choice {
-    Of(Shape),
-    Unknown,
-}
-
-// A frame by its number of spills, with the first edition's blocks: for what does not depend on the edition.
-pub fn frame_of(frame: u64) -> Choice
+// The shape of a frame by its number of spills, with the first edition's blocks: for what does not depend on the edition.
+pub fn frame_of(frame: u64) -> Option<Shape>
     ensures { result ≡ frame_of frame }
 {
     if frame == 256 {
-        return Choice::Of(base());
+        return Some(base());
     }
     if frame == 512 {
-        return Choice::Of(larger());
+        return Some(larger());
     }
-    Choice::Unknown
+    None
 }
 
 // The same where a stack of so many words goes with the frame.
-pub fn frame_on(frame: u64, words: usize) -> Choice
+pub fn frame_on(frame: u64, words: usize) -> Option<Shape>
     ensures { result ≡ frame_on frame words }
 {
-    match frame_of(frame) {
-        Choice::Of(g) => {
-            if (words as u64) == g.spills + 64 {
-                return Choice::Of(g);
-            }
-            Choice::Unknown
-        }
-        Choice::Unknown => Choice::Unknown,
+    let g = frame_of(frame)?;
+    if words as u64 == g.spills + 64 {
+        Some(g)
+    } else {
+        None
     }
 }
 
-// An edition by its number, with the smaller frame: for what does not depend on the frame.
-pub fn edition_of(edition: u64) -> Choice
+// The shape of an edition by its number, with the smaller frame: for what does not depend on the frame.
+pub fn edition_of(edition: u64) -> Option<Shape>
     ensures { result ≡ edition_of edition }
 {
     if edition == 1 {
-        return Choice::Of(base());
+        return Some(base());
     }
     if edition == 2 {
-        return Choice::Of(second());
+        return Some(second());
     }
-    Choice::Unknown
+    None
 }
 
-// The shape of an edition and a frame: there is no such edition, or else no such frame.
-#[derive(Clone, Copy)]
-pub enum Shaped {
-    In(Shape),
+// Why an edition and a frame have no shape: there is no such edition, or else no such frame.
+#[derive(Clone, Copy, Debug, PartialEq, Eq)]
+pub enum Unshaped {
     NoFrame,
     NoEdition,
 }
 
 // The blocks of the one and the frame of the other.
-fn combined(edition: Choice, frame: Choice) -> Shaped
+fn combined(edition: Option<Shape>, frame: Option<Shape>) -> Result<Shape, Unshaped>
     ensures { result ≡ combined edition frame }
 {
-    let Choice::Of(b) = edition else {
-        return Shaped::NoEdition;
-    };
-    let Choice::Of(f) = frame else {
-        return Shaped::NoFrame;
-    };
-    Shaped::In(Shape {
+    let b = edition.ok_or(Unshaped::NoEdition)?;
+    let f = frame.ok_or(Unshaped::NoFrame)?;
+    Ok(Shape {
         fields: b.fields,
         spills: f.spills,
     })
 }
 
 // The shape of an edition and a frame by their numbers.
-pub fn shape_of(edition: u64, frame: u64) -> Shaped
+pub fn shape_of(edition: u64, frame: u64) -> Result<Shape, Unshaped>
     ensures { result ≡ shape_of edition frame }
 {
-    let blocks = edition_of(edition);
-    let spills = frame_of(frame);
-    combined(blocks, spills)
+    combined(edition_of(edition), frame_of(frame))
 }
 
 // The same where a stack of so many words goes with the frame.
-pub fn shape_on(edition: u64, frame: u64, words: usize) -> Shaped
+pub fn shape_on(edition: u64, frame: u64, words: usize) -> Result<Shape, Unshaped>
     ensures { result ≡ shape_on edition frame words }
 {
-    let blocks = edition_of(edition);
-    let spills = frame_on(frame, words);
-    combined(blocks, spills)
+    combined(edition_of(edition), frame_on(frame, words))
 }
 
 pub const STACK: u8 = 0;
@@ -163,56 +144,48 @@ pub const SPILL_TEMP: u64 = 16;
 // Minus one as 64 bits.
 pub const MINUS_ONE: u64 = 18446744073709551615;
 
-// Where a word stands; 3: no caller's spill, no frame of so many, or no field of a block; 23: no such edition.
-#[derive(Clone, Copy)]
-pub enum Offset {
-    At(u64),
+// Why a word has no offset. Operand, 3: no caller's spill, no frame of so many, or no field of a block; Edition, 23: no such edition.
+#[derive(Clone, Copy, Debug, PartialEq, Eq)]
+pub enum NoOffset {
     Operand,
     Edition,
 }
 
 // The offset from STACK of the spill, from 1, that an operand names in a frame.
-pub fn stack_offset(frame: u64, w: u64) -> Offset
-    ensures { AnswersBy offset_cause result (in_frame frame (λ g. spill_offset g w) Operand) }
+pub fn stack_offset(frame: u64, w: u64) -> Result<u64, NoOffset>
+    ensures { AnswersBy offset_cause result (in_frame frame (λ g. spill_offset g w) (Err Operand)) }
 {
-    match frame_of(frame) {
-        Choice::Of(g) => stack_offset_in(g, w),
-        Choice::Unknown => Offset::Operand,
-    }
+    let g = frame_of(frame).ok_or(NoOffset::Operand)?;
+    stack_offset_in(g, w)
 }
 
-fn stack_offset_in(g: Shape, w: u64) -> Offset
+fn stack_offset_in(g: Shape, w: u64) -> Result<u64, NoOffset>
     requires { Supported g }
     ensures { AnswersBy offset_cause result (spill_offset g w) }
 {
-    if w <= 16 {
-        return Offset::Operand;
+    if w <= 16 || g.spills <= w - 16 {
+        return Err(NoOffset::Operand);
     }
-    if g.spills <= w - 16 {
-        return Offset::Operand;
-    }
-    Offset::At(offset::spill_offset(g, w))
+    Ok(offset::spill_offset(g, w))
 }
 
 // The offset of a field's first or second word in an edition's block.
-pub fn field_offset(edition: u64, number: TemporaryNumber, field: u64) -> Offset
-    ensures { AnswersBy offset_cause result (in_edition edition (λ g. field_offset g number field) Edition) }
+pub fn field_offset(edition: u64, number: TemporaryNumber, field: u64) -> Result<u64, NoOffset>
+    ensures { AnswersBy offset_cause result (in_edition edition (λ g. field_offset g number field) (Err Edition)) }
 {
-    match edition_of(edition) {
-        Choice::Of(g) => field_offset_in(g, number, field),
-        Choice::Unknown => Offset::Edition,
-    }
+    let g = edition_of(edition).ok_or(NoOffset::Edition)?;
+    field_offset_in(g, number, field)
 }
 
-fn field_offset_in(g: Shape, number: TemporaryNumber, field: u64) -> Offset
+fn field_offset_in(g: Shape, number: TemporaryNumber, field: u64) -> Result<u64, NoOffset>
     requires { Supported g }
     ensures { AnswersBy offset_cause result (field_offset g number field) }
 {
     if g.fields <= field {
-        return Offset::Operand;
+        return Err(NoOffset::Operand);
     }
-    match number {
-        TemporaryNumber::Fst => Offset::At(offset::fst_offset(field)),
-        TemporaryNumber::Snd => Offset::At(offset::snd_offset(field)),
-    }
+    Ok(match number {
+        TemporaryNumber::Fst => offset::fst_offset(field),
+        TemporaryNumber::Snd => offset::snd_offset(field),
+    })
 }

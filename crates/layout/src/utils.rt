@@ -1,15 +1,15 @@
 // Where the variables stand, from utils.rs.
-ghost use Rattle.std.specs.Prelude.{◌≡◌, cond, ◌+◌, ◌*◌, ◌-◌, ◌<◌, ◌≤◌, ltb, length, drop};
+ghost use Rattle.std.specs.Prelude.{◌≡◌, cond, ◌+◌, ◌*◌, ◌<◌, ◌≤◌, ltb, length, drop, Err};
 ghost use Rattle.records.specs.Answers.{AnswersBy};
 ghost use Rattle.records.specs.Contexts.{binding_in, ext_at};
-ghost use Rattle.layout.specs.declared.utils.Temporary.TheVariants.{Frame, Missing};
+ghost use Rattle.layout.specs.declared.utils.NoTemporary.TheVariants.{Context, Frame, Missing};
 ghost use Rattle.layout.specs.Config.{Supported, positions, in_frame, register_for};
 ghost use Rattle.layout.specs.Positions.{location, entries, Table, operand_ok, position_answer, temporary_cause};
 ghost use Rattle.layout.specs.Queries.{half_number, id_place, fresh_temporary, variable_temporary, unframed_temporary};
 
 use crate::config;
-use crate::config::{Choice, Shape, TEMP};
-use records::context::{ContextRead, Flaw};
+use crate::config::{Shape, TEMP};
+use records::context::Flaw;
 
 // How many positions the largest frame has.
 pub const ENTRIES: usize = 523;
@@ -45,14 +45,21 @@ const POSITIONS: [u16; ENTRIES] = [
     519, 520, 521, 522, 523, 524, 525, 526, 527,
 ];
 
-// An operand, or why there is none.
-#[derive(Clone, Copy)]
-pub enum Temporary {
-    Operand(u64),
+// Why there is no operand.
+#[derive(Clone, Copy, Debug, PartialEq, Eq)]
+pub enum NoTemporary {
     Context(Flaw),
     Frame,
     Missing,
     OutOfTemporaries,
+}
+
+impl From<Flaw> for NoTemporary {
+    ghost from_gives = { λ flaw r. r ≡ Context flaw };
+
+    fn from(flaw: Flaw) -> NoTemporary {
+        NoTemporary::Context(flaw)
+    }
 }
 
 #[derive(Clone, Copy)]
@@ -77,18 +84,12 @@ pub fn positions() -> [u16; ENTRIES]
     POSITIONS
 }
 
-fn wide(x: u16) -> u64
-    ensures { result ≡ x }
-{
-    x as u64
-}
-
 // The operand of a position, by the table.
 pub fn location_at(table: &[u16; ENTRIES], p: u64) -> u64
     requires { (Table table.now) × (p < entries) }
     ensures { (result ≡ location p) × (result ≤ p + 5) }
 {
-    wide(table[p as usize])
+    u64::from(table[p as usize])
 }
 
 // The same by the rule, for emitters: to take the table costs as much as to write ten records.
@@ -100,40 +101,29 @@ pub fn location_of(p: u64) -> u64
 }
 
 // The operand of a position in a frame of so many spills.
-pub fn position(frame: u64, p: u64) -> Temporary
-    ensures { AnswersBy temporary_cause result (in_frame frame (λ g. position_answer g p) Frame) }
+pub fn position(frame: u64, p: u64) -> Result<u64, NoTemporary>
+    ensures { AnswersBy temporary_cause result (in_frame frame (λ g. position_answer g p) (Err Frame)) }
 {
-    match config::frame_of(frame) {
-        Choice::Of(g) => position_in(g, p),
-        Choice::Unknown => Temporary::Frame,
-    }
+    let g = config::frame_of(frame).ok_or(NoTemporary::Frame)?;
+    position_in(g, p)
 }
 
-fn position_in(g: Shape, p: u64) -> Temporary
+fn position_in(g: Shape, p: u64) -> Result<u64, NoTemporary>
     requires { Supported g }
     ensures { AnswersBy temporary_cause result (position_answer g p) }
 {
     if g.spills + 11 <= p {
-        return Temporary::OutOfTemporaries;
+        return Err(NoTemporary::OutOfTemporaries);
     }
     let table = positions();
-    Temporary::Operand(location_at(&table, p))
+    Ok(location_at(&table, p))
 }
 
 // Whether a caller may give the word as an operand.
 pub fn operand_ok(g: Shape, w: u64) -> bool
     ensures { result ≡ operand_ok g w }
 {
-    if w < 4 {
-        return false;
-    }
-    if w < 16 {
-        return true;
-    }
-    if g.spills <= w - 16 {
-        return false;
-    }
-    16 < w
+    4 <= w && (w < 16 || w - 16 < g.spills && 16 < w)
 }
 
 // The register that has the word of operand w, once that is in one.
@@ -141,13 +131,6 @@ pub fn register_for(w: u64) -> u8
     ensures { result ≡ register_for w }
 {
     if w < 16 { w as u8 } else { TEMP }
-}
-
-// How much more a is than b, 0 where it is less.
-pub fn excess(a: u64, b: u64) -> u64
-    ensures { result ≡ a - b }
-{
-    if a < b { 0 } else { a - b }
 }
 
 // Whether binding i is an integer's.
@@ -172,75 +155,79 @@ fn id_place(context: &[u8], id: u32, n: usize) -> usize
     requires { 8 * n ≤ length context.now }
     ensures { (result ≡ id_place context.now id 0 n) × (result ≤ n) }
 {
-    let mut k = 0;
-    while k < n {
+    for k in 0..n {
         if id_at(context, k) == id {
             return k;
         }
-        k += 1;
     }
-    k
+    n
 }
 
 // What a frame of another number of spills is answered.
-fn unframed(context: &[u8]) -> Temporary
+fn unframed(context: &[u8]) -> Result<u64, NoTemporary>
     ensures { AnswersBy temporary_cause result (unframed_temporary context.now) }
 {
-    match records::context::check_context(context) {
-        ContextRead::Good(_) => Temporary::Frame,
-        ContextRead::Bad(flaw) => Temporary::Context(flaw),
-    }
+    records::context::check_context(context)?;
+    Err(NoTemporary::Frame)
 }
 
 // The temporary past the context's last variable.
-pub fn fresh_temporary(frame: u64, number: TemporaryNumber, context: &[u8]) -> Temporary
+pub fn fresh_temporary(
+    frame: u64,
+    number: TemporaryNumber,
+    context: &[u8],
+) -> Result<u64, NoTemporary>
     ensures { AnswersBy temporary_cause result (in_frame frame (λ g. fresh_temporary g number context.now) (unframed_temporary context.now)) }
 {
-    match config::frame_of(frame) {
-        Choice::Of(g) => fresh_temporary_in(g, number, context),
-        Choice::Unknown => unframed(context),
-    }
+    let Some(g) = config::frame_of(frame) else {
+        return unframed(context);
+    };
+    fresh_temporary_in(g, number, context)
 }
 
-fn fresh_temporary_in(g: Shape, number: TemporaryNumber, context: &[u8]) -> Temporary
+fn fresh_temporary_in(g: Shape, number: TemporaryNumber, context: &[u8]) -> Result<u64, NoTemporary>
     requires { Supported g }
     ensures { AnswersBy temporary_cause result (fresh_temporary g number context.now) }
 {
-    let half = number_of(number);
-    match records::context::check_context(context) {
-        ContextRead::Good(n) => position_in(g, 2 * (n as u64) + half),
-        ContextRead::Bad(flaw) => Temporary::Context(flaw),
-    }
+    let n = records::context::check_context(context)?;
+    position_in(g, 2 * (n as u64) + number_of(number))
 }
 
 // The temporary of the first variable that has the id.
-pub fn variable_temporary(frame: u64, number: TemporaryNumber, context: &[u8], id: u32) -> Temporary
+pub fn variable_temporary(
+    frame: u64,
+    number: TemporaryNumber,
+    context: &[u8],
+    id: u32,
+) -> Result<u64, NoTemporary>
     ensures { AnswersBy temporary_cause result (in_frame frame (λ g. variable_temporary g number context.now id) (unframed_temporary context.now)) }
 {
-    match config::frame_of(frame) {
-        Choice::Of(g) => variable_temporary_in(g, number, context, id),
-        Choice::Unknown => unframed(context),
-    }
+    let Some(g) = config::frame_of(frame) else {
+        return unframed(context);
+    };
+    variable_temporary_in(g, number, context, id)
 }
 
-fn variable_temporary_in(g: Shape, number: TemporaryNumber, context: &[u8], id: u32) -> Temporary
+fn variable_temporary_in(
+    g: Shape,
+    number: TemporaryNumber,
+    context: &[u8],
+    id: u32,
+) -> Result<u64, NoTemporary>
     requires { Supported g }
     ensures { AnswersBy temporary_cause result (variable_temporary g number context.now id) }
 {
-    let half = number_of(number);
-    match records::context::check_context(context) {
-        ContextRead::Good(n) => placed(g, id_place(context, id, n), n, half),
-        ContextRead::Bad(flaw) => Temporary::Context(flaw),
-    }
+    let n = records::context::check_context(context)?;
+    placed(g, id_place(context, id, n), n, number_of(number))
 }
 
-fn placed(g: Shape, k: usize, n: usize, half: u64) -> Temporary
+fn placed(g: Shape, k: usize, n: usize, half: u64) -> Result<u64, NoTemporary>
     requires { (k ≤ n) × ((n ≤ 4096) × (half ≤ 1)) × Supported g }
-    ensures { result ≡ cond (ltb k n) (position_answer g (2 * k + half)) Missing }
+    ensures { result ≡ cond (ltb k n) (position_answer g (2 * k + half)) (Err Missing) }
 {
     if k < n {
         position_in(g, 2 * (k as u64) + half)
     } else {
-        Temporary::Missing
+        Err(NoTemporary::Missing)
     }
 }

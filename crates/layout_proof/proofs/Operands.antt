@@ -1,11 +1,11 @@
 -- An operand as instructions name it, one word of a configuration changed, and a block's address.
+use Rattle.std.specs.Prelude.{Some}
 use mathlib.Core.Bool.{cond}
 use Prim.Native.Nat.{ℕ}
 use lib.Dec.{ltb}
 use Rattle.layout.specs.declared.config.Shape.{Shape}
 use Rattle.layout.specs.Config.{STACK, stack_offset}
 use Rattle.layout.specs.Frame.{stack_word}
-use Rattle.machine_step.specs.declared.instruction.Compared.TheVariants.{Of}
 use Rattle.machine_step.specs.View.{View, put_reg, put_stk, put_mem}
 use Rattle.machine_step.specs.Memory.{Operand, register, memory}
 use Rattle.machine_step.specs.Step.{Config, config, moved}
@@ -26,7 +26,7 @@ abbrev pub with_heap : Config → ℕ → ℕ → Config
 with_heap c i w = moved c (put_mem c.state i w)
 
 abbrev pub with_pair : Config → ℕ → ℕ → Config
-with_pair c x y = config c.state (Of x y) c.calls
+with_pair c x y = config c.state (Some (x, y)) c.calls
 
 -- operand l of a state changed
 abbrev pub with_operand : View → ℕ → ℕ → View

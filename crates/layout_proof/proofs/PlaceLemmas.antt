@@ -1,7 +1,7 @@
 -- The place that a register and an offset name: a spill's word of the stack, a block's word of the heap; and what is read and written there.
+use Rattle.std.specs.Prelude.{Some}
 use mathlib.Core.Path.{◌≡◌, refl}
 use mathlib.Core.Bool.{Bool, true, false, cond}
-use mathlib.Core.Option.{some}
 use Prim.Native.Nat.{ℕ, ◌+◌, ◌-◌, ◌*◌, ◌/◌, ◌%◌, ◌^◌, ◌≤◌, ◌<◌}
 use native.Mathlib.Omega.{arith}
 use lib.Dec.{ltb}
@@ -11,7 +11,6 @@ use Rattle.layout.specs.declared.config.Shape.{Shape}
 use Rattle.layout.specs.Config.{Supported, operands, block_words, stack_offset}
 use Rattle.layout.specs.Frame.{stack_word, held_in}
 use Rattle.machine_step.specs.declared.memory.Place.TheVariants.{Stack, Heap}
-use Rattle.machine_step.specs.declared.memory.Fetched.TheVariants.{Word}
 use Rattle.machine_step.specs.View.{View, put_reg, put_stk, put_mem}
 use Rattle.machine_step.specs.Memory.{register, memory, place_of, value_of, assigned}
 use Rattle.heap.proofs.WordLemmas.{word_inside, heap_below}
@@ -55,31 +54,31 @@ module _ {G : Shape} {N : ℕ} (s : View) (v : PlacedAt G N (s.reg 0) s.depth s.
       simp (p, q, v.words, e, e1, e2, lt-leb _ _ e3, le-ltb _ _ e6, le-leb _ _ e4, lt-ltb _ _ e5)
 
   module _ (r j o w : ℕ) (p : s.reg r ≡ block_address G j) (h : j < N) (q : o ≡ 8 * w) (f : w < block_words G) where
-    pub block_read : value_of s (memory r o) ≡ Word (s.mem (word_at G.fields j w))
+    pub block_read : value_of s (memory r o) ≡ Some (s.mem (word_at G.fields j w))
     block_read = rw (block_place r j o w p h q f)
 
-    pub block_written : (x : ℕ) → assigned s (memory r o) x ≡ some (put_mem s (word_at G.fields j w) x)
+    pub block_written : (x : ℕ) → assigned s (memory r o) x ≡ Some (put_mem s (word_at G.fields j w) x)
     block_written x = rw (block_place r j o w p h q f)
 
   module _ (l : ℕ) (a : 16 ≤ l) (b : l < operands G) where
-    pub spill_read : value_of s (memory 0 (stack_offset G l)) ≡ Word (held_in s.reg s.stk l)
+    pub spill_read : value_of s (memory 0 (stack_offset G l)) ≡ Some (held_in s.reg s.stk l)
     spill_read = rw (spill_place l a b, held_spill s.reg s.stk l a)
 
-    pub spill_written : (x : ℕ) → assigned s (memory 0 (stack_offset G l)) x ≡ some (put_stk s (stack_word l) x)
+    pub spill_written : (x : ℕ) → assigned s (memory 0 (stack_offset G l)) x ≡ Some (put_stk s (stack_word l) x)
     spill_written x = rw (spill_place l a b)
 
   -- a register or a spill
   module _ (l : ℕ) (b : l < operands G) where
-    pub operand_read : value_of s (operand_at G l) ≡ Word (held_in s.reg s.stk l)
+    pub operand_read : value_of s (operand_at G l) ≡ Some (held_in s.reg s.stk l)
     operand_read = by (ltb l 16) refl
       where
-        by : (t : Bool) → ltb l 16 ≡ t → value_of s (cond t (register l) (memory 0 (stack_offset G l))) ≡ Word (held_in s.reg s.stk l)
+        by : (t : Bool) → ltb l 16 ≡ t → value_of s (cond t (register l) (memory 0 (stack_offset G l))) ≡ Some (held_in s.reg s.stk l)
         by true e = rw (held_register s.reg s.stk l (ltb-true l 16 e))
         by false e = spill_read l (ltb-false l 16 e) b
 
-    pub operand_written : (x : ℕ) → assigned s (operand_at G l) x ≡ some (with_operand s l x)
+    pub operand_written : (x : ℕ) → assigned s (operand_at G l) x ≡ Some (with_operand s l x)
     operand_written x = by (ltb l 16) refl
       where
-        by : (t : Bool) → ltb l 16 ≡ t → assigned s (cond t (register l) (memory 0 (stack_offset G l))) x ≡ some (cond t (put_reg s l x) (put_stk s (stack_word l) x))
+        by : (t : Bool) → ltb l 16 ≡ t → assigned s (cond t (register l) (memory 0 (stack_offset G l))) x ≡ Some (cond t (put_reg s l x) (put_stk s (stack_word l) x))
         by true e = refl
         by false e = spill_written l (ltb-false l 16 e) b x

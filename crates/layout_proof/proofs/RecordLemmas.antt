@@ -1,13 +1,12 @@
 -- What a record does, by its form: a move, a sum or a compare, of registers, spills and words of a block.
+use Rattle.std.specs.Prelude.{Some}
 use mathlib.Core.Path.{◌≡◌, refl, ap}
-use mathlib.Core.Option.{some}
 use Prim.Native.Nat.{ℕ, ◌*◌, ◌≤◌, ◌<◌}
 use Rattle.records.specs.declared.code.Code.TheVariants.{ADDI, ADDIM, MOV, MOVS, MOVL, MOVI, MOVIM, CMPI, CMPIM}
 use Rattle.word.specs.Words.{sum}
 use Rattle.trees.specs.Tree.{leaf}
 use Rattle.layout.specs.declared.config.Shape.{Shape}
 use Rattle.layout.specs.Config.{operands, block_words, stack_offset}
-use Rattle.machine_step.specs.declared.memory.Fetched.TheVariants.{Word}
 use Rattle.machine_step.specs.View.{View}
 use Rattle.machine_step.specs.Memory.{Operand, register, memory, value_of, assigned}
 use Rattle.machine_step.specs.Step.{Config, moved, changed, dropped, next, move, calculate, compare, step}
@@ -19,13 +18,13 @@ use Rattle.layout_proof.proofs.PlaceLemmas.{block_read, block_written, spill_rea
 
 -- the three forms, whatever their operands are
 module _ (c : Config) (dest src : Operand) {y : ℕ} where
-  pub moves : {s : View} → value_of c.state src ≡ Word y → assigned c.state dest y ≡ some s → move dest src c ≡ next (moved c s)
+  pub moves : {s : View} → value_of c.state src ≡ Some y → assigned c.state dest y ≡ Some s → move dest src c ≡ next (moved c s)
   moves e w = rw (e, w)
 
-  pub computes : (f : ℕ → ℕ → ℕ) {x : ℕ} {s : View} → value_of c.state src ≡ Word y → value_of c.state dest ≡ Word x → assigned c.state dest (f x y) ≡ some s → calculate f dest src c ≡ next (changed c s)
+  pub computes : (f : ℕ → ℕ → ℕ) {x : ℕ} {s : View} → value_of c.state src ≡ Some y → value_of c.state dest ≡ Some x → assigned c.state dest (f x y) ≡ Some s → calculate f dest src c ≡ next (changed c s)
   computes f e d w = rw (e, d, w)
 
-  pub compares : {x : ℕ} → value_of c.state src ≡ Word y → value_of c.state dest ≡ Word x → compare dest src c ≡ next (with_pair c x y)
+  pub compares : {x : ℕ} → value_of c.state src ≡ Some y → value_of c.state dest ≡ Some x → compare dest src c ≡ next (with_pair c x y)
   compares e d = rw (e, d)
 
 module _ (words : ℕ → ℕ) where

@@ -1,13 +1,12 @@
 -- The listing of a list of instruction records, and what the lister prints. From the scope, 'Worked numbers' (the lister) and
 -- 'Causes and numbers'. The names of the codes are a parameter; those of the Rust stand in `Names`.
-use Rattle.std.specs.Prelude.{ℕ, zero, suc, ◌*◌, ◌-◌, cond, List, [], ◌∷◌, ◌++◌, leb, length, get_or, drop}
+use Rattle.listing.specs.declared.NotListed.{NotListed}
+use Rattle.records.specs.declared.check.Malformed.{Malformed}
+use Rattle.std.specs.Prelude.{ℕ, zero, suc, ◌*◌, ◌-◌, cond, List, [], ◌∷◌, ◌++◌, leb, length, get_or, drop, Err, Ok, Result}
 use Rattle.records.specs.Causes.{ACCEPTED, MALFORMED, ROOM}
-use Rattle.records.specs.declared.check.Checked.{Checked}
-use Rattle.records.specs.declared.check.Checked.TheVariants.{Good, Malformed as Bad}
 use Rattle.records.specs.declared.code.Fields.{Fields}
 use Rattle.records.specs.Instructions.{fields_in, checked_codes}
-use Rattle.listing.specs.declared.Listed.{Listed}
-use Rattle.listing.specs.declared.Listed.TheVariants.{Text, Malformed, Short}
+use Rattle.listing.specs.declared.NotListed.TheVariants as not_listed
 use Rattle.text.specs.Text.{ascii, spaced, decimal, signed_decimal}
 
 -- the name of a code, the first of which is 1
@@ -32,31 +31,31 @@ unfoldable pub listing : List (List ℕ) → List ℕ → ℕ → List ℕ
 listing names s n = decimal n ++ ascii " records\n" ++ lines names s n
 
 -- the lister takes at most 2,730 records
-abbrev pub checked_list : List ℕ → Checked
+abbrev pub checked_list : List ℕ → Result ℕ Malformed
 checked_list s = checked_codes 2730 s
 
 -- the text that is written: none where the list is refused
-unfoldable pub text_of : List (List ℕ) → List ℕ → Checked → List ℕ
-text_of names s (Good n) = listing names s n
-text_of names s (Bad place) = []
+unfoldable pub text_of : List (List ℕ) → List ℕ → Result ℕ Malformed → List ℕ
+text_of names s (Ok n) = listing names s n
+text_of names s (Err m) = []
 
 -- the answer where the output has room for so many bytes
-unfoldable pub listing_answer : List (List ℕ) → List ℕ → ℕ → Checked → Listed
-listing_answer names s room (Good n) = cond (leb (length (listing names s n)) room) (Text (length (listing names s n))) (Short (length (listing names s n)))
-listing_answer names s room (Bad place) = Malformed place
+unfoldable pub listing_answer : List (List ℕ) → List ℕ → ℕ → Result ℕ Malformed → Result ℕ NotListed
+listing_answer names s room (Ok n) = cond (leb (length (listing names s n)) room) (Ok (length (listing names s n))) (Err (not_listed.Short (length (listing names s n))))
+listing_answer names s room (Err m) = Err (not_listed.Malformed m.place)
 
 -- what is written for the bytes of a list of records, and what is answered
 abbrev pub listed_text : List (List ℕ) → List ℕ → List ℕ
 listed_text names s = text_of names s (checked_list s)
 
-abbrev pub listed : List (List ℕ) → List ℕ → ℕ → Listed
+abbrev pub listed : List (List ℕ) → List ℕ → ℕ → Result ℕ NotListed
 listed names s room = listing_answer names s room (checked_list s)
 
 -- the scope's number and values for each answer: 0, with the bytes of the listing, where it is written
-abbrev pub listing_cause : Listed → List ℕ
-listing_cause (Text size) = ACCEPTED ∷ size ∷ []
-listing_cause (Malformed place) = MALFORMED ∷ place ∷ []
-listing_cause (Short needed) = ROOM ∷ needed ∷ []
+abbrev pub listing_cause : Result ℕ NotListed → List ℕ
+listing_cause (Ok size) = ACCEPTED ∷ size ∷ []
+listing_cause (Err (not_listed.Malformed place)) = MALFORMED ∷ place ∷ []
+listing_cause (Err (not_listed.Short needed)) = ROOM ∷ needed ∷ []
 
 -- numbers on one line
 abbrev pub row : List ℕ → List ℕ
@@ -66,11 +65,11 @@ row (n ∷ m ∷ ns) = decimal n ++ spaced (row (m ∷ ns))
 
 -- the number and the place of a refusal
 unfoldable pub listing_refusal : ℕ → List ℕ
-listing_refusal place = row (listing_cause (Malformed place))
+listing_refusal place = row (listing_cause (Err (not_listed.Malformed place)))
 
-unfoldable pub printed_of : List (List ℕ) → List ℕ → Checked → List ℕ
-printed_of names s (Good n) = listing names s n
-printed_of names s (Bad place) = listing_refusal place
+unfoldable pub printed_of : List (List ℕ) → List ℕ → Result ℕ Malformed → List ℕ
+printed_of names s (Ok n) = listing names s n
+printed_of names s (Err m) = listing_refusal m.place
 
 -- what the lister prints for the bytes that it reads
 abbrev pub printed_listing : List (List ℕ) → List ℕ → List ℕ

@@ -1,11 +1,10 @@
 // The lines of a listing, its header, and the line of a refusal.
-ghost use Rattle.std.specs.Prelude.{◌≡◌, ◌+◌, ◌*◌, ◌≤◌};
+ghost use Rattle.std.specs.Prelude.{◌≡◌, ◌+◌, ◌*◌, ◌≤◌, Ok};
 ghost use Rattle.listing.specs.Names.{code_names};
 ghost use Rattle.listing.specs.Listing.{operands_text, line, lines, listing, checked_list, listing_refusal, printed_listing, longest_listing};
 ghost use Rattle.text.specs.Putting.{farthest, Puts};
 
 use crate::names;
-use records::check::Checked;
 use records::code;
 use records::code::Fields;
 
@@ -32,21 +31,19 @@ fn put_line(text: &mut [u8], at: usize, place: usize, f: Fields) -> usize
 }
 
 fn put_lines(text: &mut [u8], at: usize, records: &[u8], count: usize) -> usize
-    requires { (checked_list records.now ≡ Checked.Good count) × (at + 140 * count ≤ farthest) }
+    requires { (checked_list records.now ≡ Ok count) × (at + 140 * count ≤ farthest) }
     ensures { Puts (140 * count) text.old at text.new result (lines code_names records.now count) }
 {
     let mut next = at;
-    let mut k = 0;
-    while k < count {
+    for k in 0..count {
         next = put_line(text, next, k + 1, code::fields_at(records, 24 * k));
-        k += 1;
     }
     next
 }
 
 // The listing of well-formed records, from the start of `text`.
 pub fn put_listing(text: &mut [u8], records: &[u8], count: usize) -> usize
-    requires { checked_list records.now ≡ Checked.Good count }
+    requires { checked_list records.now ≡ Ok count }
     ensures { Puts longest_listing text.old 0 text.new result (listing code_names records.now count) }
 {
     let word = text::put_decimal(text, 0, count as u64);
@@ -66,9 +63,8 @@ fn put_refusal(text: &mut [u8], place: usize) -> usize
 pub fn put_printed(text: &mut [u8], records: &[u8]) -> usize
     ensures { Puts longest_listing text.old 0 text.new result (printed_listing code_names records.now) }
 {
-    let checked = code::check_codes(records, 2730);
-    match checked {
-        Checked::Good(count) => put_listing(text, records, count),
-        Checked::Malformed(place) => put_refusal(text, place),
+    match code::check_codes(records, 2730) {
+        Ok(count) => put_listing(text, records, count),
+        Err(malformed) => put_refusal(text, malformed.place),
     }
 }

@@ -1,5 +1,5 @@
 // The names of the 44 instructions, in the sequence of the Rust's enum Code.
-ghost use Rattle.std.specs.Prelude.{◌≡◌, ◌+◌, ◌≤◌};
+ghost use Rattle.std.specs.Prelude.{◌+◌, ◌≤◌};
 ghost use Rattle.listing.specs.Names.{code_names};
 ghost use Rattle.listing.specs.Listing.{code_name};
 ghost use Rattle.text.specs.Text.{spaced};
@@ -52,20 +52,14 @@ const NAMES: [u8; 528] = *b"\
     \x06GLOBAL     \
     \x06EXTERN     ";
 
-fn wide(b: u8) -> usize
-    ensures { result ≡ b }
-{
-    b as usize
-}
-
 // A space, then the name of a code.
 pub fn put_spaced_name(text: &mut [u8], at: usize, code: u8) -> usize
     requires { (1 ≤ code) × (code ≤ 44) × (at + 12 ≤ farthest) }
     ensures { Puts 12 text.old at text.new result (spaced (code_name code_names code)) }
 {
     let next = text::put_byte(text, at, b' ');
-    let start = 12 * (wide(code) - 1);
+    let start = 12 * (usize::from(code) - 1);
     let from = start + 1;
-    let end = from + wide(NAMES[start]);
+    let end = from + usize::from(NAMES[start]);
     text::put_bytes(text, next, &NAMES[from..end])
 }

@@ -1,4 +1,5 @@
 -- The definitions at worked examples, each by computation.
+use Rattle.std.specs.Prelude.{Err, Ok}
 use Prim.Native.Nat.{ℕ, ◌-◌, ◌^◌}
 use mathlib.Core.Path.{◌≡◌, refl}
 use mathlib.Core.Bool.{true, false}
@@ -11,9 +12,8 @@ use Rattle.machine_step.specs.declared.memory.Place.TheVariants.{Stack, Heap, No
 use Rattle.machine_step.specs.Memory.{heap_ok, place_of}
 use Rattle.machine_step.specs.Step.{step}
 use Rattle.machine.specs.declared.state.State.{State}
-use Rattle.machine.specs.declared.run.RunAnswer.{RunAnswer}
-use Rattle.machine.specs.declared.run.RunAnswer.TheVariants.{Ended, Malformed, Fault, Limit}
-use Rattle.machine.specs.Run.{runs, started, places_of, ran}
+use Rattle.machine.specs.declared.run.Stop.TheVariants.{Malformed, Fault, Limit}
+use Rattle.machine.specs.Run.{runs, started, places_of, ran, RunAnswer}
 use Rattle.machine.specs.State.{see, entry_state, fresh_state, firsts}
 use Rattle.layout.specs.Config.{base}
 use Rattle.word.specs.Words.{sum, difference, signs, magnitude, negated, quotient, remainder, divides, less}
@@ -31,18 +31,18 @@ abbrev registers : List Code → List ℕ
 registers p = firsts 16 (started words p 100 (see (fresh_state base) heap)).last.state.reg
 
 -- nothing to run has ended, whatever the limit; a record that the limit stops is not tried
-ends : (answers (fresh_state base) [] 0 ≡ Ended 0) × (answers (entry_state base) (RET ∷ []) 1 ≡ Ended 1) × (answers (fresh_state base) (RET ∷ []) 0 ≡ Limit 0)
+ends : (answers (fresh_state base) [] 0 ≡ Ok 0) × (answers (entry_state base) (RET ∷ []) 1 ≡ Ok 1) × (answers (fresh_state base) (RET ∷ []) 0 ≡ Err (Limit 0))
 unfolding runs step sum
 ends = (refl, refl, refl)
 
 -- a jump counts its own step and that of the LAB that it goes to
-jumps : (answers (fresh_state base) (CMPI 4 0 ∷ JEL 1 ∷ ADDIM 4 0 1 ∷ LAB 1 ∷ []) 4 ≡ Ended 3) × (answers (fresh_state base) (JMPL 1 ∷ []) 4 ≡ Fault 0 1)
-    × (answers (fresh_state base) (JMPL 1 ∷ LAB 1 ∷ LAB 1 ∷ []) 4 ≡ Fault 0 1)
+jumps : (answers (fresh_state base) (CMPI 4 0 ∷ JEL 1 ∷ ADDIM 4 0 1 ∷ LAB 1 ∷ []) 4 ≡ Ok 3) × (answers (fresh_state base) (JMPL 1 ∷ []) 4 ≡ Err (Fault 0 1))
+    × (answers (fresh_state base) (JMPL 1 ∷ LAB 1 ∷ LAB 1 ∷ []) 4 ≡ Err (Fault 0 1))
 unfolding runs step places_of place_of sum
 jumps = (refl, refl, refl)
 
 -- a conditional jump uses the compare up, a move does not
-compares : (answers (fresh_state base) (CMPI 4 5 ∷ JEL 1 ∷ JLL 1 ∷ LAB 1 ∷ []) 9 ≡ Fault 2 3) × (answers (fresh_state base) (CMPI 4 5 ∷ MOVI 4 9 ∷ JLL 1 ∷ RET ∷ LAB 1 ∷ []) 9 ≡ Ended 4)
+compares : (answers (fresh_state base) (CMPI 4 5 ∷ JEL 1 ∷ JLL 1 ∷ LAB 1 ∷ []) 9 ≡ Err (Fault 2 3)) × (answers (fresh_state base) (CMPI 4 5 ∷ MOVI 4 9 ∷ JLL 1 ∷ RET ∷ LAB 1 ∷ []) 9 ≡ Ok 4)
 unfolding runs step places_of place_of sum less
 compares = (refl, refl)
 
@@ -68,12 +68,12 @@ pushes_stack : registers (PUSH 0 ∷ POP 4 ∷ []) ≡ 1099511625672 ∷ 0 ∷ 6
 unfolding runs step place_of sum difference
 pushes_stack = refl
 
-prints : (answers (fresh_state base) (CALL PRINTI64 ∷ []) 1 ≡ Fault 0 1) × (answers (fresh_state base) (ADDI 0 8 ∷ CALL first_unnamed ∷ []) 2 ≡ Fault 1 2)
+prints : (answers (fresh_state base) (CALL PRINTI64 ∷ []) 1 ≡ Err (Fault 0 1)) × (answers (fresh_state base) (ADDI 0 8 ∷ CALL first_unnamed ∷ []) 2 ≡ Err (Fault 1 2))
     × (registers (ADDI 0 8 ∷ CALL PRINTI64 ∷ []) ≡ 1099511625680 ∷ 100 ∷ 65536 ∷ 65600 ∷ 99 ∷ 98 ∷ 97 ∷ 96 ∷ 95 ∷ 94 ∷ 93 ∷ 92 ∷ replicate 4 0)
 unfolding runs step sum
 prints = (refl, refl, refl)
 
 -- 2 with place 0 before a malformed record is seen
-refuses : ((ran 8 words (1 ∷ []) 5 (see (fresh_state base) (replicate 17 0))).answer ≡ Malformed 0)
+refuses : ((ran 8 words (1 ∷ []) 5 (see (fresh_state base) (replicate 17 0))).answer ≡ Err (Malformed 0))
 unfolding ran heap_ok
 refuses = refl

@@ -1,9 +1,10 @@
 -- Labels sought in the bytes: one record more, the end, and the one place of a label.
-use Prim.Native.Nat.{ℕ, suc, ◌+◌, ◌-◌, ◌*◌, ◌≤◌, ◌<◌}
+use Rattle.std.specs.Prelude.{None, Some, Option, MatchOption}
+use Prim.Native.Nat.{ℕ, zero, suc, ◌+◌, ◌-◌, ◌*◌, ◌≤◌, ◌<◌}
 use mathlib.Core.Path.{◌≡◌, refl, sym, ap, ◌∙◌}
 use mathlib.Core.Bool.{Bool, true, false, ◌&&◌, cond}
 use mathlib.Core.List.{List, [], ◌∷◌}
-use native.Mathlib.Nat.{sub-zero}
+use native.Mathlib.Nat.{add-zero, sub-zero}
 use native.Mathlib.Numerals.{add-one}
 use native.Mathlib.Omega.{arith}
 use lib.Dec.{eqb}
@@ -15,7 +16,6 @@ use Rattle.records.specs.Codes.{readers, code_of}
 use Rattle.records.specs.Instructions.{fields_in, fields_ok, lab_with}
 use Rattle.records.specs.ReadBack.{code_in}
 use Rattle.records.proofs.CodesRead.{ok_code, starts_ok}
-use Rattle.machine.specs.declared.run.Found.TheVariants.{At, Absent}
 use Rattle.machine.specs.Run.{is_lab, places_of, the_one, find, codes_of}
 use Rattle.machine.specs.Loop.{ListedCodes, places_from, First}
 use Rattle.machine.proofs.Tables.{Each, each}
@@ -53,27 +53,35 @@ module _ (label : ℕ) (s : List ℕ) (n : ℕ) where
   unfolding places_of
   places_end k h = let m : n - k ≡ 0 = omega arith in rw m
 
-  module _ (k i : ℕ) (inv : (i ≤ n) × (places_from label s n i ≡ places_from label s n k)) where
-    pub first_none : n ≤ i → First label s n k i
-    first_none h = record { within = inv.0; here = λ l. absurd (omega arith); none = λ l. sym inv.1 ∙ places_end i h }
+  abbrev Told_at : Bool → ℕ → Type 0
+  Told_at b i = lab_with label (fields_in (drop (24 * i) s)) ≡ b
 
-    module _ {b : Bool} (z : ListedCodes s n) (h : i < n) (e : b ≡ lab_with label (fields_in (drop (24 * i) s))) where
-      pub first_here : b ≡ true → First label s n k i
-      first_here t = record { within = inv.0; here = λ l. sym inv.1 ∙ places_turn i z h (sym t ∙ e); none = λ l. absurd (omega arith) }
+  -- no LAB with the label among m records from record k on
+  none_among : (m k : ℕ) → ListedCodes s n → k + m ≤ n → ((j : ℕ) → k ≤ j → j < k + m → Told_at false j) → places_from label s n k ≡ places_from label s n (k + m)
+  none_among zero k z h f = rw add-zero
+  none_among (suc m) k z h f =
+      let e : k + 1 + m ≡ k + suc m = omega arith in
+      places_turn k z (omega arith) (sym (f k (omega arith) (omega arith))) ∙ none_among m (k + 1) z (omega arith) (λ j l u. f j (omega arith) (omega arith)) ∙ ap (places_from label s n) e
 
-      pub first_later : b ≡ false → (i + 1 ≤ n) × (places_from label s n (i + 1) ≡ places_from label s n k)
-      first_later t = (omega arith, sym (places_turn i z h (sym t ∙ e)) ∙ inv.1)
+  none_before : (k i : ℕ) → ListedCodes s n → k ≤ i → i ≤ n → ((j : ℕ) → k ≤ j → j < i → Told_at false j) → places_from label s n k ≡ places_from label s n i
+  none_before k i z h l f =
+      let e : k + (i - k) ≡ i = omega arith in
+      none_among (i - k) k z (omega arith) (λ j u v. f j u (omega arith)) ∙ ap (places_from label s n) e
+
+  pub first_of : (k : ℕ) (r : Option ℕ) → ListedCodes s n → k ≤ n
+      → MatchOption r ((j : ℕ) → k ≤ j → j < n → Told_at false j) (λ i. (k ≤ i) × (i < n) × Told_at true i × ((j : ℕ) → k ≤ j → j < i → Told_at false j)) → First label s n k r
+  first_of k None z h f = none_before k n z h (omega arith) f ∙ places_end n (omega arith)
+  first_of k (Some i) z h f = (f.1, none_before k i z f.0 (omega arith) f.3 ∙ places_turn i z f.1 (sym f.2))
 
   whole : find label (codes_of n s) ≡ the_one (places_from label s n 0)
   whole = rw sub-zero
 
-  module _ {k : ℕ} (f : First label s n 0 k) where
-    pub found_none : n ≤ k → Absent ≡ find label (codes_of n s)
-    found_none h = sym (whole ∙ ap the_one (f.none h))
+  pub found_none : First label s n 0 None → None ≡ find label (codes_of n s)
+  found_none f = sym (whole ∙ ap the_one f)
 
-    module _ {j : ℕ} (h : k < n) (g : First label s n (k + 1) j) where
-      pub found_two : j < n → Absent ≡ find label (codes_of n s)
-      found_two l = sym (whole ∙ ap the_one (f.here h ∙ ap (λ js. k ∷ js) (g.here l)))
+  module _ {k : ℕ} (f : First label s n 0 (Some k)) where
+    pub found_two : {j : ℕ} → First label s n (k + 1) (Some j) → None ≡ find label (codes_of n s)
+    found_two g = sym (whole ∙ ap the_one (f.1 ∙ ap (λ js. k ∷ js) g.1))
 
-      pub found_one : n ≤ j → At k ≡ find label (codes_of n s)
-      found_one l = sym (whole ∙ ap the_one (f.here h ∙ ap (λ js. k ∷ js) (g.none l)))
+    pub found_one : First label s n (k + 1) None → Some k ≡ find label (codes_of n s)
+    found_one g = sym (whole ∙ ap the_one (f.1 ∙ ap (λ js. k ∷ js) g))

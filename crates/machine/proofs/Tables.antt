@@ -7,7 +7,7 @@ use native.Mathlib.Nat.{not-suc-le-zero}
 use native.Mathlib.Omega.{arith}
 use lib.Dec.{eqb}
 use lib.ListN.{get_or}
-use borrow.Author.Tests.{lt-ltb, le-ltb, eqb-true, eqb-false, ne_eqb}
+use borrow.Author.Tests.{eqb-true, eqb-false}
 use Rattle.records.specs.declared.code.Code.TheVariants.{EXTERN}
 use Rattle.records.specs.declared.code.Fields.{Fields}
 use Rattle.records.specs.Codes.{readers, code_of}
@@ -15,9 +15,8 @@ use Rattle.records.specs.Instructions.{fields_ok}
 use Rattle.records.proofs.CodesRead.{ok_code}
 use Rattle.machine_step.specs.declared.instruction.Moved.{Moved}
 use Rattle.machine_step.specs.declared.instruction.Pair.{Pair}
-use Rattle.machine_step.specs.Step.{Config, Outcome, fault, calculate, step}
-use Rattle.machine_step.specs.Forms.{operand_of, result_of, holds_of, Acts}
-use Rattle.machine_step.proofs.Forms.{NoneFrom, none_from}
+use Rattle.machine_step.specs.Step.{Config, Outcome, step}
+use Rattle.machine_step.specs.Forms.{result_of, holds_of, Acts}
 use Rattle.machine_step.proofs.Instructions.{goes_as}
 use Rattle.machine.specs.Tables.{tabled, performed}
 
@@ -58,12 +57,3 @@ pub acts : (words : ℕ → ℕ) (K : List ℕ) (f : Fields) {R S H R' S' H' : L
     → Acts R S H R' S' H' p m (performed words (get_or K (f.code - 1) 0 / 256 % 16) (get_or K (f.code - 1) 0 / 16 % 16) (get_or K (f.code - 1) 0 % 16) f)
     → Acts R S H R' S' H' p m (step words (code_of f))
 acts words K f e o g = let k = ok_code f o in goes_as (λ c. sym (rw e (table_is_step words f c k.0 k.1))) g
-
-module _ (words : ℕ → ℕ) (n t u : ℕ) (f : Fields) where
-  pub fault_form : 3 ≤ n → NoneFrom 3 n 11 → (c : Config) → performed words n t u f c ≡ fault c
-  unfolding performed
-  fault_form h r c = let l = none_from 3 11 h r in rw (le-ltb n 3 h, ne_eqb n 3 (omega arith), ne_eqb n 4 (omega arith), ne_eqb n 5 (omega arith), ne_eqb n 6 (omega arith), ne_eqb n 7 (omega arith), ne_eqb n 8 (omega arith), ne_eqb n 9 (omega arith), ne_eqb n 10 (omega arith), ne_eqb n 11 (omega arith), ne_eqb n 12 (omega arith), ne_eqb n 13 (omega arith))
-
-  pub arithmetic_form : n < 3 → (c : Config) → performed words n t u f c ≡ calculate (result_of n) (operand_of t f) (operand_of u f) c
-  unfolding performed
-  arithmetic_form h c = rw (lt-ltb n 3 h)

@@ -1,4 +1,7 @@
 -- One instruction tried alone: refused, or performed as the step.
+use Rattle.records.specs.declared.check.Malformed.{Malformed}
+use Rattle.records.specs.Checked.{malformed}
+use Rattle.std.specs.Prelude.{None, Some, Err, Ok, Option, Result}
 use Prim.Native.Nat.{ℕ, ◌*◌, ◌<◌}
 use mathlib.Core.Path.{◌≡◌, ap, ◌∙◌}
 use mathlib.Core.Bool.{Bool, true, false, ◌&&◌}
@@ -9,8 +12,6 @@ use native.Mathlib.Omega.{arith}
 use borrow.Author.Tests.{ltb-true, eqb-true}
 use Rattle.records.specs.declared.code.Code.{Code}
 use Rattle.records.specs.declared.code.Fields.{Fields}
-use Rattle.records.specs.declared.code.CodeRead.{CodeRead}
-use Rattle.records.specs.declared.code.CodeRead.TheVariants as read
 use Rattle.records.specs.Codes.{fields_of, code_of}
 use Rattle.records.specs.Instructions.{register_ok, label_ok, word_ok, operands_ok, fields_ok, used, fields_in, code_at}
 use Rattle.records.specs.ReadBack.{code_in}
@@ -18,7 +19,6 @@ use Rattle.records.specs.Answers.{AnswersBy}
 use Rattle.records.proofs.Conditions.{and_left, and_right}
 use Rattle.records.proofs.CodesRead.{starts_ok}
 use Rattle.records.proofs.CodesBack.{code_fields, fields_code}
-use Rattle.machine_step.specs.declared.instruction.Compared.{Compared}
 use Rattle.machine_step.specs.declared.instruction.Pair.{Pair}
 use Rattle.machine_step.specs.declared.instruction.Moved.{Moved}
 use Rattle.machine_step.specs.declared.instruction.Went.{Went}
@@ -26,9 +26,7 @@ use Rattle.machine_step.specs.View.{View, view}
 use Rattle.machine_step.specs.Memory.{heap_ok}
 use Rattle.machine_step.specs.Step.{Call, config, Outcome, step}
 use Rattle.machine_step.specs.Forms.{compared_of, Acts}
-use Rattle.machine.specs.declared.step.Tried.TheVariants.{Took, Malformed}
 use Rattle.machine.specs.declared.run.Turn.{Turn}
-use Rattle.machine.specs.declared.step.Tried.{Tried}
 use Rattle.machine.specs.Trial.{took, trial, trial_of, step_cause}
 use Rattle.machine.specs.Run.{codes_of}
 use Rattle.machine.specs.Loop.{ListedCodes, turn_of, Turns}
@@ -50,19 +48,19 @@ module _ (f : Fields) (e : fields_ok f ≡ true) where
       let r = and_left (register_ok (eqb u.a 1) f.a && register_ok (eqb u.b 1) f.b) _ l in
       (register_named (eqb u.a 1) f.a (and_left (register_ok (eqb u.a 1) f.a) _ r), register_named (eqb u.b 1) f.b (and_right (register_ok (eqb u.a 1) f.a) _ r))
 
-module _ (block : ℕ) (words : ℕ → ℕ) (x : Code) (s : View) (q : Compared) (calls : List Call) {b : Bool} (h : b ≡ heap_ok block s.size) where
-  pub heap_refused : b ≡ false → trial_of (Malformed 0) s q calls ≡ trial block words x (config s q calls)
+module _ (block : ℕ) (words : ℕ → ℕ) (x : Code) (s : View) (q : Option (ℕ × ℕ)) (calls : List Call) {b : Bool} (h : b ≡ heap_ok block s.size) where
+  pub heap_refused : b ≡ false → trial_of (Err (malformed 0)) s q calls ≡ trial block words x (config s q calls)
   unfolding trial
   heap_refused n = rw (← h, n)
 
-  pub code_refused : {f : Fields} {d : Bool} → b ≡ true → f ≡ fields_of x → d ≡ fields_ok f → d ≡ false → trial_of (Malformed 1) s q calls ≡ trial block words x (config s q calls)
+  pub code_refused : {f : Fields} {d : Bool} → b ≡ true → f ≡ fields_of x → d ≡ fields_ok f → d ≡ false → trial_of (Err (malformed 1)) s q calls ≡ trial block words x (config s q calls)
   unfolding trial
   code_refused t e o n = rw (← h, t, ← e, ← o, n)
 
-module _ (block : ℕ) (words : ℕ → ℕ) (x : Code) (R S H : List ℕ) {R' S' H' : List ℕ} {q q' : Compared} {p : Pair} {m : Moved} (calls : List Call) {b d : Bool} {f : Fields} where
+module _ (block : ℕ) (words : ℕ → ℕ) (x : Code) (R S H : List ℕ) {R' S' H' : List ℕ} {q q' : Option (ℕ × ℕ)} {p : Pair} {m : Moved} (calls : List Call) {b d : Bool} {f : Fields} where
   pub performs : b ≡ heap_ok block (length H) → b ≡ true → f ≡ fields_of x → d ≡ fields_ok f → d ≡ true → compared_of p ≡ q → q' ≡ compared_of m.pair
       → Acts R S H R' S' H' p m (step words (code_of f))
-      → trial_of (Took m.went) (view R' S' H') q' calls ≡ trial block words x (config (view R S H) q calls)
+      → trial_of (Ok m.went) (view R' S' H') q' calls ≡ trial block words x (config (view R S H) q calls)
   unfolding trial
   performs h t e o r k k' g =
       rw (← h, t, ← e, ← o, r, k', ← k) (ap took (g.goes calls ∙ ap (λ y. step words y (config (view R S H) (compared_of p) calls)) (ap code_of e ∙ code_fields x)))
@@ -71,15 +69,15 @@ took_same : {x y : Outcome} → took x ≡ took y → x ≡ y
 took_same e = cc
 
 -- record `place` of a checked list, beside a heap that may be lent: it is read, its step is not refused, and the state is that of the step
-module _ (block : ℕ) (words : ℕ → ℕ) (n : ℕ) (s : List ℕ) (place : ℕ) (v : View) (q : Compared) (z : ListedCodes s n) (h : place < n) (k : heap_ok block v.size ≡ true) {r : CodeRead} (e : r ≡ code_at s place) where
-  is_read : r ≡ read.Record (code_in (drop (24 * place) s))
+module _ (block : ℕ) (words : ℕ → ℕ) (n : ℕ) (s : List ℕ) (place : ℕ) (v : View) (q : Option (ℕ × ℕ)) (z : ListedCodes s n) (h : place < n) (k : heap_ok block v.size ≡ true) {r : Option Code} (e : r ≡ code_at s place) where
+  is_read : r ≡ Some (code_in (drop (24 * place) s))
   unfolding code_at
   is_read = e ∙ rw (z.starts place h)
 
-  pub not_unread : {A : Type 0} → r ≡ read.Malformed → A
+  pub not_unread : {A : Type 0} → r ≡ None → A
   not_unread m = unlike (let x = is_read in cc)
 
-  module _ {x : Code} (y : r ≡ read.Record x) where
+  module _ {x : Code} (y : r ≡ Some x) where
     same : x ≡ code_in (drop (24 * place) s)
     same = let b = is_read in cc
 
@@ -90,9 +88,9 @@ module _ (block : ℕ) (words : ℕ → ℕ) (n : ℕ) (s : List ℕ) (place : �
         let o = starts_ok (drop (24 * place) s) (z.starts place h) in
         rw (k, same, fields_code f o, o)
 
-    module _ {t : Tried} (v' : View) (q' : Compared) (b : (calls : List Call) → AnswersBy step_cause (trial_of t v' q' calls) (trial block words x (config v q calls))) where
-      pub not_refused : {A : Type 0} {i : ℕ} → t ≡ Malformed i → A
-      not_refused {i} m = unlike (let y : trial_of (Malformed i) v' q' [] ≡ took (step words (code_in (drop (24 * place) s)) (config v q [])) = rw m at ((b []).answer ∙ tries []) in cc)
+    module _ {t : Result Went Malformed} (v' : View) (q' : Option (ℕ × ℕ)) (b : (calls : List Call) → AnswersBy step_cause (trial_of t v' q' calls) (trial block words x (config v q calls))) where
+      pub not_refused : {A : Type 0} {i : ℕ} → t ≡ Err (malformed i) → A
+      not_refused {i} m = unlike (let y : trial_of (Err (malformed i)) v' q' [] ≡ took (step words (code_in (drop (24 * place) s)) (config v q [])) = rw m at ((b []).answer ∙ tries []) in cc)
 
-      pub turns : {w : Went} {r : Turn} → t ≡ Took w → r ≡ turn_of (codes_of n s) place w → Turns words n s place v q v' q' r
+      pub turns : {w : Went} {r : Turn} → t ≡ Ok w → r ≡ turn_of (codes_of n s) place w → Turns words n s place v q v' q' r
       turns {w} m u = record { went = w; goes = λ calls. took_same (rw m at ((b calls).answer ∙ tries calls)); turn = u }

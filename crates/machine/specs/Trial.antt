@@ -1,15 +1,14 @@
 -- One instruction tried alone, on a heap of any size and with operands that no record may hold. From the scope, 'Causes and numbers', rows 2 and 11.
-use Rattle.std.specs.Prelude.{ℕ, cond, List, [], ◌∷◌}
+use Rattle.machine_step.specs.declared.instruction.Went.{Went}
+use Rattle.records.specs.declared.check.Malformed.{Malformed}
+use Rattle.std.specs.Prelude.{ℕ, cond, List, [], ◌∷◌, Err, Ok, Option, Result}
 use Rattle.records.specs.Causes.{ACCEPTED, MALFORMED, FAULT}
 use Rattle.records.specs.declared.code.Code.{Code}
 use Rattle.records.specs.Codes.{fields_of}
 use Rattle.records.specs.Instructions.{fields_ok}
-use Rattle.machine_step.specs.declared.instruction.Compared.{Compared}
 use Rattle.machine_step.specs.View.{View}
 use Rattle.machine_step.specs.Memory.{heap_ok}
 use Rattle.machine_step.specs.Step.{Call, Config, config, Outcome, next, jump, end, fault, step, outcome_of}
-use Rattle.machine.specs.declared.step.Tried.{Tried}
-use Rattle.machine.specs.declared.step.Tried.TheVariants.{Took, Malformed}
 
 -- the scope's 2, with place 0 for a heap that may not be lent and place 1 for an instruction that no record may hold
 pub data Trial : Type 0 where
@@ -19,9 +18,9 @@ pub data Trial : Type 0 where
 unfoldable pub trial : ℕ → (ℕ → ℕ) → Code → Config → Trial
 trial block words x c = cond (heap_ok block c.state.size) (cond (fields_ok (fields_of x)) (took (step words x c)) (refused 1 c)) (refused 0 c)
 
-abbrev pub trial_of : Tried → View → Compared → List Call → Trial
-trial_of (Took w) s q calls = took (outcome_of w s q calls)
-trial_of (Malformed place) s q calls = refused place (config s q calls)
+abbrev pub trial_of : Result Went Malformed → View → Option (ℕ × ℕ) → List Call → Trial
+trial_of (Ok w) s q calls = took (outcome_of w s q calls)
+trial_of (Err m) s q calls = refused m.place (config s q calls)
 
 -- the scope's number and values: 0 where the instruction is performed; a fault comes after no step, at place 1
 abbrev pub step_cause : Trial → List ℕ

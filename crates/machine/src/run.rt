@@ -4,37 +4,39 @@ ghost use Rattle.machine_step.specs.View.{view, words_of};
 ghost use Rattle.machine_step.specs.Memory.{heap_ok};
 ghost use Rattle.machine.specs.Run as is;
 ghost use Rattle.machine.specs.State.{see};
+ghost use Rattle.machine.specs.declared.run.Stop.TheVariants.{Malformed as is_malformed};
 ghost use Rattle.machine.specs.Loop.{ListedCodes, First, turn_of, Turns, EndsBy};
 
 use crate::state::State;
 use crate::step;
-use crate::step::Tried;
-use machine_step::instruction::{Compared, NONE, Went};
+use machine_step::instruction::{NONE, Went};
 use machine_step::memory;
-use records::check::Checked;
+use records::check::Malformed;
 use records::code;
-use records::code::CodeRead;
 
-// The steps of a run that ended; the scope's 2 with the place; 11 with the steps before the fault and the record's place; 12 with the limit.
-#[derive(Clone, Copy)]
-pub enum RunAnswer {
-    Ended(u64),
+// Why a run stopped: the scope's 2 with the place; 11 with the steps before the fault and the record's place; 12 with the limit.
+#[derive(Clone, Copy, Debug, PartialEq, Eq)]
+pub enum Stop {
     Malformed(usize),
     Fault(u64, usize),
     Limit(u64),
 }
 
+impl From<Malformed> for Stop {
+    ghost from_gives = { λ m r. r ≡ is_malformed m.place };
+
+    fn from(flaw: Malformed) -> Stop {
+        Stop::Malformed(flaw.place)
+    }
+}
+
+// The steps of a run that ended, or why it stopped.
+pub type RunAnswer = Result<u64, Stop>;
+
 #[derive(Clone, Copy)]
 pub struct Ran {
     pub state: State,
     pub answer: RunAnswer,
-}
-
-// Where a jump goes.
-#[derive(Clone, Copy)]
-pub enum Found {
-    At(usize),
-    Absent,
 }
 
 // What follows a record.
@@ -45,37 +47,24 @@ pub enum Turn {
     Fault,
 }
 
-// The first LAB with the label from record k on, or n.
-fn first(s: &[u8], n: usize, k: usize, label: u32) -> usize
+// The first LAB with the label from record k on.
+fn first(s: &[u8], n: usize, k: usize, label: u32) -> Option<usize>
     requires { ListedCodes s.now n × (k ≤ n) }
     ensures { First label s.now n k result }
 {
-    let mut i = k;
-    let place = loop {
-        if n <= i {
-            break i;
-        }
-        if code::is_label(s, 24 * i, label) {
-            break i;
-        }
-        i += 1;
-    };
-    place
+    (k..n).find(|&i| code::is_label(s, 24 * i, label))
 }
 
 // The one LAB with the label.
-fn find(s: &[u8], n: usize, label: u32) -> Found
+fn find(s: &[u8], n: usize, label: u32) -> Option<usize>
     requires { ListedCodes s.now n }
     ensures { result ≡ is.find label (is.codes_of n s.now) }
 {
-    let k = first(s, n, 0, label);
-    if n <= k {
-        return Found::Absent;
+    let k = first(s, n, 0, label)?;
+    match first(s, n, k + 1, label) {
+        Some(_) => None,
+        None => Some(k),
     }
-    if first(s, n, k + 1, label) < n {
-        return Found::Absent;
-    }
-    Found::At(k)
 }
 
 fn follow(s: &[u8], n: usize, place: usize, went: Went) -> Turn
@@ -83,11 +72,10 @@ fn follow(s: &[u8], n: usize, place: usize, went: Went) -> Turn
     ensures { result ≡ turn_of (is.codes_of n s.now) place went }
 {
     match went {
-        Went::Next => Turn::To(place + 1),
-        Went::Called(_, _) => Turn::To(place + 1),
+        Went::Next | Went::Called(_, _) => Turn::To(place + 1),
         Went::Jump(label) => match find(s, n, label) {
-            Found::At(k) => Turn::To(k),
-            Found::Absent => Turn::Fault,
+            Some(k) => Turn::To(k),
+            None => Turn::Fault,
         },
         Went::End => Turn::End,
         Went::Fault => Turn::Fault,
@@ -98,7 +86,7 @@ fn follow(s: &[u8], n: usize, place: usize, went: Went) -> Turn
 #[derive(Clone, Copy)]
 pub struct Turned {
     pub state: State,
-    pub compared: Compared,
+    pub compared: Option<(u64, u64)>,
     pub turn: Turn,
 }
 
@@ -110,36 +98,31 @@ fn take_step(
     place: usize,
     state: State,
     heap: &mut [u64],
-    compared: Compared,
+    compared: Option<(u64, u64)>,
     words: [u64; 9],
 ) -> Turned
     requires { ListedCodes s.now n × (place < n) × (heap_ok block (length heap.old) ≡ true) }
     ensures { Turns (words_of words) n s.now place (see state heap.old) compared (see result.state heap.new) result.compared result.turn }
 {
-    match code::read_code(s, place) {
-        CodeRead::Malformed => Turned {
+    let Some(code) = code::read_code(s, place) else {
+        return Turned {
             state,
             compared,
             turn: Turn::Fault,
+        };
+    };
+    let t = step::step(block, code, state, heap, compared, words);
+    match t.tried {
+        Ok(went) => Turned {
+            state: t.state,
+            compared: t.compared,
+            turn: follow(s, n, place, went),
         },
-        CodeRead::Record(code) => {
-            let t = step::step(block, code, state, heap, compared, words);
-            let left = t.state;
-            let pair = t.compared;
-            let tried = t.tried;
-            match tried {
-                Tried::Malformed(_) => Turned {
-                    state: left,
-                    compared: pair,
-                    turn: Turn::Fault,
-                },
-                Tried::Took(went) => Turned {
-                    state: left,
-                    compared: pair,
-                    turn: follow(s, n, place, went),
-                },
-            }
-        }
+        Err(_) => Turned {
+            state: t.state,
+            compared: t.compared,
+            turn: Turn::Fault,
+        },
     }
 }
 
@@ -157,44 +140,46 @@ fn turns(
     ensures { EndsBy (see result.state heap.new) result.answer (is.started (words_of words) (is.codes_of n s.now) limit (see state heap.old)) }
 {
     let mut at = state;
-    let mut compared = Compared::Absent;
+    let mut compared = None;
     let mut place = 0;
-    let mut done = 0;
-    while place < n {
-        if limit <= done {
+    for done in 0..limit {
+        if n <= place {
             return Ran {
                 state: at,
-                answer: RunAnswer::Limit(done),
+                answer: Ok(done),
             };
         }
         let t = take_step(block, s, n, place, at, heap, compared, words);
-        let left = t.state;
-        let pair = t.compared;
-        let turn = t.turn;
-        match turn {
+        match t.turn {
             Turn::To(j) => {
-                at = left;
-                compared = pair;
+                at = t.state;
+                compared = t.compared;
                 place = j;
-                done += 1;
             }
             Turn::End => return Ran {
-                state: left,
-                answer: RunAnswer::Ended(done + 1),
+                state: t.state,
+                answer: Ok(done + 1),
             },
             Turn::Fault => return Ran {
-                state: left,
-                answer: RunAnswer::Fault(done, place + 1),
+                state: t.state,
+                answer: Err(Stop::Fault(done, place + 1)),
             },
         }
     }
+    if place < n {
+        return Ran {
+            state: at,
+            answer: Err(Stop::Limit(limit)),
+        };
+    }
     Ran {
         state: at,
-        answer: RunAnswer::Ended(done),
+        answer: Ok(limit),
     }
 }
 
-// The same with the state lent, and the table of the codes' kinds copied once.
+// The same with the state lent, and the table of the codes' kinds copied once. Kept beside `turns`: the scope's run takes its state by value, which is too slow
+// for a channel.
 fn steps(
     s: &[u8],
     n: usize,
@@ -210,25 +195,25 @@ fn steps(
     let kinds = step::KINDS;
     let mut pair = NONE;
     let mut place = 0;
-    let mut done = 0;
-    while place < n {
-        if limit <= done {
-            return RunAnswer::Limit(done);
+    for done in 0..limit {
+        if n <= place {
+            return Ok(done);
         }
         let f = code::fields_at(s, 24 * place);
         let m = step::act(&kinds, f, registers, stack, heap, words, pair);
-        let went = m.went;
-        match follow(s, n, place, went) {
+        match follow(s, n, place, m.went) {
             Turn::To(j) => {
                 place = j;
                 pair = m.pair;
-                done += 1;
             }
-            Turn::End => return RunAnswer::Ended(done + 1),
-            Turn::Fault => return RunAnswer::Fault(done, place + 1),
+            Turn::End => return Ok(done + 1),
+            Turn::Fault => return Err(Stop::Fault(done, place + 1)),
         }
     }
-    RunAnswer::Ended(done)
+    if place < n {
+        return Err(Stop::Limit(limit));
+    }
+    Ok(limit)
 }
 
 // The scope's run, where a block has so many words. Each step takes the state and returns it, `words` are what print calls leave, and the answer stands
@@ -243,26 +228,19 @@ pub fn run(
 ) -> Ran
     ensures { is.Leaves result.answer (see result.state heap.new) (is.ran block (words_of words) records.now limit (see state heap.old)) }
 {
-    if memory::heap_ok(block, heap.len()) {} else {
+    if !memory::heap_ok(block, heap.len()) {
         return Ran {
             state,
-            answer: RunAnswer::Malformed(0),
+            answer: Err(Stop::Malformed(0)),
         };
     }
     match code::check_codes(records, 65536) {
-        Checked::Malformed(place) => Ran {
+        Ok(n) => turns(block, records, n, state, heap, words, limit),
+        Err(flaw) => Ran {
             state,
-            answer: RunAnswer::Malformed(place),
+            answer: Err(Stop::from(flaw)),
         },
-        Checked::Good(n) => turns(block, records, n, state, heap, words, limit),
     }
-}
-
-// A lent array is as long as its type says: it is there as a slice of so many words.
-fn whole(registers: &[u64; 16])
-    ensures { length registers.now ≡ 16 }
-{
-    let _words: &[u64] = registers;
 }
 
 // The same run on a lent state, whose stack may have any number of words: no step copies it. The library for C and the channel go by it.
@@ -277,14 +255,9 @@ pub fn run_lent(
 ) -> RunAnswer
     ensures { is.Leaves result (view registers.new stack.new heap.new) (is.ran block (words_of words.now) records.now limit (view registers.old stack.old heap.old)) }
 {
-    if memory::heap_ok(block, heap.len()) {} else {
-        return RunAnswer::Malformed(0);
+    if !memory::heap_ok(block, heap.len()) {
+        return Err(Stop::Malformed(0));
     }
-    match code::check_codes(records, 65536) {
-        Checked::Malformed(place) => RunAnswer::Malformed(place),
-        Checked::Good(n) => {
-            whole(registers);
-            steps(records, n, registers, stack, heap, words, limit)
-        }
-    }
+    let n = code::check_codes(records, 65536)?;
+    steps(records, n, registers, stack, heap, words, limit)
 }

@@ -12,22 +12,18 @@ ghost use Rattle.machine.specs.Tables.{tabled, performed};
 ghost use Rattle.machine.specs.Trial.{trial, trial_of, step_cause};
 
 use crate::state::State;
-use machine_step::instruction::{Compared, Moved, NONE, Pair, Went};
+use machine_step::instruction::{Moved, NONE, Pair, Went};
 use machine_step::{instruction, memory};
+use records::check::Malformed;
+use records::code;
 use records::code::{Code, Fields};
 
-// An instruction tried alone. Malformed is the scope's 2: place 0 for the heap, 1 for the instruction.
-#[derive(Clone, Copy)]
-pub enum Tried {
-    Took(Went),
-    Malformed(usize),
-}
-
+// An instruction tried alone: the scope's 2 with place 0 for the heap, 1 for the instruction. The last compare's two words stand beside it.
 #[derive(Clone, Copy)]
 pub struct Stepped {
     pub state: State,
-    pub compared: Compared,
-    pub tried: Tried,
+    pub compared: Option<(u64, u64)>,
+    pub tried: Result<Went, Malformed>,
 }
 
 // For each code, three digits: its operation, its target's form and its source's form.
@@ -42,6 +38,7 @@ pub const KINDS: [u16; 44] = [
 ];
 
 // The record f, by its code's three digits.
+#[tactic(auto, unfolding(crate::specs::Tables::performed))]
 fn perform(
     n: u8,
     t: u8,
@@ -102,23 +99,22 @@ pub fn act(
     perform(n, t, u, f, registers, stack, heap, words, pair)
 }
 
-fn pair_of(compared: Compared) -> Pair
+fn pair_of(compared: Option<(u64, u64)>) -> Pair
     ensures { compared_of result ≡ compared }
 {
     match compared {
-        Compared::Absent => NONE,
-        Compared::Of(x, y) => Pair { made: 1, x, y },
+        None => NONE,
+        Some((x, y)) => Pair { made: 1, x, y },
     }
 }
 
-fn compared_of(pair: Pair) -> Compared
+fn compared_of(pair: Pair) -> Option<(u64, u64)>
     ensures { result ≡ compared_of pair }
 {
-    let made = pair.made;
-    if made == 0 {
-        Compared::Absent
+    if pair.made == 0 {
+        None
     } else {
-        Compared::Of(pair.x, pair.y)
+        Some((pair.x, pair.y))
     }
 }
 
@@ -128,24 +124,24 @@ pub fn step(
     code: Code,
     state: State,
     heap: &mut [u64],
-    compared: Compared,
+    compared: Option<(u64, u64)>,
     words: [u64; 9],
 ) -> Stepped
     ensures { (calls : List Call) → AnswersBy step_cause (trial_of result.tried (see result.state heap.new) result.compared calls) (trial block (words_of words) code (config (see state heap.old) compared calls)) }
 {
-    if memory::heap_ok(block, heap.len()) {} else {
+    if !memory::heap_ok(block, heap.len()) {
         return Stepped {
             state,
             compared,
-            tried: Tried::Malformed(0),
+            tried: Err(Malformed { place: 0 }),
         };
     }
-    let f = records::code::fields_of(code);
-    if records::code::fields_ok(f) {} else {
+    let f = code::fields_of(code);
+    if !code::fields_ok(f) {
         return Stepped {
             state,
             compared,
-            tried: Tried::Malformed(1),
+            tried: Err(Malformed { place: 1 }),
         };
     }
     let kinds = KINDS;
@@ -160,11 +156,9 @@ pub fn step(
         &words,
         pair_of(compared),
     );
-    let pair = m.pair;
-    let went = m.went;
     Stepped {
         state: State { registers, stack },
-        compared: compared_of(pair),
-        tried: Tried::Took(went),
+        compared: compared_of(m.pair),
+        tried: Ok(m.went),
     }
 }

@@ -1,16 +1,12 @@
 -- How each instruction leaves a record, and that the step goes by it: a plain one goes on or faults, and only the others jump, call or end.
+use Rattle.std.specs.Prelude.{None, Some, Option}
 use Prim.Native.Nat.{ℕ, ◌%◌}
 use mathlib.Core.Path.{◌≡◌, refl, sym, ◌∙◌, subst}
 use mathlib.Core.Bool.{Bool, not, ◌&&◌, cond}
-use mathlib.Core.Option.{Option, none, some}
 use lib.Dec.{eqb}
 use Rattle.records.specs.declared.code.Code.{Code}
 use Rattle.records.specs.declared.code.Code.TheVariants.{ADD, ADDRM, ADDMR, ADDI, ADDIM, SUB, SUBRM, SUBMR, SUBI, IMUL, IMULRM, IMULMR, IDIV, IDIVM, CQO, JMP, JMPL, JMPLN, LEAL, MOV, MOVS, MOVL, MOVI, MOVIM, CMP, CMPRM, CMPMR, CMPI, CMPIM, JEL, JNEL, JLL, JLEL, JGL, JGEL, PUSH, POP, CALL, RET, LAB, NOEXECSTACK, TEXT, GLOBAL, EXTERN}
 use Rattle.records.proofs.Conditions.{both_ways}
-use Rattle.machine_step.specs.declared.memory.Fetched.{Fetched}
-use Rattle.machine_step.specs.declared.memory.Fetched.TheVariants.{Word, Nothing}
-use Rattle.machine_step.specs.declared.instruction.Compared.{Compared}
-use Rattle.machine_step.specs.declared.instruction.Compared.TheVariants.{Absent, Of}
 use Rattle.machine_step.specs.View.{View, put_reg}
 use Rattle.machine_step.specs.Memory.{Operand, register, memory, immediate, load, store, value_of, assigned}
 use Rattle.machine_step.specs.Step.{Config, Outcome, next, jump, end, fault, dropped, on_word, on_state, on_pair, calculate, move, compare, divide, branch, push, pop, is_print_name, call, return, step}
@@ -92,13 +88,13 @@ module _ (c : Config) where
   abbrev Plain : Outcome → Type 0
   Plain o = o ≡ plainly c o
 
-  word_plain : (l : Fetched) (k : ℕ → Outcome) → ((w : ℕ) → Plain (k w)) → Plain (on_word c l k)
-  word_plain (Word w) k h = h w
-  word_plain Nothing k h = refl
+  word_plain : (l : Option ℕ) (k : ℕ → Outcome) → ((w : ℕ) → Plain (k w)) → Plain (on_word c l k)
+  word_plain (Some w) k h = h w
+  word_plain None k h = refl
 
   state_plain : (o : Option View) (f : View → Config) → Plain (on_state c o (λ s. next (f s)))
-  state_plain (some s) f = refl
-  state_plain none f = refl
+  state_plain (Some s) f = refl
+  state_plain None f = refl
 
   arithmetic_plain : (f : ℕ → ℕ → ℕ) (dest src : Operand) → Plain (calculate f dest src c)
   arithmetic_plain f dest src = word_plain (value_of c.state src) _ (λ y. word_plain (value_of c.state dest) _ (λ x. state_plain (assigned c.state dest (f x y)) _))
@@ -179,9 +175,9 @@ module _ (c : Config) where
   plainly_still (end d) = tt
   plainly_still (fault d) = tt
 
-  pair_still : (q : Compared) (holds : ℕ → ℕ → Bool) (label : ℕ) → Still (on_pair c q (λ x y. cond (holds x y) (jump label (dropped c)) (next (dropped c))))
-  pair_still Absent holds label = tt
-  pair_still (Of x y) holds label = both_ways Still (holds x y) refl tt
+  pair_still : (q : Option (ℕ × ℕ)) (holds : ℕ → ℕ → Bool) (label : ℕ) → Still (on_pair c q (λ x y. cond (holds x y) (jump label (dropped c)) (next (dropped c))))
+  pair_still None holds label = tt
+  pair_still (Some (x, y)) holds label = both_ways Still (holds x y) refl tt
 
   flow_still : (words : ℕ → ℕ) (f : Flow) (o : Outcome) → Still (by_flow words f c o)
   flow_still words plain o = plainly_still o

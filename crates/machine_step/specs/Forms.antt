@@ -1,13 +1,10 @@
 -- How the code goes about an instruction: writes that may fail, operands, results and conditions by numbers, and what an answer says. The meaning of an
 -- instruction is in `Step`; these join the code to it.
-use Rattle.std.specs.Prelude.{ℕ, ◌<◌, ◌%◌, ◌≡◌, Bool, true, false, not, cond, List, eqb, length}
-use Rattle.std.proofs.Math.Option.{Option, none, some}
+use Rattle.std.specs.Prelude.{ℕ, ◌<◌, ◌%◌, ◌≡◌, Bool, true, false, not, cond, List, eqb, length, None, Some, Option}
 use Rattle.records.specs.declared.code.Fields.{Fields}
 use Rattle.word.specs.Words.{sum, difference, product, choose, less}
 use Rattle.machine_step.specs.declared.memory.Place.{Place}
 use Rattle.machine_step.specs.declared.memory.Place.TheVariants.{Stack, Heap, Nowhere}
-use Rattle.machine_step.specs.declared.instruction.Compared.{Compared}
-use Rattle.machine_step.specs.declared.instruction.Compared.TheVariants.{Absent, Of}
 use Rattle.machine_step.specs.declared.instruction.Pair.{Pair}
 use Rattle.machine_step.specs.declared.instruction.Moved.{Moved}
 use Rattle.machine_step.specs.View.{View, view}
@@ -22,8 +19,8 @@ Inside depth size Nowhere = Unit {0}
 
 -- what a write that may fail did to s: whether it wrote, and the state after it, as a definition has it
 pub record Wrote (s : View) (o : Option View) (t : View) (ok : Bool) : Type 0 where
-  pub made : ok ≡ true → o ≡ some t
-  pub kept : ok ≡ false → (o ≡ none) × (t ≡ s)
+  pub made : ok ≡ true → o ≡ Some t
+  pub kept : ok ≡ false → (o ≡ None) × (t ≡ s)
 
 -- the forms of operands
 abbrev pub operand_of : ℕ → Fields → Operand
@@ -49,8 +46,8 @@ holds_of n x y =
     (cond (eqb n 4) (less y x) (not (less x y))))))
 
 -- the pair as the code carries it
-abbrev pub compared_of : Pair → Compared
-compared_of p = cond (eqb p.made 0) Absent (Of p.x p.y)
+abbrev pub compared_of : Pair → Option (ℕ × ℕ)
+compared_of p = cond (eqb p.made 0) None (Some (p.x, p.y))
 
 pub record Sized (depth : ℕ) (R S : List ℕ) : Type 0 where
   pub registers : length R ≡ 16

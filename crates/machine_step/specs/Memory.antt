@@ -1,11 +1,8 @@
 -- Where an address lies, what is read and written there, and the operands of instructions.
 -- From the scope, 'Machine': a stack that ends at 2^40, a lent heap from address 65,536, and a fault for an address outside or unaligned.
-use Rattle.std.specs.Prelude.{ℕ, ◌-◌, ◌/◌, ◌%◌, Bool, ◌&&◌, cond, leb, ltb, eqb}
-use Rattle.std.proofs.Math.Option.{Option, none, some}
+use Rattle.std.specs.Prelude.{ℕ, ◌-◌, ◌/◌, ◌%◌, Bool, ◌&&◌, cond, leb, ltb, eqb, None, Some, Option}
 use Rattle.machine_step.specs.declared.memory.Place.{Place}
 use Rattle.machine_step.specs.declared.memory.Place.TheVariants.{Stack, Heap, Nowhere}
-use Rattle.machine_step.specs.declared.memory.Fetched.{Fetched}
-use Rattle.machine_step.specs.declared.memory.Fetched.TheVariants.{Word, Nothing}
 use Rattle.machine_step.specs.View.{View, put_reg, put_stk, put_mem}
 use Rattle.word.specs.Words.{sum}
 
@@ -33,17 +30,17 @@ place_of depth size address =
     Nowhere
 
 -- among the stack's and the heap's words
-abbrev pub word_in : (ℕ → ℕ) → (ℕ → ℕ) → Place → Fetched
-word_in stk mem (Stack i) = Word (stk i)
-word_in stk mem (Heap i) = Word (mem i)
-word_in stk mem Nowhere = Nothing
+abbrev pub word_in : (ℕ → ℕ) → (ℕ → ℕ) → Place → Option ℕ
+word_in stk mem (Stack i) = Some (stk i)
+word_in stk mem (Heap i) = Some (mem i)
+word_in stk mem Nowhere = None
 
 abbrev pub put_at : View → Place → ℕ → Option View
-put_at s (Stack i) v = some (put_stk s i v)
-put_at s (Heap i) v = some (put_mem s i v)
-put_at s Nowhere v = none
+put_at s (Stack i) v = Some (put_stk s i v)
+put_at s (Heap i) v = Some (put_mem s i v)
+put_at s Nowhere v = None
 
-abbrev pub load : View → ℕ → Fetched
+abbrev pub load : View → ℕ → Option ℕ
 load s address = word_in s.stk s.mem (place_of s.depth s.size address)
 
 abbrev pub store : View → ℕ → ℕ → Option View
@@ -55,13 +52,13 @@ pub data Operand : Type 0 where
   memory : ℕ → ℕ → Operand
   immediate : ℕ → Operand
 
-abbrev pub value_of : View → Operand → Fetched
-value_of s (register a) = Word (s.reg a)
+abbrev pub value_of : View → Operand → Option ℕ
+value_of s (register a) = Some (s.reg a)
 value_of s (memory a offset) = load s (sum (s.reg a) offset)
-value_of s (immediate v) = Word v
+value_of s (immediate v) = Some v
 
 -- no instruction has a value as its target
 abbrev pub assigned : View → Operand → ℕ → Option View
-assigned s (register a) v = some (put_reg s a v)
+assigned s (register a) v = Some (put_reg s a v)
 assigned s (memory a offset) v = store s (sum (s.reg a) offset) v
-assigned s (immediate w) v = none
+assigned s (immediate w) v = None

@@ -1,14 +1,9 @@
 -- One instruction: what each of the 44 does, name by name, in the Intel manual's words. From the scope, 'Machine'.
 -- An instruction either changes the configuration whole or faults and leaves it as it was.
-use Rattle.std.specs.Prelude.{ℕ, ◌%◌, Bool, not, ◌&&◌, ◌||◌, cond, List, [], ◌∷◌, ◌++◌, eqb}
-use Rattle.std.proofs.Math.Option.{Option, none, some}
+use Rattle.std.specs.Prelude.{ℕ, ◌%◌, Bool, not, ◌&&◌, ◌||◌, cond, List, [], ◌∷◌, ◌++◌, eqb, None, Some, Option}
 use Rattle.records.specs.declared.code.Code.{Code}
 use Rattle.records.specs.declared.code.Code.TheVariants.{ADD, ADDRM, ADDMR, ADDI, ADDIM, SUB, SUBRM, SUBMR, SUBI, IMUL, IMULRM, IMULMR, IDIV, IDIVM, CQO, JMP, JMPL, JMPLN, LEAL, MOV, MOVS, MOVL, MOVI, MOVIM, CMP, CMPRM, CMPMR, CMPI, CMPIM, JEL, JNEL, JLL, JLEL, JGL, JGEL, PUSH, POP, CALL, RET, LAB, NOEXECSTACK, TEXT, GLOBAL, EXTERN}
 use Rattle.records.specs.Names.{PRINTI64, PRINTLNI64}
-use Rattle.machine_step.specs.declared.memory.Fetched.{Fetched}
-use Rattle.machine_step.specs.declared.memory.Fetched.TheVariants.{Word, Nothing}
-use Rattle.machine_step.specs.declared.instruction.Compared.{Compared}
-use Rattle.machine_step.specs.declared.instruction.Compared.TheVariants.{Absent, Of}
 use Rattle.machine_step.specs.declared.instruction.Went.{Went}
 use Rattle.machine_step.specs.declared.instruction.Went.TheVariants.{Next, Called, Jump, End, Fault}
 use Rattle.machine_step.specs.View.{View, upd, put_reg}
@@ -23,10 +18,10 @@ pub record Call : Type 0 where
 -- registers, stack and heap; the last compare's pair; the calls made so far
 pub record Config : Type 0 where
   pub state : View
-  pub pair : Compared
+  pub pair : Option (ℕ × ℕ)
   pub calls : List Call
 
-abbrev pub config : View → Compared → List Call → Config
+abbrev pub config : View → Option (ℕ × ℕ) → List Call → Config
 config s q calls = record { state = s; pair = q; calls = calls }
 
 -- on to the next record, to the LAB with a label, at the end, or a fault with the configuration as before
@@ -38,7 +33,7 @@ pub data Outcome : Type 0 where
 
 -- the state changes, and the compare's pair is dropped
 abbrev pub changed : Config → View → Config
-changed c s = config s Absent c.calls
+changed c s = config s None c.calls
 
 -- the state changes, and the pair stays
 abbrev pub moved : Config → View → Config
@@ -47,17 +42,17 @@ moved c s = config s c.pair c.calls
 abbrev pub dropped : Config → Config
 dropped c = changed c c.state
 
-abbrev pub on_word : Config → Fetched → (ℕ → Outcome) → Outcome
-on_word c (Word w) k = k w
-on_word c Nothing k = fault c
+abbrev pub on_word : Config → Option ℕ → (ℕ → Outcome) → Outcome
+on_word c (Some w) k = k w
+on_word c None k = fault c
 
 abbrev pub on_state : Config → Option View → (View → Outcome) → Outcome
-on_state c (some s) k = k s
-on_state c none k = fault c
+on_state c (Some s) k = k s
+on_state c None k = fault c
 
-abbrev pub on_pair : Config → Compared → (ℕ → ℕ → Outcome) → Outcome
-on_pair c (Of x y) k = k x y
-on_pair c Absent k = fault c
+abbrev pub on_pair : Config → Option (ℕ × ℕ) → (ℕ → ℕ → Outcome) → Outcome
+on_pair c (Some (x, y)) k = k x y
+on_pair c None k = fault c
 
 -- DEST ← f DEST SRC
 abbrev pub calculate : (ℕ → ℕ → ℕ) → Operand → Operand → Config → Outcome
@@ -73,7 +68,7 @@ move dest src c = on_word c (value_of c.state src) (λ y. on_state c (assigned c
 abbrev pub compare : Operand → Operand → Config → Outcome
 compare dest src c =
     on_word c (value_of c.state src)
-    (λ y. on_word c (value_of c.state dest) (λ x. next (config c.state (Of x y) c.calls)))
+    (λ y. on_word c (value_of c.state dest) (λ x. next (config c.state (Some (x, y)) c.calls)))
 
 -- RAX ← quotient, RDX ← remainder of RDX:RAX by SRC
 abbrev pub divide : Operand → Config → Outcome
@@ -109,7 +104,7 @@ after_print words s =
 abbrev pub call : (ℕ → ℕ) → ℕ → Config → Outcome
 call words label c =
     cond (is_print_name label && eqb (c.state.reg 0 % 16) 0)
-    (next (config (after_print words c.state) Absent (c.calls ++ (record { name = label; number = c.state.reg 7 } ∷ []))))
+    (next (config (after_print words c.state) None (c.calls ++ (record { name = label; number = c.state.reg 7 } ∷ []))))
     (fault c)
 
 -- only at 2^40 − 8
@@ -164,7 +159,7 @@ step words (GLOBAL label) c = next (dropped c)
 step words (EXTERN label) c = next (dropped c)
 
 -- what an answer of the code, with the state, the pair and the calls made before it, says of the outcome
-abbrev pub outcome_of : Went → View → Compared → List Call → Outcome
+abbrev pub outcome_of : Went → View → Option (ℕ × ℕ) → List Call → Outcome
 outcome_of Next s q calls = next (config s q calls)
 outcome_of (Called name number) s q calls = next (config s q (calls ++ (record { name = name; number = number } ∷ [])))
 outcome_of (Jump label) s q calls = jump label (config s q calls)

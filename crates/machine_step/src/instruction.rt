@@ -6,17 +6,9 @@ ghost use Rattle.machine_step.specs.Step as is;
 ghost use Rattle.machine_step.specs.Forms.{operand_of, result_of, holds_of, Acts};
 
 use crate::memory;
-use crate::memory::Fetched;
 use crate::operand::{assign, operand};
 use records::code::Fields;
 use records::name::{PRINT_I64, PRINTLN_I64};
-
-// The last compare's two words, where only moves came since.
-#[derive(Clone, Copy)]
-pub enum Compared {
-    Absent,
-    Of(u64, u64),
-}
 
 // How an instruction leaves the run: on to the next record, on after a call of a name with a number, at a label, at the end, or as before it with a
 // fault.
@@ -29,7 +21,8 @@ pub enum Went {
     Fault,
 }
 
-// The pair in the run's loop, where an enum would have padding to copy: none where `made` is 0.
+// The last compare's two words, where only moves came since: none where `made` is 0. It is carried so in the run's loop, where an Option would have padding
+// to copy.
 #[derive(Clone, Copy)]
 pub struct Pair {
     pub made: u64,
@@ -50,6 +43,8 @@ pub struct Moved {
     pub pair: Pair,
 }
 
+// Kept by number, as `holds` and the forms of operands are: the table of the run gives digits, and a step by matches took twice as long.
+#[tactic(auto, unfolding(crate::specs::Forms::result_of))]
 fn result(n: u8, x: u64, y: u64) -> u64
     ensures { result ≡ result_of n x y }
 {
@@ -60,6 +55,7 @@ fn result(n: u8, x: u64, y: u64) -> u64
     }
 }
 
+#[tactic(auto, unfolding(crate::specs::Forms::holds_of))]
 fn holds(n: u8, x: u64, y: u64) -> bool
     ensures { result ≡ holds_of n x y }
 {
@@ -87,30 +83,28 @@ pub fn calculate(
     requires { (f.a < 16) × (f.b < 16) × (length registers.old ≡ 16) }
     ensures { Acts registers.old stack.old heap.old registers.new stack.new heap.new pair result (is.calculate (result_of n) (operand_of t f) (operand_of u f)) }
 {
-    match operand(u, f, registers, stack, heap) {
-        Fetched::Nothing => Moved {
+    let Some(y) = operand(u, f, registers, stack, heap) else {
+        return Moved {
             went: Went::Fault,
             pair,
-        },
-        Fetched::Word(y) => match operand(t, f, registers, stack, heap) {
-            Fetched::Nothing => Moved {
-                went: Went::Fault,
-                pair,
-            },
-            Fetched::Word(x) => {
-                if assign(t, f, registers, stack, heap, result(n, x, y)) {
-                    Moved {
-                        went: Went::Next,
-                        pair: NONE,
-                    }
-                } else {
-                    Moved {
-                        went: Went::Fault,
-                        pair,
-                    }
-                }
-            }
-        },
+        };
+    };
+    let Some(x) = operand(t, f, registers, stack, heap) else {
+        return Moved {
+            went: Went::Fault,
+            pair,
+        };
+    };
+    if assign(t, f, registers, stack, heap, result(n, x, y)) {
+        Moved {
+            went: Went::Next,
+            pair: NONE,
+        }
+    } else {
+        Moved {
+            went: Went::Fault,
+            pair,
+        }
     }
 }
 
@@ -126,23 +120,21 @@ pub fn transfer(
     requires { (f.a < 16) × (f.b < 16) × (length registers.old ≡ 16) }
     ensures { Acts registers.old stack.old heap.old registers.new stack.new heap.new pair result (is.move (operand_of t f) (operand_of u f)) }
 {
-    match operand(u, f, registers, stack, heap) {
-        Fetched::Nothing => Moved {
+    let Some(y) = operand(u, f, registers, stack, heap) else {
+        return Moved {
             went: Went::Fault,
             pair,
-        },
-        Fetched::Word(y) => {
-            if assign(t, f, registers, stack, heap, y) {
-                Moved {
-                    went: Went::Next,
-                    pair,
-                }
-            } else {
-                Moved {
-                    went: Went::Fault,
-                    pair,
-                }
-            }
+        };
+    };
+    if assign(t, f, registers, stack, heap, y) {
+        Moved {
+            went: Went::Next,
+            pair,
+        }
+    } else {
+        Moved {
+            went: Went::Fault,
+            pair,
         }
     }
 }
@@ -159,21 +151,21 @@ pub fn compare(
     requires { (f.a < 16) × (f.b < 16) × (length registers.now ≡ 16) }
     ensures { Acts registers.now stack.now heap.now registers.now stack.now heap.now pair result (is.compare (operand_of t f) (operand_of u f)) }
 {
-    match operand(u, f, registers, stack, heap) {
-        Fetched::Nothing => Moved {
+    let Some(y) = operand(u, f, registers, stack, heap) else {
+        return Moved {
             went: Went::Fault,
             pair,
-        },
-        Fetched::Word(y) => match operand(t, f, registers, stack, heap) {
-            Fetched::Nothing => Moved {
-                went: Went::Fault,
-                pair,
-            },
-            Fetched::Word(x) => Moved {
-                went: Went::Next,
-                pair: Pair { made: 1, x, y },
-            },
-        },
+        };
+    };
+    let Some(x) = operand(t, f, registers, stack, heap) else {
+        return Moved {
+            went: Went::Fault,
+            pair,
+        };
+    };
+    Moved {
+        went: Went::Next,
+        pair: Pair { made: 1, x, y },
     }
 }
 
@@ -188,26 +180,24 @@ pub fn divide(
     requires { (f.a < 16) × (f.b < 16) × (length registers.old ≡ 16) }
     ensures { Acts registers.old stack.now heap.now registers.new stack.now heap.now pair result (is.divide (operand_of u f)) }
 {
-    match operand(u, f, registers, stack, heap) {
-        Fetched::Nothing => Moved {
+    let Some(d) = operand(u, f, registers, stack, heap) else {
+        return Moved {
             went: Went::Fault,
             pair,
-        },
-        Fetched::Word(d) => {
-            let low = registers[4];
-            if word::divides(registers[5], low, d) {
-                registers[4] = word::quotient(low, d);
-                registers[5] = word::remainder(low, d);
-                Moved {
-                    went: Went::Next,
-                    pair: NONE,
-                }
-            } else {
-                Moved {
-                    went: Went::Fault,
-                    pair,
-                }
-            }
+        };
+    };
+    let low = registers[4];
+    if word::divides(registers[5], low, d) {
+        registers[4] = word::quotient(low, d);
+        registers[5] = word::remainder(low, d);
+        Moved {
+            went: Went::Next,
+            pair: NONE,
+        }
+    } else {
+        Moved {
+            went: Went::Fault,
+            pair,
         }
     }
 }
@@ -227,8 +217,7 @@ pub fn extend(registers: &mut [u64; 16], pair: Pair) -> Moved
 pub fn branch(n: u8, label: u32, pair: Pair) -> Moved
     ensures { (R S H : List ℕ) → length R ≡ 16 → Acts R S H R S H pair result (is.branch (holds_of n) label) }
 {
-    let made = pair.made;
-    if made == 0 {
+    if pair.made == 0 {
         return Moved {
             went: Went::Fault,
             pair,
@@ -278,19 +267,17 @@ pub fn pop(a: u8, registers: &mut [u64; 16], stack: &[u64], heap: &[u64], pair: 
     ensures { Acts registers.old stack.now heap.now registers.new stack.now heap.now pair result (is.pop a) }
 {
     let i = a as usize;
-    match memory::load(stack, heap, registers[0]) {
-        Fetched::Nothing => Moved {
+    let Some(w) = memory::load(stack, heap, registers[0]) else {
+        return Moved {
             went: Went::Fault,
             pair,
-        },
-        Fetched::Word(w) => {
-            registers[0] = word::sum(registers[0], 8);
-            registers[i] = w;
-            Moved {
-                went: Went::Next,
-                pair: NONE,
-            }
-        }
+        };
+    };
+    registers[0] = word::sum(registers[0], 8);
+    registers[i] = w;
+    Moved {
+        went: Went::Next,
+        pair: NONE,
     }
 }
 
@@ -298,10 +285,7 @@ pub fn pop(a: u8, registers: &mut [u64; 16], stack: &[u64], heap: &[u64], pair: 
 fn print_name(label: u32) -> bool
     ensures { result ≡ is.is_print_name label }
 {
-    if label == PRINT_I64 {
-        return true;
-    }
-    label == PRINTLN_I64
+    label == PRINT_I64 || label == PRINTLN_I64
 }
 
 // The words that a print leaves.
@@ -310,27 +294,14 @@ fn lend(registers: &mut [u64; 16], words: &[u64; 9])
     ensures { (length registers.new ≡ 16) × ((S H : List ℕ) → view registers.new S H ≡ is.after_print (words_of words.now) (view registers.old S H)) }
 {
     registers[1] = words[0];
-    registers[4] = words[1];
-    registers[5] = words[2];
-    registers[6] = words[3];
-    registers[7] = words[4];
-    registers[8] = words[5];
-    registers[9] = words[6];
-    registers[10] = words[7];
-    registers[11] = words[8];
+    registers[4..12].copy_from_slice(&words[1..]);
 }
 
 pub fn call(label: u32, registers: &mut [u64; 16], words: &[u64; 9], pair: Pair) -> Moved
     requires { length registers.old ≡ 16 }
     ensures { (S H : List ℕ) → Acts registers.old S H registers.new S H pair result (is.call (words_of words.now) label) }
 {
-    if print_name(label) {} else {
-        return Moved {
-            went: Went::Fault,
-            pair,
-        };
-    }
-    if registers[0] % 16 == 0 {} else {
+    if !print_name(label) || registers[0] % 16 != 0 {
         return Moved {
             went: Went::Fault,
             pair,

@@ -5,6 +5,7 @@ ghost use Rattle.machine_step.specs.Memory as is;
 ghost use Rattle.machine_step.specs.Memory.{heap_ok, place_of, word_in};
 ghost use Rattle.machine_step.specs.Forms.{Inside, Wrote};
 
+// Kept as one enum: of an Option of the other two no match would be plainer.
 #[derive(Clone, Copy)]
 pub enum Place {
     Stack(usize),
@@ -12,36 +13,19 @@ pub enum Place {
     Nowhere,
 }
 
-#[derive(Clone, Copy)]
-pub enum Fetched {
-    Word(u64),
-    Nothing,
-}
-
 // 2 to 1,048,576 whole blocks of so many words.
+#[tactic(auto, unfolding(crate::specs::Memory::heap_ok))]
 pub fn heap_ok(block: usize, size: usize) -> bool
     ensures { result ≡ heap_ok block size }
 {
-    if block < 1 {
-        return false;
-    }
-    if size % block == 0 {} else {
-        return false;
-    }
-    let blocks = size / block;
-    if blocks < 2 {
-        return false;
-    }
-    blocks <= 1048576
+    1 <= block && size % block == 0 && 2 <= size / block && size / block <= 1048576
 }
 
+#[tactic(auto, unfolding(crate::specs::Memory::place_of))]
 fn place_of(depth: usize, size: usize, address: u64) -> Place
     ensures { (result ≡ place_of depth size address) × Inside depth size result }
 {
-    if address % 8 == 0 {} else {
-        return Place::Nowhere;
-    }
-    if 1099511627776 <= address {
+    if address % 8 != 0 || 1099511627776 <= address {
         return Place::Nowhere;
     }
     let i = ((1099511627768 - address) / 8) as usize;
@@ -58,13 +42,13 @@ fn place_of(depth: usize, size: usize, address: u64) -> Place
     Place::Nowhere
 }
 
-pub fn load(stack: &[u64], heap: &[u64], address: u64) -> Fetched
+pub fn load(stack: &[u64], heap: &[u64], address: u64) -> Option<u64>
     ensures { result ≡ word_in (from_end stack.now) (words_of heap.now) (place_of (length stack.now) (length heap.now) address) }
 {
     match place_of(stack.len(), heap.len(), address) {
-        Place::Stack(k) => Fetched::Word(stack[stack.len() - 1 - k]),
-        Place::Heap(k) => Fetched::Word(heap[k]),
-        Place::Nowhere => Fetched::Nothing,
+        Place::Stack(k) => Some(stack[stack.len() - 1 - k]),
+        Place::Heap(k) => Some(heap[k]),
+        Place::Nowhere => None,
     }
 }
 

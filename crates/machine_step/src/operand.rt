@@ -5,11 +5,11 @@ ghost use Rattle.machine_step.specs.Memory.{value_of, assigned};
 ghost use Rattle.machine_step.specs.Forms.{operand_of, named, Sized, Wrote};
 
 use crate::memory;
-use crate::memory::Fetched;
 use records::code::Fields;
 
 // The register that a form names, or whose word it adds the offset to: a for the even forms, b for the odd ones. Two comparisons and this choice
 // compile to fewer jumps than a match on the form.
+#[tactic(auto, unfolding(crate::specs::Forms::named))]
 fn register_of(form: u8, f: Fields) -> usize
     requires { (f.a < 16) × (f.b < 16) }
     ensures { (result < 16) × (result ≡ named form f) }
@@ -21,18 +21,24 @@ fn register_of(form: u8, f: Fields) -> usize
     }
 }
 
-pub fn operand(form: u8, f: Fields, registers: &[u64; 16], stack: &[u64], heap: &[u64]) -> Fetched
+pub fn operand(
+    form: u8,
+    f: Fields,
+    registers: &[u64; 16],
+    stack: &[u64],
+    heap: &[u64],
+) -> Option<u64>
     requires { (f.a < 16) × (f.b < 16) }
     ensures { result ≡ value_of (view registers.now stack.now heap.now) (operand_of form f) }
 {
     let i = register_of(form, f);
     if form < 2 {
-        return Fetched::Word(registers[i]);
+        return Some(registers[i]);
     }
     if form < 4 {
         return memory::load(stack, heap, word::sum(registers[i], f.offset));
     }
-    Fetched::Word(f.value)
+    Some(f.value)
 }
 
 // Whether v was written.

@@ -8,9 +8,9 @@ ghost use Rattle.memory.specs.NextBlock.{next_begin, next_end};
 ghost use Rattle.trees.specs.Tree.{flat};
 ghost use Rattle.memory.specs.Blocks.{erase_register, share_register, erase_block, share_spill, share_block, erase_child, erase_fields, take_block, next_block, acquire_block, store_field, load_field, release_block};
 
-use emit::answer::Answer;
+use emit::answer::{Answer, Refusal, Written};
 use emit::cursor::{Cursor, Row};
-use layout::config::{Choice, FREE, HEAP, MINUS_ONE, STACK, Shape, TEMP};
+use layout::config::{FREE, HEAP, MINUS_ONE, STACK, Shape, TEMP};
 use records::name::MOST_COUNT;
 use records::number::{ADDI, ADDIM, CMPI, CMPIM, JEL, JMPL, LAB, MOV, MOVIM, MOVL, MOVS};
 
@@ -288,22 +288,20 @@ pub fn release_block(out: &mut [u8], p: Cursor, r: u8) -> Cursor
 pub fn erase_block(out: &mut [u8], frame: u64, counter: u64, w: u64) -> Answer
     ensures { Answers out.old out.new result (erase_in frame counter (length out.old) w) (erase_records_in frame counter w) }
 {
-    match layout::config::frame_of(frame) {
-        Choice::Of(g) => erase_block_in(out, g, counter, w),
-        Choice::Unknown => Answer::Operand,
-    }
+    let g = layout::config::frame_of(frame).ok_or(Refusal::Operand)?;
+    erase_block_in(out, g, counter, w)
 }
 
 fn erase_block_in(out: &mut [u8], g: Shape, counter: u64, w: u64) -> Answer
     requires { Supported g }
     ensures { Answers out.old out.new result (erase_answer g counter (length out.old) w) (flat (erase_block g w) counter) }
 {
-    if layout::utils::operand_ok(g, w) {} else {
-        return Answer::Operand;
+    if !layout::utils::operand_ok(g, w) {
+        return Err(Refusal::Operand);
     }
     if emit::answer::ample(counter, out.len(), ERASE_LABELS, ERASE_RECORDS) {
         let q = erase(out, Cursor { at: 0, counter }, g, w);
-        return emit::answer::written(q);
+        return Ok(Written::up_to(q));
     }
     erase_sized(out, g, counter, w)
 }
@@ -315,37 +313,32 @@ fn erase_sized(out: &mut [u8], g: Shape, counter: u64, w: u64) -> Answer
 {
     let mut none = [0u8; 1];
     let need = erase(&mut none, Cursor { at: 0, counter: 0 }, g, w);
-    let answer = emit::answer::grant(counter, out.len(), need);
-    if emit::answer::is_written(answer) {} else {
-        return answer;
-    }
+    let written = emit::answer::grant(counter, out.len(), need)?;
     erase(out, Cursor { at: 0, counter }, g, w);
-    answer
+    Ok(written)
 }
 
 // n references more to the object that an operand points to.
 pub fn share_block_n(out: &mut [u8], frame: u64, counter: u64, w: u64, n: u64) -> Answer
     ensures { Answers out.old out.new result (share_in frame counter (length out.old) w n) (share_records_in frame counter w n) }
 {
-    match layout::config::frame_of(frame) {
-        Choice::Of(g) => share_block_n_in(out, g, counter, w, n),
-        Choice::Unknown => Answer::Operand,
-    }
+    let g = layout::config::frame_of(frame).ok_or(Refusal::Operand)?;
+    share_block_n_in(out, g, counter, w, n)
 }
 
 fn share_block_n_in(out: &mut [u8], g: Shape, counter: u64, w: u64, n: u64) -> Answer
     requires { Supported g }
     ensures { Answers out.old out.new result (share_answer g counter (length out.old) w n) (flat (share_block g w n) counter) }
 {
-    if layout::utils::operand_ok(g, w) {} else {
-        return Answer::Operand;
+    if !layout::utils::operand_ok(g, w) {
+        return Err(Refusal::Operand);
     }
     if MOST_COUNT < n {
-        return Answer::Count;
+        return Err(Refusal::Count);
     }
     if emit::answer::ample(counter, out.len(), SHARE_LABELS, SHARE_RECORDS) {
         let q = share(out, Cursor { at: 0, counter }, g, w, n);
-        return emit::answer::written(q);
+        return Ok(Written::up_to(q));
     }
     share_sized(out, g, counter, w, n)
 }
@@ -357,10 +350,7 @@ fn share_sized(out: &mut [u8], g: Shape, counter: u64, w: u64, n: u64) -> Answer
 {
     let mut none = [0u8; 1];
     let need = share(&mut none, Cursor { at: 0, counter: 0 }, g, w, n);
-    let answer = emit::answer::grant(counter, out.len(), need);
-    if emit::answer::is_written(answer) {} else {
-        return answer;
-    }
+    let written = emit::answer::grant(counter, out.len(), need)?;
     share(out, Cursor { at: 0, counter }, g, w, n);
-    answer
+    Ok(written)
 }

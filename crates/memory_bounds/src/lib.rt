@@ -27,7 +27,7 @@ fn stored_within(g: Shape, n: u64) -> u64
     requires { (n ≤ 4096) × Supported g }
     ensures { (result ≡ stored_within g n) × (result < 2 ^ 31) }
 {
-    let rest = layout::utils::excess(n, g.fields);
+    let rest = n.saturating_sub(g.fields);
     16 * g.fields + 19 + (16 * g.fields + 17) * other_blocks(g, rest)
 }
 
@@ -36,7 +36,7 @@ fn loaded_within(g: Shape, n: u64) -> u64
     requires { (n ≤ 4096) × Supported g }
     ensures { (result ≡ loaded_within g n) × (result < 2 ^ 32) }
 {
-    let rest = layout::utils::excess(n, g.fields);
+    let rest = n.saturating_sub(g.fields);
     let each = g.fields - 1;
     12 * g.fields + 15 + (12 * each + 8) * other_blocks(g, rest)
 }
@@ -52,7 +52,7 @@ fn values_records(g: Shape, v: u64, k: u64, free: u64) -> u64
     requires { (k ≤ free) × (free ≤ 4096) × (v ≤ 4096) }
     ensures { (result ≡ size (store_values g linked v k free)) × (result ≤ 16384) }
 {
-    let registers = layout::utils::excess(6, v) - layout::utils::excess(6, v + k);
+    let registers = 6u64.saturating_sub(v) - 6u64.saturating_sub(v + k);
     3 * k + free - 2 * registers
 }
 
@@ -63,16 +63,14 @@ fn others_records(g: Shape, m: u64, v: u64, n: u64) -> u64
 {
     let each = g.fields - 1;
     let mut total = 0;
-    let mut blocks = m;
     let mut left = n;
-    while 0 < blocks {
-        let rest = layout::utils::excess(left, each);
+    for _ in 0..m {
+        let rest = left.saturating_sub(each);
         let values = values_records(g, v + rest, left - rest, each);
         let link = word_records(v + left);
         let pointer = word_records(v + rest);
         total = total + (link + values + 12 * g.fields + 17 + pointer);
         left = rest;
-        blocks -= 1;
     }
     total
 }
@@ -85,7 +83,7 @@ fn store_most(g: Shape, v: u64, n: u64) -> u64
     if n == 0 {
         return 1;
     }
-    let rest = layout::utils::excess(n, g.fields);
+    let rest = n.saturating_sub(g.fields);
     let values = values_records(g, v + rest, n - rest, g.fields);
     let pointer = word_records(v + rest);
     let m = other_blocks(g, rest);

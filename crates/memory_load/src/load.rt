@@ -11,11 +11,10 @@ ghost use Rattle.memory.specs.Answered.{tree_answer};
 ghost use Rattle.memory.specs.LoadAnswered.{load_tree, load_fits, load_after, load_answer, unframed_load, load_in, load_records_in};
 ghost use Rattle.memory_load.specs.Linked.{one_if_linked, linked_in};
 
-use emit::answer::Answer;
+use emit::answer::{Answer, Refusal, Written};
 use emit::cursor::{Cursor, Row};
-use layout::config::{self, MINUS_ONE, Shape, Shaped};
+use layout::config::{self, MINUS_ONE, Shape, Unshaped};
 use records::context;
-use records::context::ContextRead;
 use records::number::{self, JEL, JMPL, LAB};
 
 fn one_if_linked(ext: bool) -> u64
@@ -114,10 +113,7 @@ fn load_fits(g: Shape, v: u64, n: u64) -> bool
     ensures { result ≡ load_fits g v n }
 {
     let positions = g.spills + 11;
-    if n == 0 {
-        return true;
-    }
-    2 * (v + n) < positions + 1
+    n == 0 || 2 * (v + n) < positions + 1
 }
 
 // A first pass on another output tells the size, and the second writes.
@@ -127,12 +123,9 @@ fn load_sized(out: &mut [u8], g: Shape, counter: u64, loaded: &[u8], v: u64, n: 
 {
     let mut none = [0u8; 1];
     let need = load_object(&mut none, Cursor { at: 0, counter: 0 }, g, loaded, v, n);
-    let answer = emit::answer::grant(counter, out.len(), need);
-    if emit::answer::is_written(answer) {} else {
-        return answer;
-    }
+    let written = emit::answer::grant(counter, out.len(), need)?;
     load_object(out, Cursor { at: 0, counter }, g, loaded, v, n);
-    answer
+    Ok(written)
 }
 
 // A load of n variables after v.
@@ -140,12 +133,12 @@ fn load_after(out: &mut [u8], g: Shape, counter: u64, loaded: &[u8], v: u64, n: 
     requires { (v ≤ 4096) × (n ≤ 4096) × (8 * n ≤ length loaded.now) × Supported g }
     ensures { Answers out.old out.new result (load_after g counter (length out.old) loaded.now v n) (flat (load_object g (ext_in loaded.now v) v n) counter) }
 {
-    if load_fits(g, v, n) {} else {
-        return Answer::Position;
+    if !load_fits(g, v, n) {
+        return Err(Refusal::Position);
     }
     if memory_bounds::load_ample(g, counter, out.len(), n) {
         let q = load_object(out, Cursor { at: 0, counter }, g, loaded, v, n);
-        return emit::answer::written(q);
+        return Ok(Written::up_to(q));
     }
     load_sized(out, g, counter, loaded, v, n)
 }
@@ -162,9 +155,9 @@ pub fn load(
     ensures { Answers out.old out.new result (load_in edition frame counter (length out.old) loaded.now existing.now) (load_records_in edition frame counter loaded.now existing.now) }
 {
     match layout::config::shape_of(edition, frame) {
-        Shaped::In(g) => load_in(out, g, counter, loaded, existing),
-        Shaped::NoFrame => unframed(loaded, existing),
-        Shaped::NoEdition => Answer::Edition,
+        Ok(g) => load_in(out, g, counter, loaded, existing),
+        Err(Unshaped::NoFrame) => unframed(loaded, existing),
+        Err(Unshaped::NoEdition) => Err(Refusal::Edition),
     }
 }
 
@@ -172,24 +165,16 @@ pub fn load(
 fn unframed(loaded: &[u8], existing: &[u8]) -> Answer
     ensures { (result ≡ unframed_load loaded.now existing.now) × (accepted result ≡ false) }
 {
-    match context::check_context(existing) {
-        ContextRead::Good(v) => match context::check_after(v, loaded) {
-            ContextRead::Good(_) => Answer::Operand,
-            ContextRead::Bad(flaw) => Answer::Context(flaw),
-        },
-        ContextRead::Bad(flaw) => Answer::Context(flaw),
-    }
+    let v = context::check_context(existing)?;
+    context::check_after(v, loaded)?;
+    Err(Refusal::Operand)
 }
 
 fn load_in(out: &mut [u8], g: Shape, counter: u64, loaded: &[u8], existing: &[u8]) -> Answer
     requires { Supported g }
     ensures { Answers out.old out.new result (load_answer g counter (length out.old) loaded.now existing.now) (flat (load_tree g loaded.now existing.now) counter) }
 {
-    match context::check_context(existing) {
-        ContextRead::Good(v) => match context::check_after(v, loaded) {
-            ContextRead::Good(n) => load_after(out, g, counter, loaded, v as u64, n as u64),
-            ContextRead::Bad(flaw) => Answer::Context(flaw),
-        },
-        ContextRead::Bad(flaw) => Answer::Context(flaw),
-    }
+    let v = context::check_context(existing)?;
+    let n = context::check_after(v, loaded)?;
+    load_after(out, g, counter, loaded, v as u64, n as u64)
 }

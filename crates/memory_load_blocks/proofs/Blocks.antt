@@ -19,6 +19,13 @@ use Rattle.memory.proofs.Sizes.{chunks_fill}
 use Rattle.memory.proofs.Unfolded.{next_loaded_other, freed_of}
 use Rattle.memory_load_blocks.specs.Blocks.{AllBlocks}
 
+pub not_below : (a b : ℕ) → leb a b ≡ not (ltb b a)
+not_below a b = by (dec_lt b a)
+  where
+    by : Dec (b < a) → leb a b ≡ not (ltb b a)
+    by (yes h) = rw (lt-leb a b h, lt-ltb b a h)
+    by (no h) = rw (le-leb a b (omega arith), le-ltb b a (omega arith))
+
 -- one block more
 pub more : (c i m : ℕ) → i < m → c * i + c ≤ c * m
 more c i m h = let p = mul-le-mul_left {m = i + 1} {n = m} c (omega arith) in omega arith

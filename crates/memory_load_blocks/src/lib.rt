@@ -94,12 +94,9 @@ fn load_values(
     ensures { Emits out.old p out.new result (load_values g (ext_in kinds.now first) shared v k free r) }
 {
     let mut q = p;
-    let mut left = k;
-    let mut at = free;
-    while 0 < left {
-        q = load_value(out, q, g, kinds, first, shared, v + (left - 1), at - 1, r);
-        left -= 1;
-        at -= 1;
+    let unused = free - k;
+    for i in (0..k).rev() {
+        q = load_value(out, q, g, kinds, first, shared, v + i, unused + i, r);
     }
     q
 }
@@ -190,13 +187,6 @@ fn load_body(
     load_values(out, s, g, kinds, first, shared, v, k, free, r)
 }
 
-// Whether operand w is a register, or else b.
-fn register_or(w: u64, b: bool) -> bool
-    ensures { result ≡ (ltb w 16 || b) }
-{
-    if w < 16 { true } else { b }
-}
-
 // The register that a block is reached by: its own, or 4 for one in a spill.
 fn block_register(w: u64) -> u8
     ensures { result ≡ cond (ltb w 16) w RETURN1 }
@@ -237,7 +227,7 @@ fn load_block(
     ensures { Emits out.old p out.new result (load_block g (ext_in kinds.now first) shared other aside v k) }
 {
     let w = layout::utils::location_of(2 * v);
-    let q = set_aside(out, p, g, register_or(w, aside));
+    let q = set_aside(out, p, g, w < 16 || aside);
     let s = borrow_register(out, q, g, w);
     let t = load_body(
         out,
@@ -251,7 +241,7 @@ fn load_block(
         k,
         block_register(w),
     );
-    restore_aside(out, t, g, register_or(w, other))
+    restore_aside(out, t, g, w < 16 || other)
 }
 
 // Whether a block before the one that starts with variable v + n lay in a spill.
@@ -259,15 +249,11 @@ fn freed_before(each: u64, v: u64, n: u64) -> bool
     requires { 2 * (v + n) < entries }
     ensures { result ≡ (ltb 0 n && not (ltb (fst (v + (n - each))) 16)) }
 {
-    if 0 < n {} else {
+    if n == 0 {
         return false;
     }
-    let rest = layout::utils::excess(n, each);
-    let w = layout::utils::location_of(2 * (v + rest));
-    if w < 16 {
-        return false;
-    }
-    true
+    let rest = n.saturating_sub(each);
+    16 <= layout::utils::location_of(2 * (v + rest))
 }
 
 fn either(other: bool, to: u64, n: u64) -> u64
@@ -294,10 +280,9 @@ fn load_all(
     ensures { Emits out.old p out.new result (load_some g (ext_in kinds.now first) shared v n) }
 {
     let mut q = p;
-    let mut i = 0;
     let mut from = 0;
     let mut to = rest + each - each * m;
-    while i <= m {
+    for i in 0..m + 1 {
         let other = i < m;
         let end = either(other, to, n);
         let aside = freed_before(each, v, from);
@@ -315,7 +300,6 @@ fn load_all(
         );
         from = to;
         to += each;
-        i += 1;
     }
     q
 }
@@ -335,7 +319,7 @@ pub fn load_some(
     ensures { Emits out.old p out.new result (load_some g (ext_in kinds.now first) shared v n) }
 {
     let each = g.fields - 1;
-    let rest = layout::utils::excess(n, g.fields);
+    let rest = n.saturating_sub(g.fields);
     load_all(
         out,
         p,

@@ -1,4 +1,5 @@
 -- From a checked context to what a store of its last n variables answers.
+use Rattle.std.specs.Prelude.{Err, Ok}
 use Prim.Native.Nat.{ℕ, ◌+◌, ◌*◌, ◌-◌, ◌≤◌, ◌<◌}
 use mathlib.Core.Path.{◌≡◌, sym, ap, ◌∙◌}
 use mathlib.Core.Bool.{Bool, true, false, cond}
@@ -7,12 +8,10 @@ use native.Mathlib.Omega.{arith}
 use native.Mathlib.Decide.{ℕ_discrete, dec_lt}
 use lib.Dec.{ltb}
 use borrow.Author.Tests.{lt-ltb, le-ltb, eq-eqb, ne_eqb, ltb-true}
-use Rattle.records.specs.declared.context.ContextRead.TheVariants.{Good}
 use Rattle.records.specs.Contexts.{checked_context, bindings_in, on_context}
 use Rattle.trees.specs.Tree.{Tree, flat}
-use Rattle.emit.specs.declared.answer.Answer.{Answer}
-use Rattle.emit.specs.declared.answer.Answer.TheVariants.{Context, Missing, Position}
-use Rattle.emit.specs.Answers.{output, Answers}
+use Rattle.emit.specs.declared.answer.Refusal.TheVariants.{Context, Missing, Position}
+use Rattle.emit.specs.Answers.{output, Answers, Answer}
 use Rattle.emit.proofs.Wrote.{answers}
 use Rattle.layout.specs.declared.config.Shape.{Shape}
 use Rattle.layout.specs.Config.{Supported, positions}
@@ -40,12 +39,12 @@ answers_as {o} {o'} {r} {e} {e'} {t} {t'} c p q a =
 second : (a b : Bool) (x y z : Answer) → a ≡ false → b ≡ true → y ≡ cond a x (cond b y z)
 second a b x y z p q = rw (p, q)
 
-module _ (g : Shape) (counter room : ℕ) (s : List ℕ) (k n : ℕ) (h : checked_context s ≡ Good k) where
-  pub missing : k < n → Missing ≡ store_answer g counter room s n
+module _ (g : Shape) (counter room : ℕ) (s : List ℕ) (k n : ℕ) (h : checked_context s ≡ Ok k) where
+  pub missing : k < n → Err Missing ≡ store_answer g counter room s n
   unfolding store_answer
   missing l = rw (h, lt-ltb k n l)
 
-  pub no_position : n ≤ k → ltb (store_highest k n) (positions g) ≡ false → Position ≡ store_answer g counter room s n
+  pub no_position : n ≤ k → ltb (store_highest k n) (positions g) ≡ false → Err Position ≡ store_answer g counter room s n
   unfolding store_answer
   no_position l e = rw (h, le-ltb k n l, e)
 
@@ -56,11 +55,11 @@ module _ (g : Shape) (counter room : ℕ) (s : List ℕ) (k n : ℕ) (h : checke
   unfolding store_answer
   stored l e =
       ap (tree_answer counter room) tree
-      ∙ second (ltb k n) (ltb (store_highest k n) (positions g)) Missing (tree_answer counter room (store_tree g s n)) Position (le-ltb k n l) e
-      ∙ ap (λ c. on_context c answered Context) (sym h)
+      ∙ second (ltb k n) (ltb (store_highest k n) (positions g)) (Err Missing) (tree_answer counter room (store_tree g s n)) (Err Position) (le-ltb k n l) e
+      ∙ ap (λ c. on_context c answered (λ flaw. Err (Context flaw))) (sym h)
     where
       answered : ℕ → Answer
-      answered k = cond (ltb k n) Missing (cond (ltb (store_highest k n) (positions g)) (tree_answer counter room (store_tree g s n)) Position)
+      answered k = cond (ltb k n) (Err Missing) (cond (ltb (store_highest k n) (positions g)) (tree_answer counter room (store_tree g s n)) (Err Position))
 
 -- variables come in pairs of positions
 pub fits : (g : Shape) → Supported g → (k n : ℕ) → n ≤ k → ltb (store_highest k n) (positions g) ≡ true → 2 * (k - n + n) < positions g

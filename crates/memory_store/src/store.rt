@@ -1,7 +1,6 @@
 // Variables stored into an object of as many blocks as they need, from memory.rs.
 // `kinds` is binding records, of which the first is variable `first`'s.
-ghost use Rattle.std.specs.Prelude.{◌≡◌, ◌+◌, ◌*◌, ◌-◌, ◌<◌, ◌≤◌, ◌^◌, ltb, length};
-ghost use Rattle.records.specs.declared.context.ContextRead.TheVariants.{Good};
+ghost use Rattle.std.specs.Prelude.{◌≡◌, ◌+◌, ◌*◌, ◌-◌, ◌<◌, ◌≤◌, ◌^◌, ltb, length, Ok};
 ghost use Rattle.records.specs.Contexts.{checked_context};
 ghost use Rattle.trees.specs.Tree.{flat};
 ghost use Rattle.emit.specs.Emitted.{Emits};
@@ -10,11 +9,10 @@ ghost use Rattle.layout.specs.Config.{Supported, positions};
 ghost use Rattle.memory.specs.Objects.{ext_in, store_zeros, store_fst, store_value, store_values, store_other, store_others, store_some, store_object};
 ghost use Rattle.memory.specs.Answered.{tree_answer, store_tree, store_highest, store_answer, store_in, store_records_in};
 
-use emit::answer::Answer;
+use emit::answer::{Answer, Refusal, Written};
 use emit::cursor::{Cursor, Row};
-use layout::config::{HEAP, Shape, Shaped};
+use layout::config::{HEAP, Shape, Unshaped};
 use memory::block;
-use records::context::ContextRead;
 use records::number::MOVIM;
 
 // A zero in the Fst of each of the first n fields.
@@ -79,14 +77,11 @@ fn store_values(
     ensures { Emits out.old p out.new result (store_values g (ext_in kinds.now first) v k free) }
 {
     let mut q = p;
-    let mut left = k;
-    let mut at = free;
-    while 0 < left {
-        q = store_value(out, q, g, kinds, first, v + (left - 1), at - 1);
-        left -= 1;
-        at -= 1;
+    let zeros = free - k;
+    for i in (0..k).rev() {
+        q = store_value(out, q, g, kinds, first, v + i, zeros + i);
     }
-    store_zeros(out, q, at)
+    store_zeros(out, q, zeros)
 }
 
 // The link to the block just stored, then k variables from v on, into a block of `each` of them that goes into variable v's Fst.
@@ -127,13 +122,11 @@ fn store_others(
     ensures { Emits out.old p out.new result (store_others g (ext_in kinds.now first) m v n) }
 {
     let mut q = p;
-    let mut blocks = m;
     let mut left = n;
-    while 0 < blocks {
-        let rest = layout::utils::excess(left, each);
+    for _ in 0..m {
+        let rest = left.saturating_sub(each);
         q = store_other(out, q, g, kinds, first, each, v + rest, left - rest);
         left = rest;
-        blocks -= 1;
     }
     q
 }
@@ -153,7 +146,7 @@ pub fn store_some(
 {
     let fields = g.fields;
     let each = fields - 1;
-    let rest = layout::utils::excess(n, fields);
+    let rest = n.saturating_sub(fields);
     let pointer = layout::utils::location_of(2 * (v + rest));
     let q = store_values(out, p, g, kinds, first, v + rest, n - rest, fields);
     let s = block::acquire_block(out, q, g, pointer);
@@ -202,29 +195,26 @@ fn store_sized(out: &mut [u8], g: Shape, counter: u64, kinds: &[u8], v: u64, n: 
 {
     let mut none = [0u8; 1];
     let need = store_object(&mut none, Cursor { at: 0, counter: 0 }, g, kinds, v, n);
-    let answer = emit::answer::grant(counter, out.len(), need);
-    if emit::answer::is_written(answer) {} else {
-        return answer;
-    }
+    let written = emit::answer::grant(counter, out.len(), need)?;
     store_object(out, Cursor { at: 0, counter }, g, kinds, v, n);
-    answer
+    Ok(written)
 }
 
 // A store of the last n of the k variables of a context.
 fn store_last(out: &mut [u8], g: Shape, counter: u64, context: &[u8], k: u64, n: u64) -> Answer
-    requires { (checked_context context.now ≡ Good k) × Supported g }
+    requires { (checked_context context.now ≡ Ok k) × Supported g }
     ensures { Answers out.old out.new result (store_answer g counter (length out.old) context.now n) (flat (store_tree g context.now n) counter) }
 {
     if k < n {
-        return Answer::Missing;
+        return Err(Refusal::Missing);
     }
-    if store_fits(g, k, n) {} else {
-        return Answer::Position;
+    if !store_fits(g, k, n) {
+        return Err(Refusal::Position);
     }
     let v = k - n;
     if memory_bounds::store_ample(g, counter, out.len(), v, n, 0) {
         let q = store_object(out, Cursor { at: 0, counter }, g, context, v, n);
-        return emit::answer::written(q);
+        return Ok(Written::up_to(q));
     }
     store_sized(out, g, counter, context, v, n)
 }
@@ -241,9 +231,9 @@ pub fn store(
     ensures { Answers out.old out.new result (store_in edition frame counter (length out.old) context.now n) (store_records_in edition frame counter context.now n) }
 {
     match layout::config::shape_of(edition, frame) {
-        Shaped::In(g) => store_in(out, g, counter, context, n),
-        Shaped::NoFrame => emit::answer::unframed(context),
-        Shaped::NoEdition => Answer::Edition,
+        Ok(g) => store_in(out, g, counter, context, n),
+        Err(Unshaped::NoFrame) => emit::answer::unframed(context),
+        Err(Unshaped::NoEdition) => Err(Refusal::Edition),
     }
 }
 
@@ -251,8 +241,6 @@ fn store_in(out: &mut [u8], g: Shape, counter: u64, context: &[u8], n: u64) -> A
     requires { Supported g }
     ensures { Answers out.old out.new result (store_answer g counter (length out.old) context.now n) (flat (store_tree g context.now n) counter) }
 {
-    match records::context::check_context(context) {
-        ContextRead::Good(k) => store_last(out, g, counter, context, k as u64, n),
-        ContextRead::Bad(flaw) => Answer::Context(flaw),
-    }
+    let k = records::context::check_context(context)?;
+    store_last(out, g, counter, context, k as u64, n)
 }

@@ -1,12 +1,11 @@
 -- What each operation writes and answers. From the scope, 'Causes and numbers': 3 for an operand, a label or a frame, then 10 for the room.
-use Rattle.std.specs.Prelude.{ℕ, ◌*◌, Bool, ◌&&◌, cond, List, [], ◌∷◌, length}
+use Rattle.std.specs.Prelude.{ℕ, ◌*◌, Bool, ◌&&◌, cond, List, [], ◌∷◌, length, Err}
 use Rattle.records.specs.declared.code.Code.{Code}
 use Rattle.records.specs.declared.code.Code.TheVariants.{JMPL, JMPLN, LAB}
 use Rattle.records.specs.Instructions.{label_held}
 use Rattle.trees.specs.Tree.{flat}
-use Rattle.emit.specs.declared.answer.Answer.{Answer}
-use Rattle.emit.specs.declared.answer.Answer.TheVariants as answer
-use Rattle.emit.specs.Answers.{granted, Answers}
+use Rattle.emit.specs.declared.answer.Refusal.TheVariants as answer
+use Rattle.emit.specs.Answers.{granted, Answers, Answer}
 use Rattle.layout.specs.declared.config.Shape.{Shape}
 use Rattle.layout.specs.Config.{in_frame}
 use Rattle.layout.specs.Positions.{operand_ok}
@@ -49,11 +48,11 @@ module _ (g : Shape) where
 
   -- its answer for an output of so many bytes: no labels are drawn
   abbrev pub operation_answer : ℕ → Operation → Answer
-  operation_answer room o = cond (operands_allowed o) (granted 0 room (24 * length (operation_records o)) 0) answer.Operand
+  operation_answer room o = cond (operands_allowed o) (granted 0 room (24 * length (operation_records o)) 0) (Err answer.Operand)
 
 -- its answer and its records in a frame of so many spills; another number than a frame has is 3, whatever the operation
 abbrev pub operate_in : ℕ → ℕ → Operation → Answer
-operate_in frame room o = in_frame frame (λ g. operation_answer g room o) answer.Operand
+operate_in frame room o = in_frame frame (λ g. operation_answer g room o) (Err answer.Operand)
 
 abbrev pub operation_records_in : ℕ → Operation → List Code
 operation_records_in frame o = in_frame frame (λ g. operation_records g o) []

@@ -1,5 +1,5 @@
 // The operations of code.rs by name, each an answer and its records in a lent output. An immediate is 64-bit two's complement. Those with an operand go by the
-// frame's number of spills.
+// frame's number of spills. Kept one by one: they are the names that code.rs has and the documents give.
 ghost use Rattle.records.specs.declared.order.Calculation.TheVariants.{Add, Sub, Mul, Div, Rem};
 ghost use Rattle.code.specs.declared.emitters.Condition.TheVariants.{Equal, NotEqual, Less, LessOrEqual, Greater, GreaterOrEqual};
 ghost use Rattle.layout.specs.Config.{base};

@@ -8,9 +8,9 @@ ghost use Rattle.operations.specs.Operations.{operation_records, operands_allowe
 
 use code::emitters;
 use code::emitters::Condition;
-use emit::answer::Answer;
+use emit::answer::{Answer, Refusal, Written};
 use emit::cursor::{Cursor, Row};
-use layout::config::{Choice, Shape};
+use layout::config::Shape;
 use records::number::{JMPL, JMPLN, LAB};
 
 // The operations of code.rs but print_i64. Operands are words, labels are those of records, immediates 64-bit two's complement.
@@ -35,23 +35,15 @@ pub enum Operation {
     CompareImmediate(u64, u64),
 }
 
-fn both(x: bool, y: bool) -> bool
-    ensures { result ≡ x && y }
-{
-    if x { y } else { false }
-}
-
 // Whether two words are operands that a caller may give.
 fn two_ok(g: Shape, x: u64, y: u64) -> bool
     ensures { result ≡ operand_ok g x && operand_ok g y }
 {
-    both(
-        layout::utils::operand_ok(g, x),
-        layout::utils::operand_ok(g, y),
-    )
+    layout::utils::operand_ok(g, x) && layout::utils::operand_ok(g, y)
 }
 
 // Whether its operands are those that a caller may give, and its label one that a record may hold.
+#[tactic(auto, unfolding(crate::specs::Operations::operands_allowed))]
 fn operands_ok(g: Shape, operation: Operation) -> bool
     ensures { result ≡ operands_allowed g operation }
 {
@@ -60,18 +52,14 @@ fn operands_ok(g: Shape, operation: Operation) -> bool
         Operation::Jump(w) => layout::utils::operand_ok(g, w),
         Operation::JumpLabel(l) => records::code::label_held(l),
         Operation::JumpLabelFixed(l) => records::code::label_held(l),
-        Operation::JumpLabelIf(_, x, y, l) => both(two_ok(g, x, y), records::code::label_held(l)),
-        Operation::JumpLabelIfZero(_, w, l) => both(
-            layout::utils::operand_ok(g, w),
-            records::code::label_held(l),
-        ),
+        Operation::JumpLabelIf(_, x, y, l) => two_ok(g, x, y) && records::code::label_held(l),
+        Operation::JumpLabelIfZero(_, w, l) => layout::utils::operand_ok(g, w)
+            && records::code::label_held(l),
         Operation::LoadImmediate(w, _) => layout::utils::operand_ok(g, w),
-        Operation::LoadLabel(w, l) => both(
-            layout::utils::operand_ok(g, w),
-            records::code::label_held(l),
-        ),
+        Operation::LoadLabel(w, l) => layout::utils::operand_ok(g, w)
+            && records::code::label_held(l),
         Operation::AddAndJump(w, _) => layout::utils::operand_ok(g, w),
-        Operation::Arithmetic(_, w, x, y) => both(layout::utils::operand_ok(g, w), two_ok(g, x, y)),
+        Operation::Arithmetic(_, w, x, y) => layout::utils::operand_ok(g, w) && two_ok(g, x, y),
         Operation::Mov(w, x) => two_ok(g, w, x),
         Operation::Compare(x, y) => two_ok(g, x, y),
         Operation::CompareImmediate(w, _) => layout::utils::operand_ok(g, w),
@@ -107,22 +95,20 @@ fn emit_operation(out: &mut [u8], p: Cursor, g: Shape, operation: Operation) -> 
 pub fn operate(out: &mut [u8], frame: u64, operation: Operation) -> Answer
     ensures { Operates frame out.old out.new result operation }
 {
-    match layout::config::frame_of(frame) {
-        Choice::Of(g) => operate_in(out, g, operation),
-        Choice::Unknown => Answer::Operand,
-    }
+    let g = layout::config::frame_of(frame).ok_or(Refusal::Operand)?;
+    operate_in(out, g, operation)
 }
 
 fn operate_in(out: &mut [u8], g: Shape, operation: Operation) -> Answer
     requires { Supported g }
     ensures { Answers out.old out.new result (operation_answer g (length out.old) operation) (operation_records g operation) }
 {
-    if operands_ok(g, operation) {} else {
-        return Answer::Operand;
+    if !operands_ok(g, operation) {
+        return Err(Refusal::Operand);
     }
     if emit::answer::ample(0, out.len(), 0, emitters::MOST_RECORDS) {
         let q = emit_operation(out, Cursor { at: 0, counter: 0 }, g, operation);
-        return emit::answer::written(q);
+        return Ok(Written::up_to(q));
     }
     operate_sized(out, g, operation)
 }
@@ -134,10 +120,7 @@ fn operate_sized(out: &mut [u8], g: Shape, operation: Operation) -> Answer
 {
     let mut none = [0u8; 1];
     let need = emit_operation(&mut none, Cursor { at: 0, counter: 0 }, g, operation);
-    let answer = emit::answer::grant(0, out.len(), need);
-    if emit::answer::is_written(answer) {} else {
-        return answer;
-    }
+    let written = emit::answer::grant(0, out.len(), need)?;
     emit_operation(out, Cursor { at: 0, counter: 0 }, g, operation);
-    answer
+    Ok(written)
 }

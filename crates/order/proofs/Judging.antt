@@ -1,4 +1,5 @@
 -- The answer of an order that is read, by its checks in sequence, and what its two outputs hold.
+use Rattle.std.specs.Prelude.{Ok, Err}
 use Prim.Native.Nat.{ℕ, ◌+◌, ◌*◌, ◌/◌, ◌^◌, ◌≤◌, ◌<◌}
 use mathlib.Core.Path.{◌≡◌, sym, ap, ◌∙◌, subst}
 use mathlib.Core.Bool.{true, false}
@@ -17,10 +18,9 @@ use Rattle.emit.specs.Emitted.{Emits}
 use Rattle.emit.proofs.Wrote.{written_whole}
 use Rattle.layout.specs.declared.config.Shape.{Shape}
 use Rattle.layout.specs.Config.{positions}
-use Rattle.order_spec.specs.declared.answer.OrderAnswer.{OrderAnswer}
-use Rattle.order_spec.specs.declared.answer.OrderAnswer.TheVariants.{Accepted, Missing, Kind, Count, Position}
+use Rattle.order_spec.specs.declared.answer.OrderRefusal.TheVariants.{Missing, Kind, Count, Position}
 use Rattle.order_spec.specs.Writes.{count_ok, present, kinds_ok, asked}
-use Rattle.order_spec.specs.Answered.{fitting, order_accepted}
+use Rattle.order_spec.specs.Answered.{fitting, order_accepted, accepted_with, OrderAnswer}
 use Rattle.order_spec.proofs.Accepting.{Fitted, fitted_if}
 use Rattle.order_check.specs.After.{count_after}
 use Rattle.order_check.proofs.Asking.{few_after}
@@ -81,7 +81,7 @@ module _ {g : Shape} {context bindings : List ℕ} {w : Work} (ok : Writable g c
     -- an order that wants neither labels nor room, from what its one pass left
     pub at_once : {o o' : List ℕ} {q : Cursor} {count : ℕ} → Emits o (record { at = 0; counter = w.counter }) o' q (tree g context bindings w) → count ≡ count_after w.k w.order
         → w.counter + labels (tree g context bindings w) ≤ last_label → 24 * size (tree g context bindings w) ≤ room → 8 * count ≤ context_room
-        → Accepted (q.at / 24) q.counter count ≡ fits g context bindings w room context_room
+        → Ok (accepted_with (q.at / 24) q.counter count) ≡ fits g context bindings w room context_room
     unfolding fits
     at_once {q = q} {count = count} d n labelled fit after-fit =
         let t = tree g context bindings w in
@@ -104,22 +104,22 @@ module _ {g : Shape} {context bindings : List ℕ} {w : Work} (ok : Writable g c
 
 -- the checks from 4 to 8
 module _ (g : Shape) (c b : List ℕ) (w : Work) (room context_room : ℕ) where
-  pub missing : present c w.k b w.order ≡ false → Missing ≡ judged g c b w room context_room
+  pub missing : present c w.k b w.order ≡ false → Err Missing ≡ judged g c b w room context_room
   unfolding judged
   missing e = rw e
 
   module _ (p : present c w.k b w.order ≡ true) where
-    pub wrong_kind : kinds_ok c w.k b w.order ≡ false → Kind ≡ judged g c b w room context_room
+    pub wrong_kind : kinds_ok c w.k b w.order ≡ false → Err Kind ≡ judged g c b w room context_room
     unfolding judged
     wrong_kind e = rw (p, e)
 
     module _ (s : kinds_ok c w.k b w.order ≡ true) where
-      pub too_often : count_ok w.order ≡ false → Count ≡ judged g c b w room context_room
+      pub too_often : count_ok w.order ≡ false → Err Count ≡ judged g c b w room context_room
       unfolding judged
       too_often e = rw (p, s, e)
 
       module _ (n : count_ok w.order ≡ true) where
-        pub no_position : positions g < asked c w.k b w.order → Position ≡ judged g c b w room context_room
+        pub no_position : positions g < asked c w.k b w.order → Err Position ≡ judged g c b w room context_room
         unfolding judged
         no_position h = rw (p, s, n, lt-leb (asked c w.k b w.order) (positions g) h)
 

@@ -1,13 +1,10 @@
 -- An order's bytes with a context and bindings, up to causes 15 to 17 and 2: the order that is read, or the refusal.
-use Rattle.std.specs.Prelude.{ℕ, ◌≡◌, false, List, []}
-use Rattle.records.specs.declared.context.ContextRead.TheVariants.{Good}
+use Rattle.order_spec.specs.declared.answer.OrderRefusal.{OrderRefusal}
+use Rattle.std.specs.Prelude.{ℕ, ◌≡◌, List, [], Err, Ok, Result}
 use Rattle.records.specs.declared.order.Order.{Order}
 use Rattle.records.specs.Contexts.{checked_context}
 use Rattle.records.specs.Orders.{order_of, order_in, wanted}
-use Rattle.order_spec.specs.declared.answer.OrderAnswer.{OrderAnswer}
-use Rattle.order_spec.specs.Answered.{order_accepted, read}
-use Rattle.order.specs.declared.order.Begun.{Begun}
-use Rattle.order.specs.declared.order.Begun.TheVariants.{With, Refused}
+use Rattle.order_spec.specs.Answered.{read, OrderAnswer}
 use Rattle.order.specs.Answers.{asking}
 
 module _ (context order bindings : List ℕ) where
@@ -17,16 +14,15 @@ module _ (context order bindings : List ℕ) where
 
   -- the order o on a context of k variables, with as many bindings as it wants
   pub record Read (k : ℕ) (o : Order) : Type 0 where
-    pub context_good : checked_context context ≡ Good k
-    pub bindings_good : checked_context bindings ≡ Good (wanted o)
+    pub context_good : checked_context context ≡ Ok k
+    pub bindings_good : checked_context bindings ≡ Ok (wanted o)
     pub is_order : o ≡ order_of (order_in order)
     pub comes : Comes (λ answer. answer k)
 
   -- a refusal with 15 to 17 or 2
-  pub record Unread (a : OrderAnswer) : Type 0 where
-    pub refused : order_accepted a ≡ false
-    pub comes : Comes (λ answer. a)
+  pub record Unread (refusal : OrderRefusal) : Type 0 where
+    pub comes : Comes (λ answer. Err refusal)
 
-  abbrev pub Begins : Begun → Type 0
-  Begins (With k o) = Read k o
-  Begins (Refused a) = Unread a
+  abbrev pub Begins : Result (ℕ × Order) OrderRefusal → Type 0
+  Begins (Ok (k, o)) = Read k o
+  Begins (Err refusal) = Unread refusal

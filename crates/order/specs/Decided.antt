@@ -1,24 +1,22 @@
 -- The causes of the scope from 4 on, by an order that is read: what `decided` of the orders says, with the order in place of its bytes.
-use Rattle.std.specs.Prelude.{ℕ, ◌≤◌, ◌≡◌, true, cond, List, leb, length}
+use Rattle.std.specs.Prelude.{ℕ, ◌≤◌, ◌≡◌, true, cond, List, leb, length, Err, Ok}
 use Rattle.std.proofs.lemmas.List.Edits.{sets}
-use Rattle.records.specs.declared.context.ContextRead.TheVariants.{Good}
 use Rattle.records.specs.Contexts.{checked_context}
 use Rattle.records.specs.Orders.{wanted}
 use Rattle.records.specs.ReadBack.{joined, code_bytes}
 use Rattle.trees.specs.Tree.{Tree, labels, size, flat}
 use Rattle.layout.specs.declared.config.Shape.{Shape}
 use Rattle.layout.specs.Config.{Supported, positions}
-use Rattle.order_spec.specs.declared.answer.OrderAnswer.{OrderAnswer}
-use Rattle.order_spec.specs.declared.answer.OrderAnswer.TheVariants.{Missing, Kind, Count, Position}
+use Rattle.order_spec.specs.declared.answer.OrderRefusal.TheVariants.{Missing, Kind, Count, Position}
 use Rattle.order_spec.specs.Writes.{count_ok, tree_of, context_after, present, kinds_ok, asked}
-use Rattle.order_spec.specs.Answered.{fitting, order_accepted}
+use Rattle.order_spec.specs.Answered.{fitting, order_accepted, OrderAnswer}
 use Rattle.order.specs.declared.order.Work.{Work}
 
 module _ (g : Shape) (context bindings : List ℕ) (w : Work) where
   -- what writing an order asks: its context and its bindings are read, and it passes 4 and 8
   pub record Writable : Type 0 where
-    pub context_good : checked_context context ≡ Good w.k
-    pub bindings_good : checked_context bindings ≡ Good (wanted w.order)
+    pub context_good : checked_context context ≡ Ok w.k
+    pub bindings_good : checked_context bindings ≡ Ok (wanted w.order)
     pub there : present context w.k bindings w.order ≡ true
     pub placed : asked context w.k bindings w.order ≤ positions g
     pub supported : Supported g
@@ -41,7 +39,7 @@ module _ (g : Shape) (context bindings : List ℕ) (w : Work) where
         (cond (kinds_ok context w.k bindings w.order)
         (cond (count_ok w.order)
         (cond (leb (asked context w.k bindings w.order) (positions g)) fits
-        Position) Count) Kind) Missing
+        (Err Position)) (Err Count)) (Err Kind)) (Err Missing)
 
   -- an answer r that is the one expected, and two outputs: what is written from their start where it is accepted, else as they were
   pub record LeavesOrder (expected r : OrderAnswer) (o o' c c' : List ℕ) : Type 0 where

@@ -1,25 +1,23 @@
 // An order as its bytes, answered: its records in one output, the context after it in another.
-ghost use Rattle.std.specs.Prelude.{◌≡◌, true, false, ◌*◌, ◌/◌, ◌%◌, ◌<◌, ◌^◌};
-ghost use Rattle.records.specs.declared.context.ContextRead.TheVariants.{Good};
+ghost use Rattle.std.specs.Prelude.{◌≡◌, true, false, ◌*◌, ◌/◌, ◌%◌, ◌<◌, ◌^◌, Ok, Err};
 ghost use Rattle.records.specs.Contexts.{checked_context};
 ghost use Rattle.records.specs.Orders.{wanted};
 ghost use Rattle.layout.specs.declared.config.Shape.{Shape};
-ghost use Rattle.layout.specs.declared.config.Shaped.TheVariants.{In, NoEdition};
+ghost use Rattle.layout.specs.declared.config.Unshaped.TheVariants.{NoEdition};
 ghost use Rattle.layout.specs.Config.{Supported, shape_of, in_shape};
-ghost use Rattle.order_spec.specs.Answered.{fitting, order_accepted};
+ghost use Rattle.order_spec.specs.Answered.{fitting};
 ghost use Rattle.order.specs.Answers.{asking, AnswersOrder};
 ghost use Rattle.order.specs.Begun.{Begins};
 ghost use Rattle.order.specs.Decided.{Writable, Writes, Judges};
 
 use emit::cursor::Cursor;
-use layout::config::{Shape, Shaped};
+use layout::config::{Shape, Unshaped};
 use order_check::{after, checks};
 use order_emit::{bounds, emitters};
-use order_spec::answer::OrderAnswer;
+use order_spec::answer::{Accepted, OrderAnswer, OrderRefusal};
 use records::context;
-use records::context::ContextRead;
 use records::name::LAST_LABEL;
-use records::order::{Order, OrderStart};
+use records::order::Order;
 
 // 9 and 10: need is the cursor past the records, from a cursor at 0 and counter 0; `count` bindings come after them.
 fn grant(counter: u64, room: usize, context_room: usize, need: Cursor, count: u64) -> OrderAnswer
@@ -27,38 +25,24 @@ fn grant(counter: u64, room: usize, context_room: usize, need: Cursor, count: u6
     ensures { result ≡ fitting counter room context_room (need.at / 24) need.counter (8 * count) }
 {
     if LAST_LABEL < counter {
-        return OrderAnswer::Labels;
+        return Err(OrderRefusal::Labels);
     }
     let drawn = counter + need.counter;
     if LAST_LABEL < drawn {
-        return OrderAnswer::Labels;
+        return Err(OrderRefusal::Labels);
     }
     if room < need.at {
-        return OrderAnswer::Room(need.at);
+        return Err(OrderRefusal::Room(need.at));
     }
     let bytes = (8 * count) as usize;
     if context_room < bytes {
-        return OrderAnswer::Room(bytes);
+        return Err(OrderRefusal::Room(bytes));
     }
-    OrderAnswer::Accepted(need.at / 24, drawn, count as usize)
-}
-
-pub fn is_accepted(answer: OrderAnswer) -> bool
-    ensures { result ≡ order_accepted answer }
-{
-    match answer {
-        OrderAnswer::Accepted(_, _, _) => true,
-        OrderAnswer::Context(_) => false,
-        OrderAnswer::Malformed(_) => false,
-        OrderAnswer::Frame => false,
-        OrderAnswer::Missing => false,
-        OrderAnswer::Kind => false,
-        OrderAnswer::Count => false,
-        OrderAnswer::Position => false,
-        OrderAnswer::Labels => false,
-        OrderAnswer::Room(_) => false,
-        OrderAnswer::Edition => false,
-    }
+    Ok(Accepted {
+        records: need.at / 24,
+        counter: drawn,
+        bindings: count as usize,
+    })
 }
 
 // An order that is read, on the k variables of a context, and the label counter before it.
@@ -81,16 +65,17 @@ fn write_order(
     requires { Writable g context.now bindings.now work }
     ensures { Writes g context.now bindings.now work result records_out.old records_out.new context_out.old context_out.new }
 {
-    let k = work.k;
-    let counter = work.counter;
-    let order = work.order;
+    let Work { k, counter, order } = work;
     let count = after::count_after(k, order);
-    if bounds::order_ample(g, counter, records_out.len(), k, order) {
-        if 8 * count <= context_out.len() as u64 {
-            let q = emitters::emit_order(records_out, counter, g, context, k, bindings, order);
-            after::write_context(context_out, context, k, bindings, order);
-            return OrderAnswer::Accepted(q.at / 24, q.counter, count as usize);
-        }
+    let ample = bounds::order_ample(g, counter, records_out.len(), k, order);
+    if ample && 8 * count <= context_out.len() as u64 {
+        let q = emitters::emit_order(records_out, counter, g, context, k, bindings, order);
+        after::write_context(context_out, context, k, bindings, order);
+        return Ok(Accepted {
+            records: q.at / 24,
+            counter: q.counter,
+            bindings: count as usize,
+        });
     }
     write_sized(records_out, context_out, g, context, bindings, work)
 }
@@ -107,19 +92,14 @@ fn write_sized(
     requires { Writable g context.now bindings.now work }
     ensures { Writes g context.now bindings.now work result records_out.old records_out.new context_out.old context_out.new }
 {
-    let k = work.k;
-    let counter = work.counter;
-    let order = work.order;
+    let Work { k, counter, order } = work;
     let mut none = [0u8; 1];
     let need = emitters::emit_order(&mut none, 0, g, context, k, bindings, order);
     let count = after::count_after(k, order);
-    let answer = grant(counter, records_out.len(), context_out.len(), need, count);
-    if is_accepted(answer) {} else {
-        return answer;
-    }
+    let accepted = grant(counter, records_out.len(), context_out.len(), need, count)?;
     emitters::emit_order(records_out, counter, g, context, k, bindings, order);
     after::write_context(context_out, context, k, bindings, order);
-    answer
+    Ok(accepted)
 }
 
 // An order with as many bindings as it wants, by 4 to 10.
@@ -131,99 +111,75 @@ fn judge(
     bindings: &[u8],
     work: Work,
 ) -> OrderAnswer
-    requires { (checked_context context.now ≡ Good work.k) × (checked_context bindings.now ≡ Good (wanted work.order)) × Supported g }
+    requires { (checked_context context.now ≡ Ok work.k) × (checked_context bindings.now ≡ Ok (wanted work.order)) × Supported g }
     ensures { Judges g context.now bindings.now work result records_out.old records_out.new context_out.old context_out.new }
 {
-    let k = work.k;
-    let order = work.order;
+    let Work { k, order, .. } = work;
     let positions = g.spills + 11;
-    if checks::present(k, order) {} else {
-        return OrderAnswer::Missing;
+    if !checks::present(k, order) {
+        return Err(OrderRefusal::Missing);
     }
-    if checks::kinds_ok(context, k, order) {} else {
-        return OrderAnswer::Kind;
+    if !checks::kinds_ok(context, k, order) {
+        return Err(OrderRefusal::Kind);
     }
-    if checks::count_ok(order) {} else {
-        return OrderAnswer::Count;
+    if !checks::count_ok(order) {
+        return Err(OrderRefusal::Count);
     }
-    if checks::asked(context, k, order) <= positions {} else {
-        return OrderAnswer::Position;
+    if positions < checks::asked(context, k, order) {
+        return Err(OrderRefusal::Position);
     }
     write_order(records_out, context_out, g, context, bindings, work)
 }
 
-// An order whose context, bindings and bytes pass 15 to 17 and 2, with the number of the context's variables; or the refusal.
-#[derive(Clone, Copy)]
-pub enum Begun {
-    With(u64, Order),
-    Refused(OrderAnswer),
-}
-
-fn begin(context: &[u8], order: &[u8], bindings: &[u8]) -> Begun
+// The number of the context's variables and the order, where its context, bindings and bytes pass 15 to 17 and 2; or the refusal.
+fn begin(context: &[u8], order: &[u8], bindings: &[u8]) -> Result<(u64, Order), OrderRefusal>
     ensures { Begins context.now order.now bindings.now result }
 {
-    let k = match context::check_context(context) {
-        ContextRead::Good(k) => k,
-        ContextRead::Bad(flaw) => return Begun::Refused(OrderAnswer::Context(flaw)),
+    let k = context::check_context(context)?;
+    let m = context::check_after(k, bindings)?;
+    let Some(read) = records::order::read_start(order) else {
+        return Err(OrderRefusal::Malformed(1));
     };
-    let m = match context::check_after(k, bindings) {
-        ContextRead::Good(m) => m,
-        ContextRead::Bad(flaw) => return Begun::Refused(OrderAnswer::Context(flaw)),
-    };
-    let OrderStart::Starts(read) = records::order::read_start(order) else {
-        return Begun::Refused(OrderAnswer::Malformed(1));
-    };
-    if m == (records::order::wanted(read) as usize) {} else {
-        return Begun::Refused(OrderAnswer::Malformed(1));
+    if m != records::order::wanted(read) as usize {
+        return Err(OrderRefusal::Malformed(1));
     }
-    if order.len() == 24 {} else {
-        return Begun::Refused(OrderAnswer::Malformed(2));
+    if order.len() != 24 {
+        return Err(OrderRefusal::Malformed(2));
     }
-    Begun::With(k as u64, read)
+    Ok((k as u64, read))
 }
 
 // An order in an edition that there is: 15 to 17 and 2, then 3 for the frame, then 4 to 10.
 fn order_in(
     records_out: &mut [u8],
     context_out: &mut [u8],
-    shaped: Shaped,
+    shaped: Result<Shape, Unshaped>,
     context: &[u8],
     counter: u64,
     order: &[u8],
     bindings: &[u8],
 ) -> OrderAnswer
-    requires { ((g : Shape) → shaped ≡ In g → Supported g) × (shaped ≡ NoEdition → ⊥) }
+    requires { ((g : Shape) → shaped ≡ Ok g → Supported g) × (shaped ≡ Err NoEdition → ⊥) }
     ensures { AnswersOrder shaped context.now (asking order.now bindings.now counter records_out.old context_out.old) result records_out.old records_out.new context_out.old context_out.new }
 {
-    match begin(context, order, bindings) {
-        Begun::With(k, read) => match shaped {
-            Shaped::In(g) => judge(
-                records_out,
-                context_out,
-                g,
-                context,
-                bindings,
-                Work {
-                    k,
-                    counter,
-                    order: read,
-                },
-            ),
-            Shaped::NoFrame => OrderAnswer::Frame,
-            Shaped::NoEdition => OrderAnswer::Edition,
-        },
-        Begun::Refused(answer) => answer,
+    let (k, order) = begin(context, order, bindings)?;
+    match shaped {
+        Ok(g) => {
+            let work = Work { k, counter, order };
+            judge(records_out, context_out, g, context, bindings, work)
+        }
+        Err(Unshaped::NoFrame) => Err(OrderRefusal::Frame),
+        Err(Unshaped::NoEdition) => Err(OrderRefusal::Edition),
     }
 }
 
 // Whether there is such an edition.
-fn is_edition(shaped: Shaped) -> bool
+fn is_edition(shaped: Result<Shape, Unshaped>) -> bool
     ensures { result ≡ in_shape shaped (λ g. true) true false }
 {
     match shaped {
-        Shaped::In(_) => true,
-        Shaped::NoFrame => true,
-        Shaped::NoEdition => false,
+        Ok(_) | Err(Unshaped::NoFrame) => true,
+        Err(Unshaped::NoEdition) => false,
     }
 }
 
@@ -241,8 +197,8 @@ pub fn order(
     ensures { AnswersOrder (shape_of edition frame) context.now (asking order.now bindings.now counter records_out.old context_out.old) result records_out.old records_out.new context_out.old context_out.new }
 {
     let shaped = layout::config::shape_of(edition, frame);
-    if is_edition(shaped) {} else {
-        return OrderAnswer::Edition;
+    if !is_edition(shaped) {
+        return Err(OrderRefusal::Edition);
     }
     order_in(
         records_out,

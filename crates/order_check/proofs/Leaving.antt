@@ -1,5 +1,5 @@
 -- The context after an order: how long it is, and that what is kept and what is made or brought are it.
-use Prim.Native.Nat.{ℕ, ◌*◌, ◌-◌, ◌≤◌, ◌<◌}
+use Prim.Native.Nat.{ℕ, ◌*◌, ◌-◌, ◌≤◌}
 use mathlib.Core.Path.{◌≡◌, subst}
 use mathlib.Core.Bool.{Bool}
 use mathlib.Core.List.{List, ◌++◌, append-nil}
@@ -19,15 +19,6 @@ use Rattle.order_check.proofs.Making.{binding_long, made_long}
 
 -- a fact of an order that is another
 module _ (k : ℕ) {o x : Order} (e : o ≡ x) where
-  pub count_below : (m : ℕ) → count_after k o < m → count_after k x < m
-  count_below m h = subst (λ (y : Order). count_after k y < m) e h
-
-  pub room_left : (l : ℕ) → 8 * count_after k o ≤ l → 8 * count_after k x ≤ l
-  room_left l h = subst (λ (y : Order). 8 * count_after k y ≤ l) e h
-
-  pub brought : (l : ℕ) → l ≡ 8 * wanted o → l ≡ 8 * wanted x
-  brought l h = subst (λ (y : Order). l ≡ 8 * wanted y) e h
-
   pub enough : (l : ℕ) → 8 * wanted o ≤ l → 8 * wanted x ≤ l
   enough l h = subst (λ (y : Order). 8 * wanted y ≤ l) e h
 

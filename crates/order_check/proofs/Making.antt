@@ -1,8 +1,7 @@
 -- One binding of those to make.
 use Prim.Native.Nat.{ℕ, zero, suc, ◌+◌, ◌*◌, ◌-◌, ◌≤◌, ◌<◌}
-use mathlib.Core.Path.{◌≡◌, refl, sym}
+use mathlib.Core.Path.{◌≡◌, refl, ◌∙◌}
 use mathlib.Core.List.{List}
-use native.Mathlib.Numerals.{add-one}
 use native.Mathlib.Omega.{arith}
 use lib.ListN.{length, length-append}
 use lib.Seq.{sets}
@@ -22,15 +21,21 @@ made_long kind place zero = refl
 made_long kind place (suc n) =
     omega (arith, length-append (made kind place) (made_all kind (suc place) n), binding_long (record { kind = kind; id = place }), made_long kind (suc place) n)
 
--- one binding made of those left
-pub next_made : {o' : List ℕ} (o : List ℕ) (at : ℕ) (kind : Kind) (place n : ℕ) → 0 < n → at + 8 * n ≤ length o → o' ≡ stored o at (made kind place)
-    → sets o at (made_all kind place n) ≡ sets o' (at + 8) (made_all kind (place + 1) (n - 1))
-next_made o at kind place zero h l e = absurd (omega arith)
-next_made o at kind place (suc n) h l e =
-    let m : suc n - 1 ≡ n = omega arith in
-    let b = binding_long (record { kind = kind; id = place }) in
-    rw (m, add-one place, e, ← (stored_whole o at (made kind place) (omega arith)))
-    (sym (sets_then (made kind place) (made_all kind (suc place) n) o at (at + 8) (omega arith)))
+-- n to make from a byte on, of which i are made
+module _ (t : List ℕ) (at : ℕ) (kind : Kind) (place n : ℕ) where
+  abbrev pub Left : ℕ → List ℕ → Type 0
+  Left i o' = sets o' (at + 8 * i) (made_all kind (place + i) (n - i)) ≡ t
 
-pub none_made : (o t : List ℕ) (at : ℕ) (kind : Kind) (place : ℕ) {n : ℕ} → n ≡ 0 → sets o at (made_all kind place n) ≡ t → o ≡ t
-none_made o t at kind place z e = rw z at e
+  pub none_yet : (o : List ℕ) → sets o at (made_all kind place n) ≡ t → Left 0 o
+  none_yet o e = let z : at + 8 * 0 ≡ at = omega arith in let p : place + 0 ≡ place = omega arith in let m : n - 0 ≡ n = omega arith in rw (z, p, m) e
+
+  pub next_made : (i : ℕ) (o₁ : List ℕ) {o₂ : List ℕ} → i < n → at + 8 * n ≤ length o₁ → o₂ ≡ stored o₁ (at + 8 * i) (made kind (place + i)) → Left i o₁ → Left (i + 1) o₂
+  next_made i o₁ h l e left =
+      let m : n - i ≡ suc (n - (i + 1)) = omega arith in
+      let p : place + (i + 1) ≡ suc (place + i) = omega arith in
+      let b = binding_long (record { kind = kind; id = place + i }) in
+      let s = sets_then (made kind (place + i)) (made_all kind (suc (place + i)) (n - (i + 1))) o₁ (at + 8 * i) (at + 8 * (i + 1)) (omega arith) in
+      rw (e, p, ← (stored_whole o₁ (at + 8 * i) (made kind (place + i)) (omega arith))) (s ∙ rw m at left)
+
+  pub all_made : (i : ℕ) {o' : List ℕ} → n ≤ i → Left i o' → o' ≡ t
+  all_made i h left = let z : n - i ≡ 0 = omega arith in rw z at left

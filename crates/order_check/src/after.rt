@@ -17,9 +17,9 @@ pub fn count_after(k: u64, order: Order) -> u64
         Order::Put(_) => k + 1,
         Order::Compute(_, _, _) => k + 1,
         Order::Copy(_, n) => k + (n as u64),
-        Order::Drop => layout::utils::excess(k, 1),
-        Order::Store(n, _) => layout::utils::excess(k, n as u64) + 1,
-        Order::Load(n) => layout::utils::excess(k, 1) + (n as u64),
+        Order::Drop => k.saturating_sub(1),
+        Order::Store(n, _) => k.saturating_sub(n as u64) + 1,
+        Order::Load(n) => k.saturating_sub(1) + (n as u64),
         Order::Print(_, _) => k,
     }
 }
@@ -29,21 +29,9 @@ fn make_bindings(out: &mut [u8], at: usize, kind: Kind, place: u64, n: u64)
     requires { (place + n < 2 ^ 32) × (at + 8 * n ≤ length out.old) }
     ensures { out.new ≡ sets out.old at (made_all kind place n) }
 {
-    let mut to = at;
-    let mut id = place;
-    let mut left = n;
-    while 0 < left {
-        records::binding::write_binding(
-            out,
-            to,
-            Binding {
-                kind,
-                id: id as u32,
-            },
-        );
-        to += 8;
-        id += 1;
-        left -= 1;
+    for i in 0..n {
+        let id = (place + i) as u32;
+        records::binding::write_binding(out, at + 8 * (i as usize), Binding { kind, id });
     }
 }
 

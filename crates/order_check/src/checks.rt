@@ -1,24 +1,20 @@
 // What an order asks, by the causes of the scope: the bindings that follow it, its places, their kinds, its count, its positions.
-ghost use Rattle.std.specs.Prelude.{◌≡◌, true, not, ◌&&◌, cond, List, ℕ, ◌+◌, ◌*◌, ◌<◌, ◌≤◌, ◌^◌, ltb, eqb, length};
+ghost use Rattle.std.specs.Prelude.{◌≡◌, true, cond, List, ℕ, ◌+◌, ◌*◌, ◌<◌, ◌≤◌, ◌^◌, eqb, length};
 ghost use Rattle.records.specs.Contexts.{ext_at};
 ghost use Rattle.order_spec.specs.Writes.{count_ok, present, kinds_ok, asked};
 
+use layout::utils::is_ext;
 use records::name::MOST_COUNT;
 use records::order::Order;
 
-fn both_below(a: u64, b: u64, k: u64) -> bool
-    ensures { result ≡ (ltb a k && ltb b k) }
-{
-    if a < k { b < k } else { false }
-}
-
 // 4: its places are among k variables.
+#[tactic(auto, unfolding(order_spec::specs::Writes::present))]
 pub fn present(k: u64, order: Order) -> bool
     ensures { (context bindings : List ℕ) → result ≡ present context k bindings order }
 {
     match order {
         Order::Put(_) => true,
-        Order::Compute(_, a, b) => both_below(a as u64, b as u64, k),
+        Order::Compute(_, a, b) => (a as u64) < k && (b as u64) < k,
         Order::Copy(a, _) => (a as u64) < k,
         Order::Drop => 0 < k,
         Order::Store(n, _) => (n as u64) <= k,
@@ -27,41 +23,17 @@ pub fn present(k: u64, order: Order) -> bool
     }
 }
 
-fn both_ext(context: &[u8], a: u64, b: u64) -> bool
-    requires { (8 * a + 8 ≤ length context.now) × (8 * b + 8 ≤ length context.now) }
-    ensures { result ≡ (ext_at context.now a && ext_at context.now b) }
-{
-    if layout::utils::is_ext(context, a) {
-        layout::utils::is_ext(context, b)
-    } else {
-        false
-    }
-}
-
-fn is_linked(context: &[u8], a: u64) -> bool
-    requires { 8 * a + 8 ≤ length context.now }
-    ensures { result ≡ not (ext_at context.now a) }
-{
-    if layout::utils::is_ext(context, a) {
-        false
-    } else {
-        true
-    }
-}
-
 // 5: compute and print take integers, load a linked variable.
+#[tactic(auto, unfolding(order_spec::specs::Writes::kinds_ok))]
 pub fn kinds_ok(context: &[u8], k: u64, order: Order) -> bool
     requires { (8 * k ≤ length context.now) × (k ≤ 4096) × ((bindings : List ℕ) → present context.now k bindings order ≡ true) }
     ensures { (bindings : List ℕ) → result ≡ kinds_ok context.now k bindings order }
 {
     match order {
-        Order::Put(_) => true,
-        Order::Compute(_, a, b) => both_ext(context, a as u64, b as u64),
-        Order::Copy(_, _) => true,
-        Order::Drop => true,
-        Order::Store(_, _) => true,
-        Order::Load(_) => is_linked(context, k - 1),
-        Order::Print(_, a) => layout::utils::is_ext(context, a as u64),
+        Order::Compute(_, a, b) => is_ext(context, a as u64) && is_ext(context, b as u64),
+        Order::Load(_) => !is_ext(context, k - 1),
+        Order::Print(_, a) => is_ext(context, a as u64),
+        Order::Put(_) | Order::Copy(_, _) | Order::Drop | Order::Store(_, _) => true,
     }
 }
 
@@ -70,13 +42,8 @@ pub fn count_ok(order: Order) -> bool
     ensures { result ≡ count_ok order }
 {
     match order {
-        Order::Put(_) => true,
-        Order::Compute(_, _, _) => true,
         Order::Copy(_, n) => (n as u64) <= MOST_COUNT,
-        Order::Drop => true,
-        Order::Store(_, _) => true,
-        Order::Load(_) => true,
-        Order::Print(_, _) => true,
+        _ => true,
     }
 }
 
@@ -85,11 +52,7 @@ fn asked_linked(context: &[u8], a: u64) -> u64
     requires { (8 * a + 8 ≤ length context.now) × (a ≤ 4096) }
     ensures { result ≡ cond (ext_at context.now a) 0 (2 * a + 1) }
 {
-    if layout::utils::is_ext(context, a) {
-        0
-    } else {
-        2 * a + 1
-    }
+    if is_ext(context, a) { 0 } else { 2 * a + 1 }
 }
 
 fn asked_copy(context: &[u8], k: u64, a: u64, n: u64) -> u64
@@ -109,6 +72,7 @@ fn asked_if(n: u64, none: u64, some: u64) -> u64
 }
 
 // 8: one past the highest position that it asks for, 0 where it asks for none.
+#[tactic(auto, unfolding(order_spec::specs::Writes::asked))]
 pub fn asked(context: &[u8], k: u64, order: Order) -> u64
     requires { (8 * k ≤ length context.now) × (k ≤ 4096) × ((bindings : List ℕ) → present context.now k bindings order ≡ true) }
     ensures { (bindings : List ℕ) → result ≡ asked context.now k bindings order }

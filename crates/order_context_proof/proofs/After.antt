@@ -1,4 +1,5 @@
 -- After each accepted order the context is accepted again, with a binding for each of the plain machine's values, of its kind.
+use Rattle.std.specs.Prelude.{Ok}
 use Prim.Native.Nat.{ℕ, zero, suc, ◌+◌, ◌*◌, ◌-◌, ◌≤◌}
 use mathlib.Core.Path.{◌≡◌, refl, ◌∙◌}
 use mathlib.Core.Bool.{true, cond}
@@ -7,7 +8,6 @@ use native.Mathlib.Omega.{arith}
 use lib.Dec.{eqb}
 use lib.ListN.{take}
 use borrow.Author.Tests.{ltb-true, leb-true, ne_eqb}
-use Rattle.records.specs.declared.context.ContextRead.TheVariants.{Good}
 use Rattle.records.specs.declared.binding.Kind.{Kind}
 use Rattle.records.specs.declared.binding.Kind.TheVariants.{Linked, Ext}
 use Rattle.records.specs.declared.order.Order.{Order}
@@ -25,7 +25,7 @@ use Rattle.order_context_proof.proofs.ValueKinds.{count_joined, count_first, cou
 
 -- an accepted context with a binding for each value, of its kind
 abbrev pub ContextOf : List ℕ → Values → Type 0
-ContextOf s vs = (checked_context s ≡ Good (count_of vs)) × KindsFrom (ext_at s) 0 vs
+ContextOf s vs = (checked_context s ≡ Ok (count_of vs)) × KindsFrom (ext_at s) 0 vs
 
 -- ---- the parts of which contexts are made
 
@@ -90,7 +90,7 @@ module _ (context bindings : List ℕ) (k : ℕ) (vs : Values) (count : count_of
       rw (count_joined (first_of (count_of vs - 1) vs), count_first (count_of vs - 1) vs (omega arith), c) (omega arith)
   count_within most limit (Print newline x) h l p a q = omega arith
 
-  module _ (good : checked_context context ≡ Good k) (kinds : KindsFrom (ext_at context) 0 vs) where
+  module _ (good : checked_context context ≡ Ok k) (kinds : KindsFrom (ext_at context) 0 vs) where
     before : ContextOf context vs
     before = (rw count good, kinds)
 
@@ -99,7 +99,7 @@ module _ (context bindings : List ℕ) (k : ℕ) (vs : Values) (count : count_of
     kept_then n t ws l b h =
         context_joined (take (8 * n) context) t (first_of n vs) ws (context_first context vs n before (omega arith)) b (omega (arith, count_first n vs (omega arith)))
 
-    pub context_after_lem : (most : ℕ) (o : Order) → most ≤ 2 * 4096 + 1 → checked_context bindings ≡ Good (wanted o) → present context k bindings o ≡ true
+    pub context_after_lem : (most : ℕ) (o : Order) → most ≤ 2 * 4096 + 1 → checked_context bindings ≡ Ok (wanted o) → present context k bindings o ≡ true
         → asked context k bindings o ≤ most → OwedKinds bindings o vs
         → ContextOf (context_after context k bindings o) (plainly o vs)
     unfolding context_after plainly present asked

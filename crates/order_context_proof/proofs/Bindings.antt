@@ -1,4 +1,5 @@
 -- Accepted contexts joined, shortened and made are accepted again.
+use Rattle.std.specs.Prelude.{Ok}
 use Prim.Native.Nat.{ℕ, zero, suc, ◌+◌, ◌*◌, ◌-◌, ◌≤◌, ◌<◌}
 use mathlib.Core.Path.{◌≡◌, refl, sym, ◌∙◌}
 use mathlib.Core.Bool.{true}
@@ -8,7 +9,6 @@ use native.Mathlib.Decide.{dec_lt}
 use lib.ListN.{length, get_or, take, drop, length-append, length-drop, take-append-drop, get_or-append}
 use lib.Seq.{length-take-le, drop-append-le, drop-append-add}
 use borrow.Author.Tests.{le-leb}
-use Rattle.records.specs.declared.context.ContextRead.TheVariants.{Good}
 use Rattle.records.specs.declared.binding.Kind.{Kind}
 use Rattle.records.specs.declared.binding.Kind.TheVariants.{Linked, Ext}
 use Rattle.records.specs.Bytes.{le}
@@ -16,7 +16,7 @@ use Rattle.records.specs.Contexts.{binding_bytes, first_flaw, binding_starts, ch
 use Rattle.records.proofs.ContextsRead.{Bindings, whole, is_accepted_lem}
 use Rattle.order_spec.specs.Writes.{made, made_all}
 
-pub good_length : (s : List ℕ) {n : ℕ} → checked_context s ≡ Good n → (length s ≡ 8 * n) × (n ≤ 4096)
+pub good_length : (s : List ℕ) {n : ℕ} → checked_context s ≡ Ok n → (length s ≡ 8 * n) × (n ≤ 4096)
 good_length s e = let b = whole s e in (b.long, b.within)
 
 -- a binding at the start is not changed by what follows it
@@ -46,7 +46,7 @@ module _ (s t : List ℕ) {k m : ℕ} (a : Bindings s k) (b : Bindings t m) (h :
       by i l (yes q) = starts_left s t k a.long i q ∙ a.each i q
       by i l (no q) = starts_right s t k a.long i (omega arith) ∙ b.each (i - k) (omega arith)
 
-pub good_append : (s t : List ℕ) {k m : ℕ} → checked_context s ≡ Good k → checked_context t ≡ Good m → k + m ≤ 4096 → checked_context (s ++ t) ≡ Good (k + m)
+pub good_append : (s t : List ℕ) {k m : ℕ} → checked_context s ≡ Ok k → checked_context t ≡ Ok m → k + m ≤ 4096 → checked_context (s ++ t) ≡ Ok (k + m)
 good_append s t a b h = is_accepted_lem (s ++ t) (bindings_append s t (whole s a) (whole t b) h)
 
 -- the first n of k
@@ -60,19 +60,19 @@ bindings_take s n b h =
       each = λ i q. sym (starts_left (take (8 * n) s) (drop (8 * n) s) n l i q) ∙ rw e (b.each i (omega arith));
     }
 
-pub good_take : (s : List ℕ) (n : ℕ) {k : ℕ} → checked_context s ≡ Good k → n ≤ k → checked_context (take (8 * n) s) ≡ Good n
+pub good_take : (s : List ℕ) (n : ℕ) {k : ℕ} → checked_context s ≡ Ok k → n ≤ k → checked_context (take (8 * n) s) ≡ Ok n
 good_take s n a h = is_accepted_lem (take (8 * n) s) (bindings_take s n (whole s a) h)
 
-pub good_none : checked_context [] ≡ Good 0
+pub good_none : checked_context [] ≡ Ok 0
 unfolding checked_context first_flaw
 good_none = refl
 
-pub good_made : (kind : Kind) (place : ℕ) → checked_context (made kind place) ≡ Good 1
+pub good_made : (kind : Kind) (place : ℕ) → checked_context (made kind place) ≡ Ok 1
 unfolding checked_context first_flaw binding_bytes le
 good_made Linked place = refl
 good_made Ext place = refl
 
-pub good_made_all : (kind : Kind) (place n : ℕ) → n ≤ 4096 → checked_context (made_all kind place n) ≡ Good n
+pub good_made_all : (kind : Kind) (place n : ℕ) → n ≤ 4096 → checked_context (made_all kind place n) ≡ Ok n
 good_made_all kind place zero h = good_none
 good_made_all kind place (suc n) h =
     let e : 1 + n ≡ suc n = omega arith in

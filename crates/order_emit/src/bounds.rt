@@ -25,7 +25,7 @@ pub fn order_ample(g: Shape, counter: u64, room: usize, k: u64, order: Order) ->
         ),
         Order::Drop => emit::answer::ample(counter, room, ERASE_LABELS, ERASE_RECORDS),
         Order::Store(n, _) => {
-            let v = layout::utils::excess(k, n as u64);
+            let v = k.saturating_sub(n as u64);
             memory_bounds::store_ample(g, counter, room, v, n as u64, 1)
         }
         Order::Load(n) => memory_bounds::load_ample(g, counter, room, n as u64),

@@ -67,12 +67,8 @@ fn copy_to(out: &mut [u8], p: Cursor, g: Shape, ext: bool, a: u64, v: u64, n: u6
     ensures { Emits out.old p out.new result (copy_to g ext a v n) }
 {
     let mut q = p;
-    let mut to = v;
-    let mut left = n;
-    while 0 < left {
-        q = copy_variable(out, q, g, ext, a, to);
-        to += 1;
-        left -= 1;
+    for i in 0..n {
+        q = copy_variable(out, q, g, ext, a, v + i);
     }
     q
 }

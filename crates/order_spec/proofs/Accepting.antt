@@ -1,4 +1,6 @@
 -- What an accepted order says of its context, its bindings, its operands and its outputs.
+use Rattle.records.specs.declared.context.Flaw.{Flaw}
+use Rattle.std.specs.Prelude.{Ok, Err, Result}
 use Prim.Native.Nat.{ℕ, ◌+◌, ◌*◌, ◌/◌, ◌≤◌}
 use mathlib.Core.Path.{◌≡◌, refl, sym, ap, ◌∙◌}
 use mathlib.Core.Bool.{true}
@@ -6,8 +8,6 @@ use mathlib.Core.List.{List}
 use lib.Dec.{ltb, leb, eqb}
 use lib.ListN.{length}
 use borrow.Author.Tests.{eqb-true, ltb-false, leb-true}
-use Rattle.records.specs.declared.context.ContextRead.{ContextRead}
-use Rattle.records.specs.declared.context.ContextRead.TheVariants as checked
 use Rattle.records.specs.Contexts.{checked_context, counted_on, on_context}
 use Rattle.records.specs.Orders.{order_starts, wanted}
 use Rattle.records.proofs.Conditions.{chosen, passed, never}
@@ -16,17 +16,16 @@ use Rattle.records.specs.Names.{last_label}
 use Rattle.trees.specs.Tree.{Tree, labels, size}
 use Rattle.layout.specs.declared.config.Shape.{Shape}
 use Rattle.layout.specs.Config.{positions}
-use Rattle.order_spec.specs.declared.answer.OrderAnswer.{OrderAnswer}
-use Rattle.order_spec.specs.declared.answer.OrderAnswer.TheVariants.{Accepted, Context, Malformed, Missing, Kind, Count, Position, Labels, Room}
+use Rattle.order_spec.specs.declared.answer.OrderRefusal.TheVariants.{Context, Malformed, Missing, Kind, Count, Position, Labels, Room}
 use Rattle.order_spec.specs.Writes.{count_ok, tree_of, context_after, present, kinds_ok, asked}
-use Rattle.order_spec.specs.Answered.{Asked, order_accepted, order_is, fitting, order_granted, decided, answer_to}
+use Rattle.order_spec.specs.Answered.{Asked, order_accepted, order_is, fitting, order_granted, decided, answer_to, accepted_with, OrderAnswer}
 
 -- the answer to an accepted order of records t and the context after them
 abbrev pub acceptance : Asked → Tree → List ℕ → OrderAnswer
-acceptance q t after = Accepted (size t) (q.counter + labels t) (length after / 8)
+acceptance q t after = Ok (accepted_with (size t) (q.counter + labels t) (length after / 8))
 
 pub record Taken (G : Shape) (context : List ℕ) (q : Asked) (k : ℕ) : Type 0 where
-  pub bindings_good : checked_context q.bindings ≡ checked.Good (wanted (order_is q))
+  pub bindings_good : checked_context q.bindings ≡ Ok (wanted (order_is q))
   pub starts : order_starts q.order ≡ true
   pub alone : eqb (length q.order) 24 ≡ true
   pub there : present context k q.bindings (order_is q) ≡ true
@@ -38,9 +37,9 @@ pub record Taken (G : Shape) (context : List ℕ) (q : Asked) (k : ℕ) : Type 0
   pub context_fits : length (context_after context k q.bindings (order_is q)) ≤ q.context_room
   pub answer : answer_to G context q ≡ acceptance q (tree_of G context k q.bindings (order_is q)) (context_after context k q.bindings (order_is q))
 
-on_good : (c : ContextRead) (f : ℕ → OrderAnswer) → order_accepted (on_context c f Context) ≡ true → (k : ℕ) × (c ≡ checked.Good k) × (order_accepted (f k) ≡ true)
-on_good (checked.Good k) f e = (k, refl, e)
-on_good (checked.Bad flaw) f e = never e
+on_good : (c : Result ℕ Flaw) (f : ℕ → OrderAnswer) → order_accepted (on_context c f (λ flaw. Err (Context flaw))) ≡ true → (k : ℕ) × (c ≡ Ok k) × (order_accepted (f k) ≡ true)
+on_good (Ok k) f e = (k, refl, e)
+on_good (Err flaw) f e = never e
 
 -- what an accepted answer says of 9 and 10
 module _ (counter room context_room n drawn after : ℕ) where
@@ -48,13 +47,13 @@ module _ (counter room context_room n drawn after : ℕ) where
     pub labelled : counter + drawn ≤ last_label
     pub records_fit : 24 * n ≤ room
     pub context_fits : after ≤ context_room
-    pub answer : fitting counter room context_room n drawn after ≡ Accepted n (counter + drawn) (after / 8)
+    pub answer : fitting counter room context_room n drawn after ≡ Ok (accepted_with n (counter + drawn) (after / 8))
 
   pub fitted_if : order_accepted (fitting counter room context_room n drawn after) ≡ true → Fitted
   fitted_if e =
-      let a = passed order_accepted (ltb last_label (counter + drawn)) Labels _ refl e in
-      let b = passed order_accepted (ltb room (24 * n)) (Room (24 * n)) _ refl a.1 in
-      let c = passed order_accepted (ltb context_room after) (Room after) _ refl b.1 in
+      let a = passed order_accepted (ltb last_label (counter + drawn)) (Err Labels) _ refl e in
+      let b = passed order_accepted (ltb room (24 * n)) (Err (Room (24 * n))) _ refl a.1 in
+      let c = passed order_accepted (ltb context_room after) (Err (Room after)) _ refl b.1 in
       record {
         labelled = ltb-false last_label (counter + drawn) a.0;
         records_fit = ltb-false room (24 * n) b.0;
@@ -80,10 +79,10 @@ module _ (G : Shape) (context : List ℕ) (q : Asked) (k : ℕ) where
 
   decided_if : order_accepted (decided G context k q) ≡ true → Decided
   decided_if e =
-      let a = chosen order_accepted (present context k q.bindings (order_is q)) _ Missing refl e in
-      let b = chosen order_accepted (kinds_ok context k q.bindings (order_is q)) _ Kind refl a.1 in
-      let c = chosen order_accepted (count_ok (order_is q)) _ Count refl b.1 in
-      let d = chosen order_accepted (leb (asked context k q.bindings (order_is q)) (positions G)) _ Position refl c.1 in
+      let a = chosen order_accepted (present context k q.bindings (order_is q)) _ (Err Missing) refl e in
+      let b = chosen order_accepted (kinds_ok context k q.bindings (order_is q)) _ (Err Kind) refl a.1 in
+      let c = chosen order_accepted (count_ok (order_is q)) _ (Err Count) refl b.1 in
+      let d = chosen order_accepted (leb (asked context k q.bindings (order_is q)) (positions G)) _ (Err Position) refl c.1 in
       let g = granted_if q (tree_of G context k q.bindings (order_is q)) (context_after context k q.bindings (order_is q)) d.1 in
       record {
         there = a.0;
@@ -95,7 +94,7 @@ module _ (G : Shape) (context : List ℕ) (q : Asked) (k : ℕ) where
       }
 
 -- an order that passes 15 to 17 and 2, and one that passes 4 to 8
-pub all_passed : (G : Shape) (context : List ℕ) (q : Asked) {k m : ℕ} → checked_context context ≡ checked.Good k → checked_context q.bindings ≡ checked.Good m → order_starts q.order ≡ true
+pub all_passed : (G : Shape) (context : List ℕ) (q : Asked) {k m : ℕ} → checked_context context ≡ Ok k → checked_context q.bindings ≡ Ok m → order_starts q.order ≡ true
     → eqb m (wanted (order_is q)) ≡ true → eqb (length q.order) 24 ≡ true → answer_to G context q ≡ decided G context k q
 unfolding answer_to
 all_passed G context q c b s n w = rw (c, b, s, n, w)
@@ -105,23 +104,23 @@ pub all_judged : (G : Shape) (context : List ℕ) (q : Asked) (k : ℕ) → pres
     → decided G context k q ≡ order_granted q (tree_of G context k q.bindings (order_is q)) (context_after context k q.bindings (order_is q))
 all_judged G context q k a b c d = rw (a, b, c, d)
 
-pub good_context : (G : Shape) (context : List ℕ) (q : Asked) → order_accepted (answer_to G context q) ≡ true → (k : ℕ) × (checked_context context ≡ checked.Good k)
+pub good_context : (G : Shape) (context : List ℕ) (q : Asked) → order_accepted (answer_to G context q) ≡ true → (k : ℕ) × (checked_context context ≡ Ok k)
 unfolding answer_to
 good_context G context q e = let a = on_good (checked_context context) _ e in (a.0, a.1)
 
-pub taken : (G : Shape) (context : List ℕ) (q : Asked) (k : ℕ) → checked_context context ≡ checked.Good k → order_accepted (answer_to G context q) ≡ true → Taken G context q k
+pub taken : (G : Shape) (context : List ℕ) (q : Asked) (k : ℕ) → checked_context context ≡ Ok k → order_accepted (answer_to G context q) ≡ true → Taken G context q k
 unfolding answer_to
 taken G context q k good e =
     let a = on_good (checked_context context) _ e in
     let same : a.0 ≡ k = good_same (sym a.1 ∙ good) in
     let b = on_good (counted_on a.0 (checked_context q.bindings)) _ a.2 in
     let bindings = counted_good a.0 (checked_context q.bindings) b.1 in
-    let c = chosen order_accepted (order_starts q.order) _ (Malformed 1) refl b.2 in
-    let d = chosen order_accepted (eqb b.0 (wanted (order_is q))) _ (Malformed 1) refl c.1 in
-    let f = chosen order_accepted (eqb (length q.order) 24) _ (Malformed 2) refl d.1 in
+    let c = chosen order_accepted (order_starts q.order) _ (Err (Malformed 1)) refl b.2 in
+    let d = chosen order_accepted (eqb b.0 (wanted (order_is q))) _ (Err (Malformed 1)) refl c.1 in
+    let f = chosen order_accepted (eqb (length q.order) 24) _ (Err (Malformed 2)) refl d.1 in
     let g = decided_if G context q k (rw same at f.1) in
     record {
-      bindings_good = bindings ∙ ap checked.Good (eqb-true b.0 (wanted (order_is q)) d.0);
+      bindings_good = bindings ∙ ap Ok (eqb-true b.0 (wanted (order_is q)) d.0);
       starts = c.0;
       alone = f.0;
       there = g.there;
@@ -134,5 +133,5 @@ taken G context q k good e =
       answer = all_passed G context q good bindings c.0 d.0 f.0 ∙ g.answer;
     }
   where
-    good_same : {j : ℕ} → checked.Good j ≡ checked.Good k → j ≡ k
+    good_same : {j : ℕ} → ◌≡◌ {A = Result ℕ Flaw} (Ok j) (Ok k) → j ≡ k
     good_same e = cc

@@ -1,10 +1,20 @@
 // What an order is answered with.
+ghost use Rattle.std.specs.Prelude.{◌≡◌};
+ghost use Rattle.order_spec.specs.declared.answer.OrderRefusal.TheVariants.{Context};
+
 use records::context::Flaw;
 
-// Accepted, with the number of records, the counter after them and the number of bindings in the context after them; or refused, by the documents' causes.
-#[derive(Clone, Copy)]
-pub enum OrderAnswer {
-    Accepted(usize, u64, usize),
+// The number of records, the counter after them and the number of bindings in the context after them.
+#[derive(Clone, Copy, Debug, PartialEq, Eq)]
+pub struct Accepted {
+    pub records: usize,
+    pub counter: u64,
+    pub bindings: usize,
+}
+
+// Why an order is refused, by the documents' causes.
+#[derive(Clone, Copy, Debug, PartialEq, Eq)]
+pub enum OrderRefusal {
     // 15 to 17: what is bad in the context or in the bindings, with its place; those of the bindings count on
     Context(Flaw),
     // 2: the order, or the number of its bindings, with the record's place
@@ -26,3 +36,14 @@ pub enum OrderAnswer {
     // 23: no such edition, before all others
     Edition,
 }
+
+impl From<Flaw> for OrderRefusal {
+    ghost from_gives = { λ flaw refusal. refusal ≡ Context flaw };
+
+    fn from(flaw: Flaw) -> OrderRefusal {
+        OrderRefusal::Context(flaw)
+    }
+}
+
+// An order's answer: accepted, or refused.
+pub type OrderAnswer = Result<Accepted, OrderRefusal>;

@@ -9,7 +9,7 @@ use lib.Seq.{take-nil}
 use Rattle.records.specs.declared.binding.Kind.{Kind}
 use Rattle.records.specs.declared.binding.Binding.{Binding}
 use Rattle.records.specs.declared.order.Order.{Order}
-use Rattle.records.specs.declared.order.Order.TheVariants.{Load}
+use Rattle.records.specs.declared.order.Order.TheVariants.{Put, Compute, Copy, Drop, Store, Load, Print}
 use Rattle.records.specs.Bytes.{le, stored}
 use Rattle.records.specs.Contexts.{binding_bytes}
 use Rattle.records.specs.Orders.{order_fields_of, order_bytes}
@@ -88,6 +88,15 @@ module _ (n k : ℕ) (ws : Words) {i j : ℕ} {o o' all : List ℕ} (b : Begun (
   all_kinds h g = let z : n - k ≡ 0 = omega arith in all_put b (8 * n) (rw z) (omega arith)
 
 -- what follows an order: a load's bindings, or nothing
+pub none_follow : (order : Order) (ws : Words) → ((n : ℕ) → order ≡ Load n → ⊥) → following order ws ≡ []
+none_follow (Load n) ws h = absurd (h n refl)
+none_follow (Put v) ws h = refl
+none_follow (Compute operation a b) ws h = refl
+none_follow (Copy a n) ws h = refl
+none_follow Drop ws h = refl
+none_follow (Store n tag) ws h = refl
+none_follow (Print newline a) ws h = refl
+
 module _ {order : Order} {ws : Words} {n : ℕ} (e : order ≡ Load n) where
   pub load_follows : {w : List ℕ} {rest : Words} {most i j : ℕ} {o o' : List ℕ} → ws ≡ w ∷ rest
       → Puts most o i o' j (bindings 0 (take n rest)) → Puts most o i o' j (following order ws)

@@ -1,4 +1,6 @@
 -- The order of a line is well formed, and a load has as many kinds as its n says.
+use Rattle.plan_line.specs.declared.wrong.Wrong.{Wrong}
+use Rattle.std.specs.Prelude.{Err, Ok, None, Some, Option, Result}
 use Prim.Native.Nat.{ℕ, suc, ◌+◌, ◌^◌, ◌≤◌, ◌<◌}
 use mathlib.Core.Path.{◌≡◌, refl}
 use mathlib.Core.Bool.{Bool, true, false, cond}
@@ -15,26 +17,20 @@ use Rattle.records.specs.Orders.{order_fields_of, order_readers, order_of, used_
 use Rattle.records.specs.ReadBack.{WellFormedOrder}
 use Rattle.records.proofs.Conditions.{both_ways}
 use Rattle.plan_line.specs.declared.wrong.Wrong.TheVariants.{OutOfRange, NotTag, NotNewline, NotKind, TooManyKinds, MissingWord}
-use Rattle.plan_line.specs.declared.numbers.Number.{Number}
-use Rattle.plan_line.specs.declared.numbers.Number.TheVariants.{Value, NoValue}
-use Rattle.plan_line.specs.declared.orders.Line.{Line}
-use Rattle.plan_line.specs.declared.orders.Line.TheVariants.{Empty, Asks, Faulty}
 use Rattle.plan_line.specs.declared.orders.Named.{Named}
 use Rattle.plan_line.specs.declared.orders.Named.TheVariants.{Yes, Other, Missing}
-use Rattle.plan_line.specs.declared.orders.Operator.{Operator}
-use Rattle.plan_line.specs.declared.orders.Operator.TheVariants.{Is, NoOperator}
 use Rattle.plan_line.specs.declared.orders.Name.{Name}
-use Rattle.plan_line.specs.declared.orders.Name.TheVariants.{PutName, ComputeName, CopyName, DropName, StoreName, LoadName, PrintName, OtherName}
+use Rattle.plan_line.specs.declared.orders.Name.TheVariants.{PutName, ComputeName, CopyName, DropName, StoreName, LoadName, PrintName}
 use Rattle.plan_line.specs.Numbers.{all_digits, digits_value, within, natural_of, negated_number, integer_in}
-use Rattle.plan_line.specs.Orders.{Words, name_of, place_at, integer_at, operator_at, named_first, is_kind, ended, on_number, operator, name, put_line, second_line, operands_line, compute_line, times_line, copy_line, tag_line, tagged_line, store_line, load_line, newline_line, print_line, line_for, line_of}
+use Rattle.plan_line.specs.Orders.{Words, name_of, place_at, integer_at, operator_at, named_first, is_kind, ended, on_number, operator, name, put_line, second_line, operands_line, compute_line, times_line, copy_line, tag_line, tagged_line, store_line, load_line, newline_line, print_line, line_for, line_of, Line}
 use Rattle.text.specs.Text.{ascii}
 
 -- numbers of words are below a bound
-abbrev Below : ℕ → Number → Type 0
-Below bound (Value v) = v < bound
-Below bound (NoValue wrong) = Unit {0}
+abbrev Below : ℕ → Result ℕ Wrong → Type 0
+Below bound (Ok v) = v < bound
+Below bound (Err wrong) = Unit {0}
 
-within_by : (limit bound v : ℕ) → limit < bound → (x : Bool) → leb v limit ≡ x → Below bound (cond x (Value v) (NoValue OutOfRange))
+within_by : (limit bound v : ℕ) → limit < bound → (x : Bool) → leb v limit ≡ x → Below bound (cond x (Ok v) (Err OutOfRange))
 within_by limit bound v h true e = omega (arith, leb-true v limit e)
 within_by limit bound v h false e = tt
 
@@ -44,9 +40,9 @@ natural_below limit bound h [] = tt
 natural_below limit bound h (b ∷ w) =
     both_ways (Below bound) (all_digits (b ∷ w)) (within_by limit bound (digits_value 0 (b ∷ w)) h (leb (digits_value 0 (b ∷ w)) limit) refl) tt
 
-negated_below : (n : Number) → Below (2 ^ 64) (negated_number n)
-negated_below (Value v) = omega arith
-negated_below (NoValue wrong) = tt
+negated_below : (n : Result ℕ Wrong) → Below (2 ^ 64) (negated_number n)
+negated_below (Ok v) = omega arith
+negated_below (Err wrong) = tt
 
 place_below : (ws : Words) → Below (2 ^ 32) (place_at ws)
 unfolding place_at
@@ -68,9 +64,9 @@ pub record Sound (ws : Words) (o : Order) : Type 0 where
   pub few : wanted o ≤ 4096
 
 abbrev pub SoundLine : Words → Line → Type 0
-SoundLine ws Empty = Unit {0}
-SoundLine ws (Asks o) = Sound ws o
-SoundLine ws (Faulty wrong) = Unit {0}
+SoundLine ws (Ok None) = Unit {0}
+SoundLine ws (Ok (Some o)) = Sound ws o
+SoundLine ws (Err wrong) = Unit {0}
 
 plain : (ws : Words) (o : Order) → wanted o ≡ 0 → WellFormedOrder o → Sound ws o
 plain ws o e w = record { formed = w; enough = omega arith; few = omega arith }
@@ -128,13 +124,13 @@ module _ (ws : Words) where
   when_ended o [] s = s
   when_ended o (w ∷ rest) s = tt
 
-  with_number : (bound : ℕ) (n : Number) (then : ℕ → Line) → Below bound n → ((v : ℕ) → v < bound → SoundLine ws (then v)) → SoundLine ws (on_number n then)
-  with_number bound (Value v) then h f = f v h
-  with_number bound (NoValue wrong) then h f = tt
+  with_number : (bound : ℕ) (n : Result ℕ Wrong) (then : ℕ → Line) → Below bound n → ((v : ℕ) → v < bound → SoundLine ws (then v)) → SoundLine ws (on_number n then)
+  with_number bound (Ok v) then h f = f v h
+  with_number bound (Err wrong) then h f = tt
 
-  with_operator : (x : Operator) (then : Calculation → Line) → ((operation : Calculation) → SoundLine ws (then operation)) → SoundLine ws (operator x then)
-  with_operator (Is operation) then f = f operation
-  with_operator (NoOperator wrong) then f = tt
+  with_operator : (x : Result Calculation Wrong) (then : Calculation → Line) → ((operation : Calculation) → SoundLine ws (then operation)) → SoundLine ws (operator x then)
+  with_operator (Ok operation) then f = f operation
+  with_operator (Err wrong) then f = tt
 
   with_name : (x : Named) (a b c : Line) → SoundLine ws a → SoundLine ws b → SoundLine ws c → SoundLine ws (name x a b c)
   with_name Yes a b c p q r = p
@@ -175,7 +171,7 @@ module _ (ws : Words) where
 
   tagged_sound : (n : ℕ) → n < 2 ^ 32 → SoundLine ws (tagged_line n ws)
   unfolding tagged_line
-  tagged_sound n g = with_name (named_first (ascii "tag") (drop 2 ws)) (tag_line n ws) (Faulty NotTag) (Faulty MissingWord) (tag_sound n g) tt tt
+  tagged_sound n g = with_name (named_first (ascii "tag") (drop 2 ws)) (tag_line n ws) (Err NotTag) (Err MissingWord) (tag_sound n g) tt tt
 
   store_sound : SoundLine ws (store_line ws)
   unfolding store_line
@@ -184,7 +180,7 @@ module _ (ws : Words) where
   newline_sound : (a : ℕ) → a < 2 ^ 32 → SoundLine ws (newline_line a ws)
   unfolding newline_line
   newline_sound a g =
-      with_name (named_first (ascii "newline") (drop 2 ws)) (ended (Print true a) (drop 3 ws)) (Faulty NotNewline) (Asks (Print false a))
+      with_name (named_first (ascii "newline") (drop 2 ws)) (ended (Print true a) (drop 3 ws)) (Err NotNewline) (Ok (Some (Print false a)))
       (when_ended (Print true a) (drop 3 ws) (sound_print true a g)) tt (sound_print false a g)
 
   print_sound : SoundLine ws (print_line ws)
@@ -192,7 +188,7 @@ module _ (ws : Words) where
   print_sound = with_number (2 ^ 32) (place_at (drop 1 ws)) (λ a. newline_line a ws) (place_below (drop 1 ws)) (λ a h. newline_sound a h)
 
   kind_by : (n : ℕ) (on : Line) (x y : Bool) → ltb n 4096 ≡ x → (n < 4096 → SoundLine ws on)
-      → SoundLine ws (cond x (cond y on (Faulty NotKind)) (Faulty TooManyKinds))
+      → SoundLine ws (cond x (cond y on (Err NotKind)) (Err TooManyKinds))
   kind_by n on true true e f = f (ltb-true n 4096 e)
   kind_by n on true false e f = tt
   kind_by n on false y e f = tt
@@ -203,15 +199,15 @@ module _ (ws : Words) where
   load_sound n (w ∷ rest) e h =
       kind_by n (load_line (suc n) rest) (ltb n 4096) (is_kind w) refl (λ g. load_sound (suc n) rest (omega arith) (omega arith))
 
-named_sound : (x : Name) (w : List ℕ) (ws : Words) → SoundLine (w ∷ ws) (line_for x (w ∷ ws) ws)
-named_sound PutName w ws = put_sound (w ∷ ws)
-named_sound ComputeName w ws = compute_sound (w ∷ ws)
-named_sound CopyName w ws = copy_sound (w ∷ ws)
-named_sound DropName w ws = when_ended (w ∷ ws) Drop ws (sound_drop (w ∷ ws))
-named_sound StoreName w ws = store_sound (w ∷ ws)
-named_sound LoadName w ws = load_sound (w ∷ ws) 0 ws (omega arith) (omega arith)
-named_sound PrintName w ws = print_sound (w ∷ ws)
-named_sound OtherName w ws = tt
+named_sound : (x : Option Name) (w : List ℕ) (ws : Words) → SoundLine (w ∷ ws) (line_for x (w ∷ ws) ws)
+named_sound (Some PutName) w ws = put_sound (w ∷ ws)
+named_sound (Some ComputeName) w ws = compute_sound (w ∷ ws)
+named_sound (Some CopyName) w ws = copy_sound (w ∷ ws)
+named_sound (Some DropName) w ws = when_ended (w ∷ ws) Drop ws (sound_drop (w ∷ ws))
+named_sound (Some StoreName) w ws = store_sound (w ∷ ws)
+named_sound (Some LoadName) w ws = load_sound (w ∷ ws) 0 ws (omega arith) (omega arith)
+named_sound (Some PrintName) w ws = print_sound (w ∷ ws)
+named_sound None w ws = tt
 
 pub line_sound : (ws : Words) → SoundLine ws (line_of ws)
 unfolding line_of

@@ -1,5 +1,6 @@
 -- The records of a text, and what `plan` answers. From docs/PLANNER.md, 'The planner's text'.
-use Rattle.std.specs.Prelude.{ℕ, suc, cond, List, [], ◌∷◌, ◌++◌, leb, length, take, drop}
+use Rattle.plan.specs.declared.NotPlanned.{NotPlanned}
+use Rattle.std.specs.Prelude.{ℕ, suc, cond, List, [], ◌∷◌, ◌++◌, leb, length, take, drop, Ok, Err, None, Some, Result}
 use Rattle.records.specs.declared.binding.Kind.{Kind}
 use Rattle.records.specs.declared.binding.Kind.TheVariants.{Linked, Ext}
 use Rattle.records.specs.declared.order.Order.{Order}
@@ -8,12 +9,9 @@ use Rattle.records.specs.Contexts.{binding_bytes}
 use Rattle.records.specs.Orders.{record_of}
 use Rattle.text.specs.Text.{ascii}
 use Rattle.plan_line.specs.declared.wrong.Wrong.{Wrong}
-use Rattle.plan_line.specs.declared.orders.Line.{Line}
-use Rattle.plan_line.specs.declared.orders.Line.TheVariants.{Empty, Asks, Faulty}
 use Rattle.plan_line.specs.Words.{same_bytes, lines_of, uncommented, words_in}
-use Rattle.plan_line.specs.Orders.{Words, line_of}
-use Rattle.plan.specs.declared.Planned.{Planned}
-use Rattle.plan.specs.declared.Planned.TheVariants.{Written, Bad, Room, Long}
+use Rattle.plan_line.specs.Orders.{Words, line_of, Line}
+use Rattle.plan.specs.declared.NotPlanned.TheVariants.{Bad, Room, Long}
 
 -- e is an integer, l is linked
 unfoldable pub kind_of_word : List ℕ → Kind
@@ -50,9 +48,9 @@ onto_plan bs (bad n wrong) = bad n wrong
 
 -- line n before the lines that follow it
 abbrev pub with_line : ℕ → Words → Line → Plan → Plan
-with_line n ws Empty rest = rest
-with_line n ws (Asks o) rest = onto_plan (plan_records o ws) rest
-with_line n ws (Faulty wrong) rest = bad n wrong
+with_line n ws (Ok None) rest = rest
+with_line n ws (Ok (Some o)) rest = onto_plan (plan_records o ws) rest
+with_line n ws (Err wrong) rest = bad n wrong
 
 -- the words of a line, without its comment
 abbrev pub line_words : List ℕ → Words
@@ -70,17 +68,17 @@ plan_of text = plan_from 1 (lines_of text)
 abbrev pub longest_plan : ℕ
 longest_plan = 131072
 
-abbrev pub plan_answer : ℕ → Plan → Planned
-plan_answer room (records bs) = cond (leb (length bs) room) (Written (length bs)) (Room (length bs))
-plan_answer room (bad n wrong) = Bad n wrong
+abbrev pub plan_answer : ℕ → Plan → Result ℕ NotPlanned
+plan_answer room (records bs) = cond (leb (length bs) room) (Ok (length bs)) (Err (Room (length bs)))
+plan_answer room (bad n wrong) = Err (Bad n wrong)
 
 abbrev pub plan_bytes : Plan → List ℕ
 plan_bytes (records bs) = bs
 plan_bytes (bad n wrong) = []
 
 -- what is answered where the output has room for so many bytes
-unfoldable pub planned : List ℕ → ℕ → Planned
-planned text room = cond (leb (length text) longest_plan) (plan_answer room (plan_of text)) Long
+unfoldable pub planned : List ℕ → ℕ → Result ℕ NotPlanned
+planned text room = cond (leb (length text) longest_plan) (plan_answer room (plan_of text)) (Err Long)
 
 -- what is written: nothing for a text that is too long or has a bad line
 unfoldable pub planned_bytes : List ℕ → List ℕ

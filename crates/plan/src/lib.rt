@@ -7,44 +7,49 @@ mod messages; // what is wrong with a line, in words
 ghost use Rattle.std.specs.Prelude.{◌≡◌, ◌+◌, ◌≤◌, length};
 ghost use Rattle.records.specs.Bytes.{stored};
 ghost use Rattle.text.specs.Putting.{farthest, Puts};
+ghost use Rattle.plan.specs.declared.NotPlanned.TheVariants.{Bad};
 ghost use Rattle.plan.specs.Plan.{planned, planned_bytes};
 ghost use Rattle.plan.specs.Messages.{message};
 ghost use Rattle.plan.specs.Reading.{PlansAreRead};
 ghost use Rattle.plan.specs.Worked.{WorkedLines};
 
-use crate::lines::Laid;
+use crate::lines::BadLine;
 use plan_line::wrong::Wrong;
 
 // No more bytes than this are a text.
 pub const LONGEST: usize = 131072;
 
-#[derive(Clone, Copy)]
-pub enum Planned {
-    Written(usize), // how many bytes were written
+// Why no records are written.
+#[derive(Clone, Copy, Debug, PartialEq, Eq)]
+pub enum NotPlanned {
     Bad(usize, Wrong), // the number of the first bad line, and what is wrong with it
     Room(usize), // how many bytes are needed
     Long, // the text is longer than LONGEST
 }
 
-// The records of a text, at the start of `out`.
-pub fn plan(text: &[u8], out: &mut [u8]) -> Planned
+impl From<BadLine> for NotPlanned {
+    ghost from_gives = { λ b r. r ≡ Bad b.line b.wrong };
+
+    fn from(bad: BadLine) -> NotPlanned {
+        NotPlanned::Bad(bad.line, bad.wrong)
+    }
+}
+
+// The records of a text, at the start of `out`: how many bytes were written.
+pub fn plan(text: &[u8], out: &mut [u8]) -> Result<usize, NotPlanned>
     ensures answer { result ≡ planned text.now (length out.old) }
     ensures written { out.new ≡ stored out.old 0 (planned_bytes text.now) }
 {
     if LONGEST < text.len() {
-        return Planned::Long;
+        return Err(NotPlanned::Long);
     }
     let mut none = [0u8; 1];
-    match lines::put_plan(&mut none, text) {
-        Laid::BadLine(line, wrong) => Planned::Bad(line, wrong),
-        Laid::Whole(size) => {
-            if out.len() < size {
-                return Planned::Room(size);
-            }
-            lines::put_plan(out, text);
-            Planned::Written(size)
-        }
+    let size = lines::put_plan(&mut none, text)?;
+    if out.len() < size {
+        return Err(NotPlanned::Room(size));
     }
+    let _ = lines::put_plan(out, text);
+    Ok(size)
 }
 
 // The message of a bad line, and a newline, at index `at` of a text, as far as it fits. Answers the index past it.

@@ -7,35 +7,28 @@ ghost use Rattle.plan_line.specs.Words.{words_in, uncommented};
 ghost use Rattle.plan.specs.Plan.{kind_of_word, bindings, following, plan_records, longest_plan};
 ghost use Rattle.plan.specs.Steps.{most_line, Stepped, LaidOut};
 
-use plan_line::orders::Line;
-use plan_line::words::{FoundWord, Sought};
+use plan_line::words::Sought;
 use plan_line::wrong::Wrong;
 use plan_line::{orders, words};
 use records::binding::{Binding, Kind};
 use records::order::Order;
 use records::{binding, order};
 
-// The index past a line's records, or what is wrong with the line.
-#[derive(Clone, Copy)]
-pub enum Step {
-    Next(usize),
-    Stop(Wrong),
+// The number of a text's first bad line, and what is wrong with it.
+#[derive(Clone, Copy, Debug, PartialEq, Eq)]
+pub struct BadLine {
+    pub line: usize,
+    pub wrong: Wrong,
 }
 
-// The index past a text's records, or the number of its first bad line and what is wrong with it.
-#[derive(Clone, Copy)]
-pub enum Laid {
-    Whole(usize),
-    BadLine(usize, Wrong),
-}
-
+#[tactic(auto, using(crate::proofs::KindNames::is_ext, crate::proofs::KindNames::is_linked))]
 fn kind_of(w: &[u8]) -> Kind
     ensures { result ≡ kind_of_word w.now }
 {
-    if words::same(w, b"e") {
-        return Kind::Ext;
+    match w {
+        b"e" => Kind::Ext,
+        _ => Kind::Linked,
     }
-    Kind::Linked
 }
 
 fn put_binding(out: &mut [u8], at: usize, kind: Kind, id: u32) -> usize
@@ -63,18 +56,12 @@ fn put_kinds(out: &mut [u8], at: usize, line: &[u8], from: usize, n: u32) -> usi
 {
     let mut next = at;
     let mut i = from;
-    let mut id: u32 = 0;
-    while id < n {
-        match words::next_word(line, i) {
-            FoundWord::Word(start, end) => {
-                next = put_binding(out, next, kind_of(&line[start..end]), id);
-                i = end;
-            }
-            FoundWord::NoWord => {
-                return next;
-            }
-        }
-        id += 1;
+    for id in 0..n {
+        let Some((start, end)) = words::next_word(line, i) else {
+            return next;
+        };
+        next = put_binding(out, next, kind_of(&line[start..end]), id);
+        i = end;
     }
     next
 }
@@ -84,18 +71,13 @@ fn put_following(out: &mut [u8], at: usize, line: &[u8], o: Order) -> usize
     requires { at + 0x8_0000_0000 ≤ farthest }
     ensures { Puts 0x8_0000_0000 out.old at out.new result (following o (words_in line.now)) }
 {
-    match o {
-        Order::Load(n) => match words::word_at(line, 0) {
-            FoundWord::Word(_, end) => put_kinds(out, at, line, end, n),
-            FoundWord::NoWord => at,
-        },
-        Order::Put(_) => at,
-        Order::Compute(_, _, _) => at,
-        Order::Copy(_, _) => at,
-        Order::Drop => at,
-        Order::Store(_, _) => at,
-        Order::Print(_, _) => at,
-    }
+    let Order::Load(n) = o else {
+        return at;
+    };
+    let Some((_, end)) = words::word_at(line, 0) else {
+        return at;
+    };
+    put_kinds(out, at, line, end, n)
 }
 
 fn put_records(out: &mut [u8], at: usize, line: &[u8], o: Order) -> usize
@@ -107,18 +89,17 @@ fn put_records(out: &mut [u8], at: usize, line: &[u8], o: Order) -> usize
 }
 
 // The records of a line without a comment.
-fn put_words(out: &mut [u8], at: usize, line: &[u8]) -> Step
+fn put_words(out: &mut [u8], at: usize, line: &[u8]) -> Result<usize, Wrong>
     requires { at + most_line ≤ farthest }
     ensures { Stepped out.old at out.new (words_in line.now) result }
 {
-    match orders::read_line(line) {
-        Line::Empty => Step::Next(at),
-        Line::Asks(o) => Step::Next(put_records(out, at, line, o)),
-        Line::Faulty(wrong) => Step::Stop(wrong),
-    }
+    let Some(o) = orders::read_line(line)? else {
+        return Ok(at);
+    };
+    Ok(put_records(out, at, line, o))
 }
 
-fn put_line(out: &mut [u8], at: usize, line: &[u8]) -> Step
+fn put_line(out: &mut [u8], at: usize, line: &[u8]) -> Result<usize, Wrong>
     requires { at + most_line ≤ farthest }
     ensures { Stepped out.old at out.new (words_in (uncommented line.now)) result }
 {
@@ -134,7 +115,7 @@ fn past(text: &[u8], end: usize) -> usize
 }
 
 // The records of a text, from the start of `out`.
-pub fn put_plan(out: &mut [u8], text: &[u8]) -> Laid
+pub fn put_plan(out: &mut [u8], text: &[u8]) -> Result<usize, BadLine>
     requires { length text.now ≤ longest_plan }
     ensures { LaidOut text.now out.old out.new result }
 {
@@ -143,16 +124,9 @@ pub fn put_plan(out: &mut [u8], text: &[u8]) -> Laid
     let mut line = 0;
     while at < text.len() {
         let end = words::find(text, at, Sought::Byte(b'\n'));
-        match put_line(out, next, &text[at..end]) {
-            Step::Next(put) => {
-                next = put;
-            }
-            Step::Stop(wrong) => {
-                return Laid::BadLine(line + 1, wrong);
-            }
-        }
-        at = past(text, end);
         line += 1;
+        next = put_line(out, next, &text[at..end]).map_err(|wrong| BadLine { line, wrong })?;
+        at = past(text, end);
     }
-    Laid::Whole(next)
+    Ok(next)
 }

@@ -1,4 +1,5 @@
 -- Words as the searches find them.
+use Rattle.std.specs.Prelude.{None, Some, Option}
 use Prim.Native.Nat.{ℕ, ◌+◌, ◌-◌, ◌≤◌, ◌<◌}
 use mathlib.Core.Path.{◌≡◌, refl, sym, ap, ◌∙◌, subst}
 use mathlib.Core.Bool.{Bool, true, false, not}
@@ -6,26 +7,24 @@ use mathlib.Core.List.{List, [], ◌∷◌}
 use native.Mathlib.Omega.{arith}
 use lib.ListN.{length, get_or, drop}
 use lib.Seq.{drop-cons, drop-drop, drop-nil}
-use Rattle.plan_line.specs.declared.words.FoundWord.{FoundWord}
-use Rattle.plan_line.specs.declared.words.FoundWord.TheVariants.{Word, NoWord}
 use Rattle.plan_line.specs.declared.words.Sought.TheVariants.{Blank, Letter}
 use Rattle.plan_line.specs.Words.{sought_in, before, found, parts, filled, words_in}
 use Rattle.plan_line.specs.Finding.{WordStarts, FirstOf, word, none}
 use Rattle.plan_line.proofs.Searching.{drop_past, found_within, part_found, drop_found, found_stopped, parts_first, rest, rest_filled, skipped}
 
 -- what a search for a word gives, by its answer
-at_word : {line : List ℕ} {ws : List (List ℕ)} {i j : ℕ} → FirstOf line ws (Word i j) → WordStarts line ws i j
+at_word : {line : List ℕ} {ws : List (List ℕ)} {i j : ℕ} → FirstOf line ws (Some (i, j)) → WordStarts line ws i j
 at_word (word s) = s
 
-at_none : {line : List ℕ} {ws : List (List ℕ)} → FirstOf line ws NoWord → ws ≡ []
+at_none : {line : List ℕ} {ws : List (List ℕ)} → FirstOf line ws None → ws ≡ []
 at_none (none e) = e
 
-module _ {line : List ℕ} {ws : List (List ℕ)} {f : FoundWord} (h : FirstOf line ws f) where
-  pub starts : {i j : ℕ} → f ≡ Word i j → WordStarts line ws i j
-  starts e = at_word (subst (λ (g : FoundWord). FirstOf line ws g) e h)
+module _ {line : List ℕ} {ws : List (List ℕ)} {f : Option (ℕ × ℕ)} (h : FirstOf line ws f) where
+  pub starts : {i j : ℕ} → f ≡ Some (i, j) → WordStarts line ws i j
+  starts e = at_word (subst (λ (g : Option (ℕ × ℕ)). FirstOf line ws g) e h)
 
-  pub no_word : f ≡ NoWord → ws ≡ []
-  no_word e = at_none (subst (λ (g : FoundWord). FirstOf line ws g) e h)
+  pub no_word : f ≡ None → ws ≡ []
+  no_word e = at_none (subst (λ (g : Option (ℕ × ℕ)). FirstOf line ws g) e h)
 
 not_marked : (x : Bool) → not x ≡ true → x ≡ false
 not_marked true e = sym e

@@ -1,13 +1,15 @@
 -- The search for a byte, and the words that it finds.
 use Prim.Native.Nat.{ℕ, zero, suc, ◌+◌, ◌-◌, ◌≤◌, ◌<◌}
-use mathlib.Core.Path.{◌≡◌, refl, sym, ap, subst}
+use mathlib.Core.Path.{◌≡◌, refl, sym, ap, ◌∙◌, subst}
+use Rattle.std.specs.Prelude.{nat_lt, None, Some, position}
+use Rattle.std.specs.List.{position_or_len}
+use Rattle.std.proofs.lemmas.List.Recursion.{is_position_or_len}
+use borrow.Author.Tests.{ltb-false}
 use mathlib.Core.Bool.{Bool, true, false, not, cond}
 use mathlib.Core.List.{List, [], ◌∷◌}
-use native.Mathlib.Nat.{add-zero}
-use native.Mathlib.Numerals.{add-one}
 use native.Mathlib.Omega.{arith}
 use lib.ListN.{length, get_or, take, drop, length-drop}
-use lib.Seq.{drop-cons, drop-drop, get_or-drop}
+use lib.Seq.{drop-drop, get_or-drop, take_all}
 use Rattle.records.proofs.Conditions.{both_ways}
 use Rattle.plan_line.specs.Words.{before, found, part, onto, parts, filled}
 
@@ -16,6 +18,18 @@ drop_past [] zero h = refl
 drop_past [] (suc i) h = refl
 drop_past (b ∷ s) zero h = absurd (omega arith)
 drop_past (b ∷ s) (suc i) h = drop_past s i (omega arith)
+
+-- all of a list but its first elements
+pub tail_part : (w : List ℕ) (k : ℕ) → take (length w - k) (drop k w) ≡ drop k w
+tail_part w k = take_all (length w - k) (drop k w) (omega (arith, length-drop k w))
+
+at_position : (x : Bool) (n : ℕ) {k : ℕ} → cond x (Some n) None ≡ Some k → n ≡ k
+at_position true n e = cc
+at_position false n e = absurd cc
+
+no_position : (n m : ℕ) (x : Bool) → nat_lt n m ≡ x → cond x (Some n) None ≡ None → m ≤ n
+no_position n m true f e = absurd cc
+no_position n m false f e = omega (arith, ltb-false n m f)
 
 module _ (P : ℕ → Bool) where
   pub take_before : (l : List ℕ) → take (length (before P l)) l ≡ before P l
@@ -27,6 +41,14 @@ module _ (P : ℕ → Bool) where
   unfolding before
   before_short [] = omega arith
   before_short (b ∷ l) = let h = before_short l in both_ways (λ (m : List ℕ). length m ≤ length (b ∷ l)) (P b) (omega arith) (omega arith)
+
+  length_on : (b : ℕ) (l : List ℕ) → length (before P (b ∷ l)) ≡ cond (P b) 0 (1 + length (before P l))
+  unfolding before
+  length_on b l = elim (P b) as (λ (x : Bool). length (cond x [] (b ∷ before P l)) ≡ cond x 0 (1 + length (before P l))) [ true ↦ refl | false ↦ omega arith ]
+
+  pub before_is_position : (l : List ℕ) → length (before P l) ≡ position_or_len P l
+  unfolding before
+  before_is_position = is_position_or_len (λ (l : List ℕ). length (before P l)) P refl length_on
 
   -- one byte more, marked or not
   pick_stopped : (b : ℕ) (l m : List ℕ) (x : Bool) → P b ≡ x → (length m < length l → P (get_or l (length m) 0) ≡ true)
@@ -41,17 +63,17 @@ module _ (P : ℕ → Bool) where
   stopped (b ∷ l) h = pick_stopped b l (before P l) (P b) refl (stopped l) h
 
   module _ (s : List ℕ) (i : ℕ) where
-    pub found_here : i < length s → P (get_or s i 0) ≡ true → found P s i ≡ i
-    unfolding found before
-    found_here h e = rw (drop-cons s i 0 h, e) (add-zero i)
+    -- the search by position in the rest of the list
+    pub found_at : {k : ℕ} → position P (drop i s) ≡ Some k → i + k ≡ found P s i
+    unfolding found
+    found_at e = ap (λ (n : ℕ). i + n) (sym (before_is_position (drop i s) ∙ at_position (nat_lt (position_or_len P (drop i s)) (length (drop i s))) _ e))
 
-    pub found_on : i < length s → P (get_or s i 0) ≡ false → found P s i ≡ found P s (i + 1)
-    unfolding found before
-    found_on h e = rw (drop-cons s i 0 h, e, add-one) (omega arith)
-
-    pub found_end : length s ≤ i → found P s i ≡ i
-    unfolding found before
-    found_end h = rw (drop_past s i h) (add-zero i)
+    pub found_none : i ≤ length s → position P (drop i s) ≡ None → length s ≡ found P s i
+    unfolding found
+    found_none h e =
+        let g = no_position (position_or_len P (drop i s)) (length (drop i s)) (nat_lt (position_or_len P (drop i s)) (length (drop i s))) refl e in
+        let k = before_is_position (drop i s) in
+        omega (arith, before_short (drop i s), length-drop i s, k, g)
 
     pub found_from : i ≤ found P s i
     unfolding found

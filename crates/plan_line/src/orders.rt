@@ -1,36 +1,22 @@
 // The order of a line's words.
-ghost use Rattle.std.specs.Prelude.{◌≡◌, ◌≤◌, length, drop};
+ghost use Rattle.std.specs.Prelude.{MatchResult, ◌≡◌, ◌≤◌, length, drop, Some};
 ghost use Rattle.plan_line.specs.Words.{words_in};
-ghost use Rattle.plan_line.specs.Orders.{name_of, named_first, place_at, integer_at, operator_of, operator_at, is_kind, ended, put_line, second_line, operands_line, compute_line, times_line, copy_line, tag_line, tagged_line, store_line, load_of, load_line, newline_line, print_line, line_for, line_of};
-ghost use Rattle.plan_line.specs.Fits.{Fits32};
+ghost use Rattle.plan_line.specs.Finding.{StartWith, NoneLeft};
+ghost use Rattle.plan_line.specs.Orders.{name_of, named_first, place_at, integer_at, operator_of, operator_at, is_kind, ended, put_line, compute_line, copy_line, store_line, load_of, load_line, print_line, line_for, line_of};
 
-use crate::numbers::Number;
-use crate::words::FoundWord;
 use crate::wrong::Wrong;
 use crate::{numbers, words};
 use records::order::{Calculation, Order};
 
-// What a line asks for.
-#[derive(Clone, Copy)]
-pub enum Line {
-    Empty,
-    Asks(Order),
-    Faulty(Wrong),
-}
+// What a line asks for, if anything.
+pub type Line = Result<Option<Order>, Wrong>;
 
-// Whether a word is the one that is expected.
+// Whether a word is the one that is expected. Kept as one enum: three arms of one match.
 #[derive(Clone, Copy)]
 pub enum Named {
     Yes,
     Other,
     Missing,
-}
-
-// The operation of compute, or what is wrong with its word.
-#[derive(Clone, Copy)]
-pub enum Operator {
-    Is(Calculation),
-    NoOperator(Wrong),
 }
 
 #[derive(Clone, Copy)]
@@ -42,109 +28,84 @@ pub enum Name {
     StoreName,
     LoadName,
     PrintName,
-    OtherName,
 }
 
-fn name_of(w: &[u8]) -> Name
+#[tactic(auto, using(crate::proofs::Names::no_name, crate::proofs::Names::is_put, crate::proofs::Names::is_compute, crate::proofs::Names::is_copy, crate::proofs::Names::is_drop, crate::proofs::Names::is_store, crate::proofs::Names::is_load, crate::proofs::Names::is_print))]
+fn name_of(w: &[u8]) -> Option<Name>
     ensures { result ≡ name_of w.now }
 {
-    if words::same(w, b"put") {
-        return Name::PutName;
+    match w {
+        b"put" => Some(Name::PutName),
+        b"compute" => Some(Name::ComputeName),
+        b"copy" => Some(Name::CopyName),
+        b"drop" => Some(Name::DropName),
+        b"store" => Some(Name::StoreName),
+        b"load" => Some(Name::LoadName),
+        b"print" => Some(Name::PrintName),
+        _ => None,
     }
-    if words::same(w, b"compute") {
-        return Name::ComputeName;
-    }
-    if words::same(w, b"copy") {
-        return Name::CopyName;
-    }
-    if words::same(w, b"drop") {
-        return Name::DropName;
-    }
-    if words::same(w, b"store") {
-        return Name::StoreName;
-    }
-    if words::same(w, b"load") {
-        return Name::LoadName;
-    }
-    if words::same(w, b"print") {
-        return Name::PrintName;
-    }
-    Name::OtherName
 }
 
-fn operator_of(w: &[u8]) -> Operator
+#[tactic(auto, using(crate::proofs::Names::no_operation, crate::proofs::Names::is_add, crate::proofs::Names::is_sub, crate::proofs::Names::is_mul, crate::proofs::Names::is_div, crate::proofs::Names::is_rem))]
+fn operator_of(w: &[u8]) -> Result<Calculation, Wrong>
     ensures { result ≡ operator_of w.now }
 {
-    if words::same(w, b"add") {
-        return Operator::Is(Calculation::Add);
+    match w {
+        b"add" => Ok(Calculation::Add),
+        b"sub" => Ok(Calculation::Sub),
+        b"mul" => Ok(Calculation::Mul),
+        b"div" => Ok(Calculation::Div),
+        b"rem" => Ok(Calculation::Rem),
+        _ => Err(Wrong::NoSuchOperation),
     }
-    if words::same(w, b"sub") {
-        return Operator::Is(Calculation::Sub);
-    }
-    if words::same(w, b"mul") {
-        return Operator::Is(Calculation::Mul);
-    }
-    if words::same(w, b"div") {
-        return Operator::Is(Calculation::Div);
-    }
-    if words::same(w, b"rem") {
-        return Operator::Is(Calculation::Rem);
-    }
-    Operator::NoOperator(Wrong::NoSuchOperation)
 }
 
+#[tactic(auto, using(crate::proofs::Names::no_kind, crate::proofs::Names::is_e, crate::proofs::Names::is_l))]
 fn is_kind(w: &[u8]) -> bool
     ensures { result ≡ is_kind w.now }
 {
-    if words::same(w, b"e") {
-        return true;
-    }
-    words::same(w, b"l")
+    matches!(w, b"e" | b"l")
+}
+
+// Word k, which is to be there.
+fn word(line: &[u8], k: usize) -> Result<&[u8], Wrong>
+    ensures { MatchResult result (λ w. StartWith w.now (drop k (words_in line.now))) (λ wrong. NoneLeft wrong (drop k (words_in line.now))) }
+{
+    let Some((start, end)) = words::word_at(line, k) else {
+        return Err(Wrong::MissingWord);
+    };
+    Ok(&line[start..end])
 }
 
 // Whether word k is `name`.
 fn word_named(line: &[u8], k: usize, name: &[u8]) -> Named
     ensures { result ≡ named_first name.now (drop k (words_in line.now)) }
 {
-    match words::word_at(line, k) {
-        FoundWord::Word(start, end) => {
-            if words::same(&line[start..end], name) {
-                return Named::Yes;
-            }
-            Named::Other
-        }
-        FoundWord::NoWord => Named::Missing,
+    match word(line, k) {
+        Ok(w) => { if w == name { Named::Yes } else { Named::Other } }
+        Err(_) => Named::Missing,
     }
 }
 
 // Word k as a place or a count.
-fn place_at(line: &[u8], k: usize) -> Number
-    ensures is { result ≡ place_at (drop k (words_in line.now)) }
-    ensures fits { Fits32 result }
+fn place_at(line: &[u8], k: usize) -> Result<u32, Wrong>
+    ensures { result ≡ place_at (drop k (words_in line.now)) }
 {
-    match words::word_at(line, k) {
-        FoundWord::Word(start, end) => numbers::natural(&line[start..end], 0xFFFFFFFF),
-        FoundWord::NoWord => Number::NoValue(Wrong::MissingWord),
-    }
+    let place = numbers::natural(word(line, k)?, 0xFFFFFFFF)?;
+    Ok(place as u32)
 }
 
 // Word k as a value or a tag.
-fn integer_at(line: &[u8], k: usize) -> Number
+fn integer_at(line: &[u8], k: usize) -> Result<u64, Wrong>
     ensures { result ≡ integer_at (drop k (words_in line.now)) }
 {
-    match words::word_at(line, k) {
-        FoundWord::Word(start, end) => numbers::integer(&line[start..end]),
-        FoundWord::NoWord => Number::NoValue(Wrong::MissingWord),
-    }
+    numbers::integer(word(line, k)?)
 }
 
-fn operator_at(line: &[u8], k: usize) -> Operator
+fn operator_at(line: &[u8], k: usize) -> Result<Calculation, Wrong>
     ensures { result ≡ operator_at (drop k (words_in line.now)) }
 {
-    match words::word_at(line, k) {
-        FoundWord::Word(start, end) => operator_of(&line[start..end]),
-        FoundWord::NoWord => Operator::NoOperator(Wrong::MissingWord),
-    }
+    operator_of(word(line, k)?)
 }
 
 // The order, where no word k follows.
@@ -152,90 +113,50 @@ fn ended_at(line: &[u8], k: usize, o: Order) -> Line
     ensures { result ≡ ended o (drop k (words_in line.now)) }
 {
     match words::word_at(line, k) {
-        FoundWord::Word(_, _) => Line::Faulty(Wrong::SurplusWord),
-        FoundWord::NoWord => Line::Asks(o),
+        Some(_) => Err(Wrong::SurplusWord),
+        None => Ok(Some(o)),
     }
 }
 
+#[tactic(auto, unfolding(crate::specs::Orders::put_line))]
 fn read_put(line: &[u8]) -> Line
     ensures { result ≡ put_line (words_in line.now) }
 {
-    match integer_at(line, 1) {
-        Number::Value(value) => ended_at(line, 2, Order::Put(value)),
-        Number::NoValue(wrong) => Line::Faulty(wrong),
-    }
+    let value = integer_at(line, 1)?;
+    ended_at(line, 2, Order::Put(value))
 }
 
-fn read_second(line: &[u8], operation: Calculation, a: u32) -> Line
-    ensures { result ≡ second_line operation a (words_in line.now) }
-{
-    match place_at(line, 3) {
-        Number::Value(b) => ended_at(line, 4, Order::Compute(operation, a, b as u32)),
-        Number::NoValue(wrong) => Line::Faulty(wrong),
-    }
-}
-
-fn read_operands(line: &[u8], operation: Calculation) -> Line
-    ensures { result ≡ operands_line operation (words_in line.now) }
-{
-    match place_at(line, 2) {
-        Number::Value(a) => read_second(line, operation, a as u32),
-        Number::NoValue(wrong) => Line::Faulty(wrong),
-    }
-}
-
+#[tactic(auto, unfolding(crate::specs::Orders::compute_line, crate::specs::Orders::operands_line, crate::specs::Orders::second_line))]
 fn read_compute(line: &[u8]) -> Line
     ensures { result ≡ compute_line (words_in line.now) }
 {
-    match operator_at(line, 1) {
-        Operator::Is(operation) => read_operands(line, operation),
-        Operator::NoOperator(wrong) => Line::Faulty(wrong),
-    }
+    let operation = operator_at(line, 1)?;
+    let a = place_at(line, 2)?;
+    let b = place_at(line, 3)?;
+    ended_at(line, 4, Order::Compute(operation, a, b))
 }
 
-fn read_times(line: &[u8], a: u32) -> Line
-    ensures { result ≡ times_line a (words_in line.now) }
-{
-    match place_at(line, 2) {
-        Number::Value(n) => ended_at(line, 3, Order::Copy(a, n as u32)),
-        Number::NoValue(wrong) => Line::Faulty(wrong),
-    }
-}
-
+#[tactic(auto, unfolding(crate::specs::Orders::copy_line, crate::specs::Orders::times_line))]
 fn read_copy(line: &[u8]) -> Line
     ensures { result ≡ copy_line (words_in line.now) }
 {
-    match place_at(line, 1) {
-        Number::Value(a) => read_times(line, a as u32),
-        Number::NoValue(wrong) => Line::Faulty(wrong),
-    }
+    let a = place_at(line, 1)?;
+    let n = place_at(line, 2)?;
+    ended_at(line, 3, Order::Copy(a, n))
 }
 
-fn read_tag(line: &[u8], n: u32) -> Line
-    ensures { result ≡ tag_line n (words_in line.now) }
-{
-    match integer_at(line, 3) {
-        Number::Value(tag) => ended_at(line, 4, Order::Store(n, tag)),
-        Number::NoValue(wrong) => Line::Faulty(wrong),
-    }
-}
-
-fn read_tagged(line: &[u8], n: u32) -> Line
-    ensures { result ≡ tagged_line n (words_in line.now) }
-{
-    match word_named(line, 2, b"tag") {
-        Named::Yes => read_tag(line, n),
-        Named::Other => Line::Faulty(Wrong::NotTag),
-        Named::Missing => Line::Faulty(Wrong::MissingWord),
-    }
-}
-
+#[tactic(auto, unfolding(crate::specs::Orders::store_line, crate::specs::Orders::tagged_line, crate::specs::Orders::tag_line))]
 fn read_store(line: &[u8]) -> Line
     ensures { result ≡ store_line (words_in line.now) }
 {
-    match place_at(line, 1) {
-        Number::Value(n) => read_tagged(line, n as u32),
-        Number::NoValue(wrong) => Line::Faulty(wrong),
+    let n = place_at(line, 1)?;
+    match word_named(line, 2, b"tag") {
+        Named::Yes => {
+            let tag = integer_at(line, 3)?;
+            ended_at(line, 4, Order::Store(n, tag))
+        }
+        Named::Other => Err(Wrong::NotTag),
+        Named::Missing => Err(Wrong::MissingWord),
     }
 }
 
@@ -245,8 +166,8 @@ fn load_of(line: &[u8], at: usize, n: u32) -> Line
     ensures { result ≡ load_of n (words_in (drop at line.now)) }
 {
     match words::next_word(line, at) {
-        FoundWord::Word(_, _) => Line::Faulty(Wrong::TooManyKinds),
-        FoundWord::NoWord => Line::Asks(Order::Load(n)),
+        Some(_) => Err(Wrong::TooManyKinds),
+        None => Ok(Some(Order::Load(n))),
     }
 }
 
@@ -256,47 +177,34 @@ fn read_load(line: &[u8], from: usize) -> Line
     ensures { result ≡ load_line 0 (words_in (drop from line.now)) }
 {
     let mut at = from;
-    let mut n: u32 = 0;
-    while n < 4096 {
-        match words::next_word(line, at) {
-            FoundWord::Word(start, end) => {
-                if is_kind(&line[start..end]) {} else {
-                    return Line::Faulty(Wrong::NotKind);
-                }
-                at = end;
-            }
-            FoundWord::NoWord => {
-                return Line::Asks(Order::Load(n));
-            }
+    for n in 0..4096u32 {
+        let Some((start, end)) = words::next_word(line, at) else {
+            return Ok(Some(Order::Load(n)));
+        };
+        if !is_kind(&line[start..end]) {
+            return Err(Wrong::NotKind);
         }
-        n += 1;
+        at = end;
     }
-    load_of(line, at, n)
+    load_of(line, at, 4096)
 }
 
-fn read_newline(line: &[u8], a: u32) -> Line
-    ensures { result ≡ newline_line a (words_in line.now) }
-{
-    match word_named(line, 2, b"newline") {
-        Named::Yes => ended_at(line, 3, Order::Print(true, a)),
-        Named::Other => Line::Faulty(Wrong::NotNewline),
-        Named::Missing => Line::Asks(Order::Print(false, a)),
-    }
-}
-
+#[tactic(auto, unfolding(crate::specs::Orders::print_line, crate::specs::Orders::newline_line))]
 fn read_print(line: &[u8]) -> Line
     ensures { result ≡ print_line (words_in line.now) }
 {
-    match place_at(line, 1) {
-        Number::Value(a) => read_newline(line, a as u32),
-        Number::NoValue(wrong) => Line::Faulty(wrong),
+    let a = place_at(line, 1)?;
+    match word_named(line, 2, b"newline") {
+        Named::Yes => ended_at(line, 3, Order::Print(true, a)),
+        Named::Other => Err(Wrong::NotNewline),
+        Named::Missing => Ok(Some(Order::Print(false, a))),
     }
 }
 
 // The order of a line that starts with a name, which ends at index `end`.
 fn read_named(line: &[u8], name: Name, end: usize) -> Line
     requires { end ≤ length line.now }
-    ensures { result ≡ line_for name (words_in line.now) (words_in (drop end line.now)) }
+    ensures { result ≡ line_for (Some name) (words_in line.now) (words_in (drop end line.now)) }
 {
     match name {
         Name::PutName => read_put(line),
@@ -306,15 +214,17 @@ fn read_named(line: &[u8], name: Name, end: usize) -> Line
         Name::StoreName => read_store(line),
         Name::LoadName => read_load(line, end),
         Name::PrintName => read_print(line),
-        Name::OtherName => Line::Faulty(Wrong::NoSuchOrder),
     }
 }
 
 pub fn read_line(line: &[u8]) -> Line
     ensures { result ≡ line_of (words_in line.now) }
 {
-    match words::word_at(line, 0) {
-        FoundWord::Word(start, end) => read_named(line, name_of(&line[start..end]), end),
-        FoundWord::NoWord => Line::Empty,
-    }
+    let Some((start, end)) = words::word_at(line, 0) else {
+        return Ok(None);
+    };
+    let Some(name) = name_of(&line[start..end]) else {
+        return Err(Wrong::NoSuchOrder);
+    };
+    read_named(line, name, end)
 }

@@ -1,6 +1,6 @@
 // The words of a line, found by their indices.
-ghost use Rattle.std.specs.Prelude.{◌≡◌, ◌≤◌, length};
-ghost use Rattle.plan_line.specs.Words.{blank, sought_in, found, same_bytes};
+ghost use Rattle.std.specs.Prelude.{◌≡◌, ◌≤◌, length, position};
+ghost use Rattle.plan_line.specs.Words.{blank, sought_in, found};
 ghost use Rattle.plan_line.specs.Finding.{NextWord, WordAt};
 
 // What a search in bytes stops at.
@@ -11,28 +11,10 @@ pub enum Sought {
     Letter, // anything but a blank
 }
 
-// A word from an index to another, or none.
-#[derive(Clone, Copy)]
-pub enum FoundWord {
-    Word(usize, usize),
-    NoWord,
-}
-
 fn is_blank(b: u8) -> bool
     ensures { result ≡ blank b }
 {
-    match b {
-        9 => true,
-        13 => true,
-        32 => true,
-        _ => false,
-    }
-}
-
-fn is_letter(b: u8) -> bool
-    ensures { result ≡ sought_in Sought.Letter b }
-{
-    if is_blank(b) { false } else { true }
+    matches!(b, 9 | 13 | 32)
 }
 
 fn stops(sought: Sought, b: u8) -> bool
@@ -41,8 +23,14 @@ fn stops(sought: Sought, b: u8) -> bool
     match sought {
         Sought::Byte(m) => b == m,
         Sought::Blank => is_blank(b),
-        Sought::Letter => is_letter(b),
+        Sought::Letter => !is_blank(b),
     }
+}
+
+fn first(s: &[u8], sought: Sought) -> Option<usize>
+    ensures { result ≡ position (sought_in sought) s.now }
+{
+    s.iter().position(|b| stops(sought, *b))
 }
 
 // The first index from `at` on of what is sought, or the length.
@@ -50,61 +38,33 @@ pub fn find(s: &[u8], at: usize, sought: Sought) -> usize
     requires { at ≤ length s.now }
     ensures { result ≡ found (sought_in sought) s.now at }
 {
-    let mut i = at;
-    while i < s.len() {
-        if stops(sought, s[i]) {
-            return i;
-        }
-        i += 1;
+    match first(&s[at..], sought) {
+        Some(i) => at + i,
+        None => s.len(),
     }
-    i
 }
 
-// The first word from index `at` on.
-pub fn next_word(line: &[u8], at: usize) -> FoundWord
+// The first word from index `at` on: where it starts and ends.
+pub fn next_word(line: &[u8], at: usize) -> Option<(usize, usize)>
     requires { at ≤ length line.now }
     ensures { NextWord line.now at result }
 {
     let start = find(line, at, Sought::Letter);
     if start < line.len() {
-        FoundWord::Word(start, find(line, start, Sought::Blank))
+        Some((start, find(line, start, Sought::Blank)))
     } else {
-        FoundWord::NoWord
+        None
     }
 }
 
 // Word k of a line, from 0.
-pub fn word_at(line: &[u8], k: usize) -> FoundWord
+pub fn word_at(line: &[u8], k: usize) -> Option<(usize, usize)>
     ensures { WordAt line.now k result }
 {
     let mut at = 0;
-    let mut i = 0;
-    while i < k {
-        match next_word(line, at) {
-            FoundWord::Word(_, end) => {
-                at = end;
-            }
-            FoundWord::NoWord => {
-                return FoundWord::NoWord;
-            }
-        }
-        i += 1;
+    for _ in 0..k {
+        let (_, end) = next_word(line, at)?;
+        at = end;
     }
     next_word(line, at)
-}
-
-pub fn same(w: &[u8], name: &[u8]) -> bool
-    ensures { result ≡ same_bytes w.now name.now }
-{
-    if w.len() == name.len() {} else {
-        return false;
-    }
-    let mut i = 0;
-    while i < w.len() {
-        if w[i] == name[i] {} else {
-            return false;
-        }
-        i += 1;
-    }
-    true
 }

@@ -1,5 +1,5 @@
 // What can be wrong with a line.
-#[derive(Clone, Copy)]
+#[derive(Clone, Copy, Debug, PartialEq, Eq)]
 pub enum Wrong {
     NoSuchOrder,
     NoSuchOperation,

@@ -2,7 +2,7 @@
 // standard error.
 #![tactic(auto)]
 
-use plan::Planned;
+use plan::NotPlanned;
 use plan_line::wrong::Wrong;
 
 fn say_wrong(rt: &HostRuntime, line: usize, wrong: Wrong) {
@@ -14,18 +14,16 @@ fn say_wrong(rt: &HostRuntime, line: usize, wrong: Wrong) {
 // The records of a text, by way of `records`, or what is wrong with it.
 fn write_plan(rt: &HostRuntime, text: &[u8], records: &mut [u8]) {
     match plan::plan(text, records) {
-        Planned::Written(size) => {
-            program_files::write(rt, &records[..size]);
-        }
-        Planned::Bad(line, wrong) => {
-            say_wrong(rt, line, wrong);
-        }
-        Planned::Room(_) => {
-            program_files::write(&rt.stderr(), b"records longer than 655360 bytes\n");
-        }
-        Planned::Long => {
-            program_files::write(&rt.stderr(), b"text longer than 131072 bytes\n");
-        }
+        Ok(size) => program_files::write(rt, &records[..size]),
+        Err(NotPlanned::Bad(line, wrong)) => say_wrong(rt, line, wrong),
+        Err(NotPlanned::Room(_)) => program_files::write(
+            &rt.stderr(),
+            b"records longer than 655360 bytes\n",
+        ),
+        Err(NotPlanned::Long) => program_files::write(
+            &rt.stderr(),
+            b"text longer than 131072 bytes\n",
+        ),
     }
 }
 

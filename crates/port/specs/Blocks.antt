@@ -1,7 +1,7 @@
 -- What the exported count of blocks answers: the number, and its five words.
-use Rattle.std.specs.Prelude.{ℕ, ◌/◌, ◌≡◌, List, [], ◌∷◌}
+use Rattle.layout.specs.declared.config.Shape.{Shape}
+use Rattle.std.specs.Prelude.{ℕ, ◌/◌, ◌≡◌, List, [], ◌∷◌, Option}
 use Rattle.records.specs.Causes.{ACCEPTED, EDITION}
-use Rattle.layout.specs.declared.config.Choice.{Choice}
 use Rattle.layout.specs.Config.{in_choice, block_words}
 use Rattle.heap_chains.specs.declared.Blocks.{Blocks}
 use Rattle.heap_chains.specs.declared.Fit.{Fit}
@@ -12,7 +12,7 @@ abbrev pub block_numbers : Blocks → Fit → List ℕ
 block_numbers b f = b.linear ∷ b.lazy ∷ b.held ∷ b.untouched ∷ f.peak ∷ []
 
 -- the number and the five words before and after, on a heap of so many words, by HEAP and FREE; without an edition 23, and the five words stay
-pub record TellsBlocks (edition : Choice) (size : ℕ) (words : ℕ → ℕ) (linear_head lazy_head number : ℕ) (counts counts' : List ℕ) : Type 0 where
+pub record TellsBlocks (edition : Option Shape) (size : ℕ) (words : ℕ → ℕ) (linear_head lazy_head number : ℕ) (counts counts' : List ℕ) : Type 0 where
   pub answer : number ≡ in_choice edition (λ g. ACCEPTED) EDITION
   pub told :
       counts'

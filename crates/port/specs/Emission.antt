@@ -2,8 +2,7 @@
 use Rattle.std.specs.Prelude.{ℕ, cond, ◌≡◌, List, [], ◌∷◌}
 use Rattle.std.proofs.lemmas.List.Edits.{sets}
 use Rattle.records.specs.declared.code.Code.{Code}
-use Rattle.emit.specs.declared.answer.Answer.{Answer}
-use Rattle.emit.specs.Answers.{accepted, output}
+use Rattle.emit.specs.Answers.{accepted, output, Answer}
 use Rattle.port_numbers.specs.Emission.{answer_numbers}
 
 -- number and value, beside an output before and after, are those of an operation that answers so and writes the records cs

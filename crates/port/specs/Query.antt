@@ -1,7 +1,7 @@
 -- What the exported queries answer: the number and the value that goes with it.
-use Rattle.std.specs.Prelude.{ℕ, Bool, cond, List, eqb}
-use Rattle.layout.specs.declared.config.Offset.TheVariants.{Operand, Edition}
-use Rattle.layout.specs.declared.utils.Temporary.TheVariants.{Frame}
+use Rattle.std.specs.Prelude.{ℕ, Bool, cond, List, eqb, Err}
+use Rattle.layout.specs.declared.config.NoOffset.TheVariants.{Operand, Edition}
+use Rattle.layout.specs.declared.utils.NoTemporary.TheVariants.{Frame}
 use Rattle.layout.specs.Config.{in_frame, in_edition}
 use Rattle.layout.specs.Positions.{position_answer}
 use Rattle.layout.specs.Queries.{fresh_temporary, variable_temporary, unframed_temporary, spill_offset, field_offset}
@@ -14,9 +14,9 @@ unfoldable pub query_numbers : ℕ → ℕ → ℕ → Bool → ℕ → ℕ → 
 query_numbers edition frame query second at id context =
     in_edition edition
     (λ g.
-    cond (eqb query 1) (temporary_numbers (in_frame frame (λ f. position_answer f at) Frame))
+    cond (eqb query 1) (temporary_numbers (in_frame frame (λ f. position_answer f at) (Err Frame)))
     (cond (eqb query 2) (temporary_numbers (in_frame frame (λ f. fresh_temporary f (half_of second) context) (unframed_temporary context)))
     (cond (eqb query 3) (temporary_numbers (in_frame frame (λ f. variable_temporary f (half_of second) context id) (unframed_temporary context)))
-    (cond (eqb query 4) (offset_numbers (in_frame frame (λ f. spill_offset f at) Operand))
+    (cond (eqb query 4) (offset_numbers (in_frame frame (λ f. spill_offset f at) (Err Operand)))
     (cond (eqb query 5) (offset_numbers (field_offset g (half_of second) at)) unknown)))))
-    (offset_numbers Edition)
+    (offset_numbers (Err Edition))

@@ -49,8 +49,7 @@ pub fn axcut_memory(
     let answer = port_numbers::emission::memory(
         out, edition, frame, operation, before, operand, n, context, loaded,
     );
-    let after = port_numbers::emission::counter_after(answer, before);
-    *counter = after;
+    *counter = port_numbers::emission::counter_after(answer, before);
     port_numbers::emission::told(answer, value)
 }
 

@@ -1,7 +1,7 @@
 // The library: what port_c exports to C and Rust. A function answers the scope's number, 0 where its input is accepted; a value goes out beside it.
 #![tactic(auto)]
 
-ghost use Rattle.std.specs.Prelude.{◌≡◌, [], ◌∷◌, length, replicate};
+ghost use Rattle.std.specs.Prelude.{◌≡◌, [], ◌∷◌, length};
 ghost use Rattle.records.specs.Bytes.{stored};
 ghost use Rattle.listing.specs.Names.{code_names};
 ghost use Rattle.listing.specs.Listing.{listed, listed_text};
@@ -18,9 +18,8 @@ pub mod query; // the queries of utils.rs and config.rs
 pub mod orders; // the seven orders
 
 use layout::config;
-use layout::config::{Choice, Shape, Shaped};
+use layout::config::{Shape, Unshaped};
 use machine_step::memory;
-use records::check::Checked;
 use records::code;
 
 // The listing of at most 2,730 records: its bytes, the place of a bad record, or the bytes needed.
@@ -44,16 +43,6 @@ fn registers_of(g: Shape, fresh: bool) -> [u64; 16]
     }
 }
 
-fn clear(stack: &mut [u64])
-    ensures { stack.new ≡ replicate (length stack.old) 0 }
-{
-    let mut i = 0;
-    while i < stack.len() {
-        stack[i] = 0;
-        i += 1;
-    }
-}
-
 // The state with which a routine is entered, or that a list of orders starts from, on a stack of the frame's words.
 pub fn axcut_start(
     edition: u64,
@@ -65,14 +54,13 @@ pub fn axcut_start(
     ensures { StartsRun (shape_on edition frame (length stack.old)) fresh result registers.old registers.new stack.old stack.new }
 {
     match config::shape_on(edition, frame, stack.len()) {
-        Shaped::NoEdition => 23,
-        Shaped::NoFrame => 3,
-        Shaped::In(g) => {
-            let words = registers_of(g, fresh);
-            *registers = words;
-            clear(stack);
+        Ok(g) => {
+            *registers = registers_of(g, fresh);
+            stack.fill(0);
             0
         }
+        Err(Unshaped::NoFrame) => 3,
+        Err(Unshaped::NoEdition) => 23,
     }
 }
 
@@ -82,15 +70,15 @@ fn unrun(block: usize, records: &[u8], heap: usize, steps: &mut u64, place: &mut
 {
     *steps = 0;
     *place = 0;
-    if memory::heap_ok(block, heap) {} else {
+    if !memory::heap_ok(block, heap) {
         return 2;
     }
     match code::check_codes(records, 65536) {
-        Checked::Malformed(bad) => {
-            *place = bad as u64;
+        Ok(_) => 3,
+        Err(bad) => {
+            *place = bad.place as u64;
             2
         }
-        Checked::Good(_) => 3,
     }
 }
 
@@ -109,28 +97,24 @@ pub fn axcut_run(
 ) -> u64
     ensures { Gives (edition_of edition) (frame_on frame (length stack.old)) (words_of words.now) records.now limit (view registers.old stack.old heap.old) (view registers.new stack.new heap.new) result steps.new place.new }
 {
-    let Choice::Of(g) = config::edition_of(edition) else {
+    let Some(g) = config::edition_of(edition) else {
         *steps = 0;
         *place = 0;
         return 23;
     };
     let block = config::block_words(g) as usize;
-    match config::frame_on(frame, stack.len()) {
-        Choice::Unknown => unrun(block, records, heap.len(), steps, place),
-        Choice::Of(_) => {
-            let answer = machine::run::run_lent(
-                block, records, registers, stack, heap, words, limit,
-            );
-            port_numbers::run::told(answer, steps, place)
-        }
+    if config::frame_on(frame, stack.len()).is_none() {
+        return unrun(block, records, heap.len(), steps, place);
     }
+    let answer = machine::run::run_lent(block, records, registers, stack, heap, words, limit);
+    port_numbers::run::told(answer, steps, place)
 }
 
 // The blocks of a channel's heap between two runs, counted, and the most that were reachable at once.
 pub fn axcut_blocks(edition: u64, registers: &[u64; 16], heap: &[u64], counts: &mut [u64; 5]) -> u64
     ensures { TellsBlocks (edition_of edition) (length heap.now) (words_of heap.now) (words_of registers.now HEAP) (words_of registers.now FREE) result counts.old counts.new }
 {
-    let Choice::Of(g) = config::edition_of(edition) else {
+    let Some(g) = config::edition_of(edition) else {
         return 23;
     };
     let blocks = heap_chains::count_blocks_in(g, registers, heap);

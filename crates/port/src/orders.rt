@@ -29,7 +29,6 @@ pub fn axcut_order(
         order,
         bindings,
     );
-    let after = port_numbers::order::counter_after(answer, before);
-    *counter = after;
+    *counter = port_numbers::order::counter_after(answer, before);
     port_numbers::order::told(answer, value, count)
 }

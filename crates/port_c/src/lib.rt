@@ -1,4 +1,5 @@
-// The static library for C and Rust, with include/axcut.h: each function of `port` under its own name, with its clauses.
+// The static library for C and Rust, with include/axcut.h: each function of `port` under its own name, with its clauses. Kept beside `port`, on which other
+// crates stand: the C interface.
 #![tactic(auto)]
 
 ghost use Rattle.std.specs.Prelude.{◌≡◌, [], ◌∷◌, length};

@@ -1,11 +1,10 @@
 -- The operations by number, from 1 on, and their answers told as numbers.
-use Rattle.std.specs.Prelude.{ℕ, cond, List, [], ◌∷◌, eqb, get_or}
+use Rattle.std.specs.Prelude.{ℕ, cond, List, [], ◌∷◌, eqb, get_or, Err}
 use Rattle.records.specs.declared.code.Code.{Code}
 use Rattle.records.specs.declared.order.Calculation.TheVariants.{Add, Sub, Mul, Div, Rem}
 use Rattle.code.specs.declared.emitters.Condition.TheVariants.{Equal, NotEqual, Less, LessOrEqual, Greater, GreaterOrEqual}
-use Rattle.emit.specs.declared.answer.Answer.{Answer}
-use Rattle.emit.specs.declared.answer.Answer.TheVariants.{Operand, Edition}
-use Rattle.emit.specs.Answers.{cause_of}
+use Rattle.emit.specs.declared.answer.Refusal.TheVariants.{Operand, Edition}
+use Rattle.emit.specs.Answers.{cause_of, Answer}
 use Rattle.layout.specs.Config.{in_edition}
 use Rattle.operations.specs.declared.operation.Operation.{Operation}
 use Rattle.operations.specs.declared.operation.Operation.TheVariants.{Label, Jump, JumpLabel, JumpLabelFixed, JumpLabelIf, JumpLabelIfZero, LoadImmediate, LoadLabel, AddAndJump, Arithmetic, Mov, Compare, CompareImmediate}
@@ -66,8 +65,8 @@ memory_answer edition frame number counter room w n context loaded =
     cond (eqb number 1) (erase_in frame counter room w)
     (cond (eqb number 2) (share_in frame counter room w n)
     (cond (eqb number 3) (store_in edition frame counter room context n)
-    (cond (eqb number 4) (load_in edition frame counter room loaded context) Operand))))
-    Edition
+    (cond (eqb number 4) (load_in edition frame counter room loaded context) (Err Operand)))))
+    (Err Edition)
 
 unfoldable pub memory_records : ℕ → ℕ → ℕ → ℕ → ℕ → ℕ → List ℕ → List ℕ → List Code
 memory_records edition frame number counter w n context loaded =

@@ -1,6 +1,6 @@
 -- An answer as two numbers: the scope's number, 0 where the input is accepted, and the value that goes with it.
-use Rattle.std.specs.Prelude.{ℕ, List, [], ◌∷◌, get_or}
-use Rattle.emit.specs.declared.answer.Answer.TheVariants.{Operand}
+use Rattle.std.specs.Prelude.{ℕ, List, [], ◌∷◌, get_or, Err}
+use Rattle.emit.specs.declared.answer.Refusal.TheVariants.{Operand}
 use Rattle.emit.specs.Answers.{cause_of}
 
 abbrev pub number_in : List ℕ → ℕ
@@ -15,4 +15,4 @@ numbers_in cause = number_in cause ∷ value_in cause ∷ []
 
 -- a number that names no operation, check or query is refused as an operand is
 abbrev pub unknown : List ℕ
-unknown = numbers_in (cause_of Operand)
+unknown = numbers_in (cause_of (Err Operand))

@@ -1,8 +1,7 @@
 -- A run's answer, told as numbers.
 use Rattle.std.specs.Prelude.{ℕ, cond, List, [], ◌∷◌, eqb, get_or}
 use Rattle.records.specs.Causes.{MALFORMED}
-use Rattle.machine.specs.declared.run.RunAnswer.{RunAnswer}
-use Rattle.machine.specs.Run.{run_cause}
+use Rattle.machine.specs.Run.{run_cause, RunAnswer}
 use Rattle.port_numbers.specs.Numbers.{number_in, value_in}
 
 -- a run's answer: the number, the steps done, and the place of a bad or faulting record, 0 where there is none; the one value of 2 is a place

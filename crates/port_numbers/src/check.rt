@@ -1,4 +1,5 @@
 // Bytes checked: a context, a list of instruction records, an order.
+// Kept: a number, and its value through `&mut`, as the C interface gives them.
 ghost use Rattle.std.specs.Prelude.{◌≡◌, [], ◌∷◌};
 ghost use Rattle.records.specs.Checked.{checked_cause};
 ghost use Rattle.records.specs.Contexts.{checked_context, flaw_cause, context_cause};
@@ -6,9 +7,8 @@ ghost use Rattle.records.specs.Instructions.{checked_codes};
 ghost use Rattle.records.specs.Orders.{order_read, order_cause};
 ghost use Rattle.port_numbers.specs.Numbers.{numbers_in};
 
-use records::check::Checked;
-use records::context::{ContextRead, Flaw};
-use records::order::OrderRead;
+use records::check::Malformed;
+use records::context::Flaw;
 
 // What is bad in a context, as its number and its place. Every answer that carries it tells it so.
 pub fn flaw_told(flaw: Flaw, place: &mut u64) -> u64
@@ -30,15 +30,23 @@ pub fn flaw_told(flaw: Flaw, place: &mut u64) -> u64
     }
 }
 
+// Bytes that are no records, as their number and the record's place.
+fn malformed_told(bad: Malformed, place: &mut u64) -> u64
+    ensures { result ∷ place.new ∷ [] ≡ 2 ∷ bad.place ∷ [] }
+{
+    *place = bad.place as u64;
+    2
+}
+
 pub fn check_context(bytes: &[u8], place: &mut u64) -> u64
     ensures { result ∷ place.new ∷ [] ≡ numbers_in (context_cause (checked_context bytes.now)) }
 {
     match records::context::check_context(bytes) {
-        ContextRead::Good(_) => {
+        Ok(_) => {
             *place = 0;
             0
         }
-        ContextRead::Bad(flaw) => flaw_told(flaw, place),
+        Err(flaw) => flaw_told(flaw, place),
     }
 }
 
@@ -46,14 +54,11 @@ pub fn check_records(bytes: &[u8], place: &mut u64) -> u64
     ensures { result ∷ place.new ∷ [] ≡ numbers_in (checked_cause (checked_codes 65536 bytes.now)) }
 {
     match records::code::check_codes(bytes, 65536) {
-        Checked::Good(_) => {
+        Ok(_) => {
             *place = 0;
             0
         }
-        Checked::Malformed(bad) => {
-            *place = bad as u64;
-            2
-        }
+        Err(bad) => malformed_told(bad, place),
     }
 }
 
@@ -61,13 +66,10 @@ pub fn check_order(bytes: &[u8], place: &mut u64) -> u64
     ensures { result ∷ place.new ∷ [] ≡ numbers_in (order_cause (order_read bytes.now)) }
 {
     match records::order::read_order(bytes) {
-        OrderRead::Whole(_) => {
+        Ok(_) => {
             *place = 0;
             0
         }
-        OrderRead::Malformed(bad) => {
-            *place = bad as u64;
-            2
-        }
+        Err(bad) => malformed_told(bad, place),
     }
 }

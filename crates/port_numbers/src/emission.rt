@@ -1,13 +1,13 @@
 // The operations of code.rs and memory.rs by number, and the answers of every operation as numbers.
+// Kept: a number, and its value through `&mut`, as the C interface gives them.
 ghost use Rattle.std.specs.Prelude.{◌≡◌, [], ◌∷◌, length};
 ghost use Rattle.emit.specs.Answers.{Answers};
 ghost use Rattle.port_numbers.specs.Emission.{answer_numbers, counter_after, operation_numbered, memory_answer, memory_records};
 
 use crate::check;
 use code::emitters::Condition;
-use emit::answer::Answer;
+use emit::answer::{Answer, Refusal};
 use layout::config;
-use layout::config::Choice;
 use operations::operation::Operation;
 use records::order;
 
@@ -17,26 +17,26 @@ pub fn told(answer: Answer, value: &mut u64) -> u64
 {
     *value = 0;
     match answer {
-        Answer::Written(records, _) => {
-            *value = records as u64;
+        Ok(written) => {
+            *value = written.records as u64;
             0
         }
-        Answer::Context(flaw) => check::flaw_told(flaw, value),
-        Answer::Body(place) => {
+        Err(Refusal::Context(flaw)) => check::flaw_told(flaw, value),
+        Err(Refusal::Body(place)) => {
             *value = place as u64;
             2
         }
-        Answer::Operand => 3,
-        Answer::Missing => 4,
-        Answer::Arguments => 6,
-        Answer::Count => 7,
-        Answer::Position => 8,
-        Answer::Labels => 9,
-        Answer::Room(bytes) => {
+        Err(Refusal::Operand) => 3,
+        Err(Refusal::Missing) => 4,
+        Err(Refusal::Arguments) => 6,
+        Err(Refusal::Count) => 7,
+        Err(Refusal::Position) => 8,
+        Err(Refusal::Labels) => 9,
+        Err(Refusal::Room(bytes)) => {
             *value = bytes as u64;
             10
         }
-        Answer::Edition => 23,
+        Err(Refusal::Edition) => 23,
     }
 }
 
@@ -45,21 +45,13 @@ pub fn counter_after(answer: Answer, counter: u64) -> u64
     ensures { result ≡ counter_after counter answer }
 {
     match answer {
-        Answer::Written(_, after) => after,
-        Answer::Context(_) => counter,
-        Answer::Body(_) => counter,
-        Answer::Operand => counter,
-        Answer::Missing => counter,
-        Answer::Arguments => counter,
-        Answer::Count => counter,
-        Answer::Position => counter,
-        Answer::Labels => counter,
-        Answer::Room(_) => counter,
-        Answer::Edition => counter,
+        Ok(written) => written.counter,
+        Err(_) => counter,
     }
 }
 
 // A number that names no operation gives one that is refused.
+#[tactic(auto, unfolding(crate::specs::Emission::operation_numbered))]
 pub fn operation_numbered(
     operation: u64,
     first: u64,
@@ -115,14 +107,14 @@ pub fn memory(
 ) -> Answer
     ensures { Answers out.old out.new result (memory_answer edition frame operation counter (length out.old) operand n context.now loaded.now) (memory_records edition frame operation counter operand n context.now loaded.now) }
 {
-    let Choice::Of(_) = config::edition_of(edition) else {
-        return Answer::Edition;
-    };
+    if config::edition_of(edition).is_none() {
+        return Err(Refusal::Edition);
+    }
     match operation {
         1 => memory::block::erase_block(out, frame, counter, operand),
         2 => memory::block::share_block_n(out, frame, counter, operand, n),
         3 => memory_store::store::store(out, edition, frame, counter, context, n),
         4 => memory_load::load::load(out, edition, frame, counter, loaded, context),
-        _ => Answer::Operand,
+        _ => Err(Refusal::Operand),
     }
 }

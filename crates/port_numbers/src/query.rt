@@ -1,33 +1,26 @@
 // What the queries of utils.rs and config.rs are asked and answer, as numbers.
+// Kept: a number, and its value through `&mut`, as the C interface gives them.
 ghost use Rattle.std.specs.Prelude.{◌≡◌, [], ◌∷◌};
 ghost use Rattle.port_numbers.specs.Query.{temporary_numbers, offset_numbers, half_of};
 
 use crate::check;
-use layout::config::Offset;
-use layout::utils::{Temporary, TemporaryNumber};
+use layout::config::NoOffset;
+use layout::utils::{NoTemporary, TemporaryNumber};
 
 // An answer as its number, and its operand.
-pub fn located(temporary: Temporary, value: &mut u64) -> u64
+pub fn located(temporary: Result<u64, NoTemporary>, value: &mut u64) -> u64
     ensures { result ∷ value.new ∷ [] ≡ temporary_numbers temporary }
 {
+    *value = 0;
     match temporary {
-        Temporary::Operand(operand) => {
+        Ok(operand) => {
             *value = operand;
             0
         }
-        Temporary::Context(flaw) => check::flaw_told(flaw, value),
-        Temporary::Frame => {
-            *value = 0;
-            3
-        }
-        Temporary::Missing => {
-            *value = 0;
-            4
-        }
-        Temporary::OutOfTemporaries => {
-            *value = 0;
-            8
-        }
+        Err(NoTemporary::Context(flaw)) => check::flaw_told(flaw, value),
+        Err(NoTemporary::Frame) => 3,
+        Err(NoTemporary::Missing) => 4,
+        Err(NoTemporary::OutOfTemporaries) => 8,
     }
 }
 
@@ -42,21 +35,16 @@ pub fn half_of(second: bool) -> TemporaryNumber
 }
 
 // An answer as its number, and its offset.
-pub fn measured(offset: Offset, value: &mut u64) -> u64
+pub fn measured(offset: Result<u64, NoOffset>, value: &mut u64) -> u64
     ensures { result ∷ value.new ∷ [] ≡ offset_numbers offset }
 {
+    *value = 0;
     match offset {
-        Offset::At(bytes) => {
+        Ok(bytes) => {
             *value = bytes;
             0
         }
-        Offset::Operand => {
-            *value = 0;
-            3
-        }
-        Offset::Edition => {
-            *value = 0;
-            23
-        }
+        Err(NoOffset::Operand) => 3,
+        Err(NoOffset::Edition) => 23,
     }
 }

@@ -1,4 +1,5 @@
 -- Orders that reach the bounds on records, by computation, and that need the whole room for records or for the context.
+use Rattle.std.specs.Prelude.{Ok, Err}
 use Prim.Native.Nat.{ℕ, zero, suc, ◌+◌, ◌*◌, ◌-◌, ◌≤◌, ◌<◌}
 use mathlib.Core.Path.{◌≡◌, refl, ◌∙◌}
 use mathlib.Core.Bool.{true}
@@ -6,7 +7,6 @@ use mathlib.Core.List.{List, [], append-nil}
 use native.Mathlib.Omega.{arith}
 use lib.ListN.{replicate, length-replicate}
 use borrow.Author.Tests.{le-leb, ne_eqb}
-use Rattle.records.specs.declared.context.ContextRead.TheVariants.{Good}
 use Rattle.records.specs.declared.binding.Kind.{Kind}
 use Rattle.records.specs.declared.binding.Kind.TheVariants.{Linked, Ext}
 use Rattle.records.specs.declared.binding.Binding.{Binding}
@@ -25,7 +25,7 @@ use Rattle.layout.specs.Config.{Supported, frame_of, edition_of, shape_of, posit
 use Rattle.layout.specs.Positions.{location}
 use Rattle.memory.specs.Objects.{snd, ext_in}
 use Rattle.memory.proofs.Sizes.{store_object_size, immediate_size}
-use Rattle.order_spec.specs.declared.answer.OrderAnswer.TheVariants.{Room}
+use Rattle.order_spec.specs.declared.answer.OrderRefusal.TheVariants.{Room}
 use Rattle.order_spec.specs.Writes.{count_ok, tree_of, context_after, present, kinds_ok, asked}
 use Rattle.order_spec.specs.Answered.{Asked, order_is, order_granted, answer_to}
 use Rattle.order_spec.proofs.Accepting.{all_passed, all_judged}
@@ -41,20 +41,20 @@ module _ (kind : Kind) where
   each zero = tt
   each (suc n) = (omega arith, each n)
 
-  variables_good : (n : ℕ) → n ≤ 4096 → checked_context (variables kind n) ≡ Good n
+  variables_good : (n : ℕ) → n ≤ 4096 → checked_context (variables kind n) ≡ Ok n
   variables_good n h =
       let b : Binding = record { kind = kind; id = 0 } in
       rw (length-replicate {A = Binding} n b) at (records_read_back.context_accepted (replicate n b) (each n) (rw (length-replicate {A = Binding} n b) h))
 
 -- an order alone on such a context, which nothing before 9 refuses
-module _ (g : Shape) (context : List ℕ) (k : ℕ) (good : checked_context context ≡ Good k) (o : Order) (w : WellFormedOrder o) (alone : wanted o ≡ 0) (records after : ℕ) where
+module _ (g : Shape) (context : List ℕ) (k : ℕ) (good : checked_context context ≡ Ok k) (o : Order) (w : WellFormedOrder o) (alone : wanted o ≡ 0) (records after : ℕ) where
   abbrev q : Asked
   q = asked_with o records after
 
   is : order_is q ≡ o
   is = rw append-nil at (order_laws.same o [] w)
 
-  none_good : checked_context [] ≡ Good 0
+  none_good : checked_context [] ≡ Ok 0
   none_good = records_read_back.context_accepted [] tt (omega arith)
 
   ordered : present context k [] o ≡ true → kinds_ok context k [] o ≡ true → count_ok o ≡ true → asked context k [] o ≤ positions g
@@ -77,7 +77,7 @@ module _ (g : Shape) (s : Supported g) (room : ℕ) where
   unfolding tree_of
   store_labels = omega (arith, (store_object_size g (ext_in (variables Linked most) 0) s (most - most) most).0, (immediate_size g (snd (most - most)) 0).0)
 
-  records_needed : room < room_for_records g → answer_to g (variables Linked most) (asked_with (Store most 0) room (room_for_context g)) ≡ Room (room_for_records g)
+  records_needed : room < room_for_records g → answer_to g (variables Linked most) (asked_with (Store most 0) room (room_for_context g)) ≡ Err (Room (room_for_records g))
   unfolding present kinds_ok asked
   records_needed h =
       let context : List ℕ = variables Linked most in
@@ -97,10 +97,10 @@ module _ (g : Shape) (s : Supported g) (room : ℕ) where
   unfolding tree_of
   put_labels = (immediate_size g (snd (most - 1)) 0).0
 
-  context_needed : room < room_for_context g → answer_to g before (asked_with (Put 0) (room_for_records g) room) ≡ Room (room_for_context g)
+  context_needed : room < room_for_context g → answer_to g before (asked_with (Put 0) (room_for_records g) room) ≡ Err (Room (room_for_context g))
   unfolding present kinds_ok asked
   context_needed h =
-      let good : checked_context before ≡ Good (most - 1) = variables_good Ext (most - 1) (omega (arith, s.frame)) in
+      let good : checked_context before ≡ Ok (most - 1) = variables_good Ext (most - 1) (omega (arith, s.frame)) in
       let fits : asked before (most - 1) [] (Put 0) ≤ positions g = omega (arith, s.aside) in
       let long = after_long before (most - 1) [] (Put 0) (context_long before (most - 1) good) refl in
       ordered g before (most - 1) good (Put 0) put refl (room_for_records g) room refl refl refl fits

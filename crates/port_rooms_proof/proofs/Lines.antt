@@ -1,4 +1,6 @@
 -- How long the line of a record is at most, by the fields that its code uses, and a listing.
+use Rattle.records.specs.declared.check.Malformed.{Malformed}
+use Rattle.std.specs.Prelude.{Err, Ok, Result}
 use Prim.Native.Nat.{ℕ, zero, suc, ◌+◌, ◌*◌, ◌-◌, ◌^◌, ◌≤◌, ◌<◌}
 use mathlib.Core.Path.{◌≡◌, refl, subst}
 use mathlib.Core.Logic.{◌≢◌}
@@ -8,8 +10,6 @@ use native.Mathlib.Omega.{arith}
 use lib.Dec.{T, leb, leb→le, eqb}
 use lib.ListN.{length, drop, length-append}
 use borrow.Author.Tests.{ltb-true, eqb-true, le-leb}
-use Rattle.records.specs.declared.check.Checked.{Checked}
-use Rattle.records.specs.declared.check.Checked.TheVariants.{Good, Malformed}
 use Rattle.records.specs.declared.code.Fields.{Fields}
 use Rattle.records.specs.Codes.{readers, code_of}
 use Rattle.records.specs.Instructions.{fields_in, used, register_ok, label_ok, word_ok, operands_ok, fields_ok}
@@ -20,7 +20,7 @@ use Rattle.records.proofs.Digits.{number_below}
 use Rattle.records.proofs.Each.{each_drop}
 use Rattle.records.proofs.Table.{at}
 use Rattle.text.specs.Text.{ascii, spaced, digits, decimal, signed_decimal}
-use Rattle.listing.specs.declared.Listed.TheVariants.{Text, Short}
+use Rattle.listing.specs.declared.NotListed.TheVariants.{Short}
 use Rattle.listing.specs.Names.{code_names}
 use Rattle.listing.specs.Listing.{code_name, operands_text, line, lines, listing, checked_list, text_of, listed_text, listing_answer, listed}
 use Rattle.listing.proofs.Accepted.{record_passes, few_records}
@@ -103,7 +103,7 @@ listing_parts s n = omega (arith, length-append (decimal n ++ ascii " records\n"
     nine : length (ascii " records\n") ≡ 9
     nine = refl
 
-module _ (s : List ℕ) (bytes : Bytes s) (n : ℕ) (accepted : checked_list s ≡ Good n) where
+module _ (s : List ℕ) (bytes : Bytes s) (n : ℕ) (accepted : checked_list s ≡ Ok n) where
   label_below : (k : ℕ) → k < n → (fields_in (drop (24 * k) s)).label < 256 ^ 4
   unfolding fields_in
   label_below k h =
@@ -132,17 +132,17 @@ module _ (s : List ℕ) (bytes : Bytes s) where
   unfolding text_of
   text_fits = by (checked_list s) refl
     where
-      by : (c : Checked) → checked_list s ≡ c → length (text_of code_names s c) ≤ room_for_text
-      by (Good n) e = listing_long s bytes n e
-      by (Malformed place) e = omega arith
+      by : (c : Result ℕ Malformed) → checked_list s ≡ c → length (text_of code_names s c) ≤ room_for_text
+      by (Ok n) e = listing_long s bytes n e
+      by (Err bad) e = omega arith
 
-  pub no_room_wanted : (room : ℕ) → room_for_text ≤ room → (needed : ℕ) → listed code_names s room ≢ Short needed
+  pub no_room_wanted : (room : ℕ) → room_for_text ≤ room → (needed : ℕ) → listed code_names s room ≢ Err (Short needed)
   unfolding listing_answer
   no_room_wanted room h needed = by (checked_list s) refl
     where
-      by : (c : Checked) → checked_list s ≡ c → listing_answer code_names s room c ≢ Short needed
-      by (Good n) e r =
-          let t : Text (length (listing code_names s n)) ≡ Short needed = rw (le-leb (length (listing code_names s n)) room (omega (arith, listing_long s bytes n e))) at r in
+      by : (c : Result ℕ Malformed) → checked_list s ≡ c → listing_answer code_names s room c ≢ Err (Short needed)
+      by (Ok n) e r =
+          let t : Ok (length (listing code_names s n)) ≡ Err (Short needed) = rw (le-leb (length (listing code_names s n)) room (omega (arith, listing_long s bytes n e))) at r in
           let z : ◌≡◌ {A = ℕ} 0 1 = cc in
           omega arith
-      by (Malformed place) e r = let z : ◌≡◌ {A = ℕ} 0 1 = cc in omega arith
+      by (Err bad) e r = let z : ◌≡◌ {A = ℕ} 0 1 = cc in omega arith

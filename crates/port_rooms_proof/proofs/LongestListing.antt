@@ -1,4 +1,5 @@
 -- A list of as many records as are listed, each with the longest line, and how long its listing is.
+use Rattle.std.specs.Prelude.{Err, Ok}
 use Prim.Native.Nat.{ℕ, zero, suc, ◌+◌, ◌*◌, ◌-◌, ◌≤◌, ◌<◌}
 use mathlib.Core.Path.{◌≡◌, refl, ap, ◌∙◌, subst}
 use native.Mathlib.Nat.{zero-add, suc-add, add_comm, mul-suc}
@@ -6,7 +7,6 @@ use native.Mathlib.Omega.{arith}
 use lib.ListN.{length, drop, replicate, length-append, length-replicate}
 use lib.Seq.{drop_at, drop-drop}
 use borrow.Author.Tests.{lt-leb}
-use Rattle.records.specs.declared.check.Checked.TheVariants.{Good}
 use Rattle.records.specs.declared.code.Fields.{Fields}
 use Rattle.records.specs.Codes.{fields_of, readers, code_of}
 use Rattle.records.specs.Bytes.{le, number}
@@ -14,7 +14,7 @@ use Rattle.records.specs.Instructions.{fields_bytes, fields_in, used, operands_o
 use Rattle.records.specs.ReadBack.{Each, WellFormedCode, code_bytes}
 use Rattle.records.proofs.ReadBack.{records_read_back}
 use Rattle.text.specs.Text.{ascii, spaced, digits, decimal, signed_decimal}
-use Rattle.listing.specs.declared.Listed.TheVariants.{Short}
+use Rattle.listing.specs.declared.NotListed.TheVariants.{Short}
 use Rattle.listing.specs.Names.{code_names}
 use Rattle.listing.specs.Listing.{code_name, operands_text, line, lines, listing, checked_list, listing_answer, listed}
 use Rattle.port_rooms_proof.specs.Sizes.{room_for_text}
@@ -30,10 +30,10 @@ all_well_formed : (n : ℕ) → Each WellFormedCode (replicate n longest_record)
 all_well_formed zero = tt
 all_well_formed (suc n) = (well_formed, all_well_formed n)
 
-accepted : (n : ℕ) → n ≤ 2730 → checked_list (longest_records n) ≡ Good n
+accepted : (n : ℕ) → n ≤ 2730 → checked_list (longest_records n) ≡ Ok n
 accepted n h =
     let l = length-replicate n longest_record in
-    records_read_back.codes_accepted (replicate n longest_record) (all_well_formed n) 2730 (omega arith) ∙ ap Good l
+    records_read_back.codes_accepted (replicate n longest_record) (all_well_formed n) 2730 (omega arith) ∙ ap Ok l
 
 record_long : length (code_bytes longest_record) ≡ 24
 unfolding fields_bytes le
@@ -74,7 +74,7 @@ module _ (n : ℕ) (h : n ≤ 2730) where
       let q : length (line code_names (suc k) f) ≡ length (decimal (suc k)) + 56 = rw p (line_long (suc k)) in
       omega (arith, length-append (lines code_names (longest_records n) k) (line code_names (suc k) f), next_digits k (omega arith))
 
-  listing_short : (m : ℕ) → length (decimal n) + 9 + (56 * n + place_digits n) ≡ m → (room : ℕ) → room < m → listed code_names (longest_records n) room ≡ Short m
+  listing_short : (m : ℕ) → length (decimal n) + 9 + (56 * n + place_digits n) ≡ m → (room : ℕ) → room < m → listed code_names (longest_records n) room ≡ Err (Short m)
   unfolding listing_answer
   listing_short m e room l =
       let t : length (listing code_names (longest_records n) n) ≡ m = omega (arith, listing_parts (longest_records n) n, lines_long n (omega arith)) in

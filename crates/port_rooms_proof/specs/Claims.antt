@@ -1,7 +1,7 @@
 -- No order on as many variables as have positions, no listing and no routine is refused for want of room where the buffers have the sizes that
 -- include/axcut.h recommends; and with a byte less an order and a listing are. In the answers that the contracts of `order`, `list_records` and
 -- `into_x86_64_routine` cite.
-use Rattle.std.specs.Prelude.{ℕ, ◌*◌, ◌-◌, ◌^◌, ◌≤◌, ◌<◌, ◌≡◌, ◌≢◌, Bool, true, List, [], length, replicate}
+use Rattle.std.specs.Prelude.{ℕ, ◌*◌, ◌-◌, ◌^◌, ◌≤◌, ◌<◌, ◌≡◌, ◌≢◌, Bool, true, List, [], length, replicate, Err}
 use Rattle.records.specs.declared.binding.Kind.TheVariants.{Linked, Ext}
 use Rattle.records.specs.declared.code.Code.{Code}
 use Rattle.records.specs.declared.code.Code.TheVariants.{MOVIM}
@@ -18,13 +18,13 @@ use Rattle.memory.specs.Blocks.{erase_block, share_block}
 use Rattle.memory.specs.Objects.{store_object, load_object}
 use Rattle.memory_bounds.specs.Bounds.{stored_within, loaded_within}
 use Rattle.print_i64.specs.Print.{print_i64}
-use Rattle.emit.specs.declared.answer.Answer.TheVariants as emission
+use Rattle.emit.specs.declared.answer.Refusal.TheVariants as emission
 use Rattle.routine.specs.Routine.{routine_answer}
-use Rattle.order_spec.specs.declared.answer.OrderAnswer.TheVariants.{Room}
+use Rattle.order_spec.specs.declared.answer.OrderRefusal.TheVariants.{Room}
 use Rattle.order_spec.specs.Writes.{tree_of, present, asked}
 use Rattle.order_spec.specs.Answered.{Asked, order_accepted, answer_to, places_in, order_context}
 use Rattle.order_emit.specs.Bounds.{operation_within, erase_within, share_within, print_within, most_records}
-use Rattle.listing.specs.declared.Listed.TheVariants.{Short}
+use Rattle.listing.specs.declared.NotListed.TheVariants.{Short}
 use Rattle.listing.specs.Names.{code_names}
 use Rattle.listing.specs.Listing.{listed_text, listed}
 use Rattle.port_rooms_proof.specs.Sizes.{records_within, variables, room_for_records, room_for_context, room_for_text, room_for_routine}
@@ -36,7 +36,7 @@ pub record OrdersFit : Type 0 where
   -- number 10 is not answered
   pub enough_room :
       (g : Shape) → Supported g → (context : List ℕ) (q : Asked) → places_in context ≤ most_variables g → room_for_records g ≤ q.records_room → room_for_context g ≤ q.context_room
-      → (bytes : ℕ) → answer_to g context q ≢ Room bytes
+      → (bytes : ℕ) → answer_to g context q ≢ Err (Room bytes)
   -- an accepted order leaves no more variables, so that the next one finds the same
   pub variables_stay :
       (g : Shape) → Supported g → (context : List ℕ) (q : Asked) → places_in context ≤ most_variables g → order_accepted (answer_to g context q) ≡ true
@@ -100,16 +100,16 @@ pub record OrdersFill : Type 0 where
   -- a store of all variables, all linked, needs the whole room for records
   pub records_needed :
       (g : Shape) → Supported g → (room : ℕ) → room < room_for_records g
-      → answer_to g (variables Linked (most_variables g)) (asked_with (Store (most_variables g) 0) room (room_for_context g)) ≡ Room (room_for_records g)
+      → answer_to g (variables Linked (most_variables g)) (asked_with (Store (most_variables g) 0) room (room_for_context g)) ≡ Err (Room (room_for_records g))
   -- the last variable that has positions needs the whole room for the context
   pub context_needed :
       (g : Shape) → Supported g → (room : ℕ) → room < room_for_context g
-      → answer_to g (variables Ext (most_variables g - 1)) (asked_with (Put 0) (room_for_records g) room) ≡ Room (room_for_context g)
+      → answer_to g (variables Ext (most_variables g - 1)) (asked_with (Put 0) (room_for_records g) room) ≡ Err (Room (room_for_context g))
 
 pub record ListingsFit : Type 0 where
   pub text_fits : (s : List ℕ) → Bytes s → length (listed_text code_names s) ≤ room_for_text
   -- number 10 is not answered
-  pub enough_room : (s : List ℕ) → Bytes s → (room : ℕ) → room_for_text ≤ room → (needed : ℕ) → listed code_names s room ≢ Short needed
+  pub enough_room : (s : List ℕ) → Bytes s → (room : ℕ) → room_for_text ≤ room → (needed : ℕ) → listed code_names s room ≢ Err (Short needed)
 
 -- a record with the longest line, but for its place: two digits of a register, and twice −2^63
 abbrev pub longest_record : Code
@@ -121,8 +121,8 @@ longest_records n = joined code_bytes (replicate n longest_record)
 
 -- the most that are listed need the whole room
 abbrev pub ListingsFill : Type 0
-ListingsFill = (room : ℕ) → room < room_for_text → listed code_names (longest_records 2730) room ≡ Short room_for_text
+ListingsFill = (room : ℕ) → room < room_for_text → listed code_names (longest_records 2730) room ≡ Err (Short room_for_text)
 
 -- no routine needs more than the most records that a list has
 abbrev pub RoutinesFit : Type 0
-RoutinesFit = (g : Shape) (room arguments : ℕ) → room_for_routine ≤ room → (bytes : ℕ) (body : List ℕ) → routine_answer g room arguments body ≢ emission.Room bytes
+RoutinesFit = (g : Shape) (room arguments : ℕ) → room_for_routine ≤ room → (bytes : ℕ) (body : List ℕ) → routine_answer g room arguments body ≢ Err (emission.Room bytes)

@@ -7,9 +7,8 @@ use lib.Count.{ones}
 use lib.ListN.{length}
 use Rattle.records.specs.declared.code.Code.{Code}
 use Rattle.trees.specs.Tree.{Tree, labels, size}
-use Rattle.emit.specs.declared.answer.Answer.{Answer}
 use Rattle.emit.specs.declared.cursor.Cursor.{Cursor}
-use Rattle.emit.specs.Answers.{granted, Answers}
+use Rattle.emit.specs.Answers.{granted, Answers, Answer}
 use Rattle.emit.specs.Emitted.{Emits}
 use Rattle.layout.specs.declared.config.Shape.{Shape}
 use Rattle.print_i64.specs.Registers.{registers_to_save, set_of, members, first_backup, backups_used}

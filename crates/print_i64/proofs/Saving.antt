@@ -186,19 +186,18 @@ pops_most u r (suc k) m = omega (arith, pops_most u r k m, length-append (pops_d
     one false t x = omega arith
 
 -- the next register down
-pub pops_next : (u k m : ℕ) → k < 16 → pops_down u 16 (k + 1) m ≡ pops_down u 16 k m ++ pop_one u (length (members (15 - k) m)) (15 - k) m
+pub pops_next : (u r m : ℕ) → 0 < r → r ≤ 16 → pops_down u 16 (16 - (r - 1)) m ≡ pops_down u 16 (16 - r) m ++ pop_one u (length (members (r - 1) m)) (r - 1) m
 unfolding pops_down
-pops_next u k m h = let e : 16 - suc k ≡ 15 - k = omega arith in rw (add-one k, e)
+pops_next u r m h l =
+    let e : 16 - (r - 1) ≡ suc (16 - r) = omega arith in
+    let f : 16 - suc (16 - r) ≡ r - 1 = omega arith in
+    rw (e, f)
 
-pub left_before : (k m : ℕ) → k < 16 → length (members (16 - k) m) ≡ length (members (15 - k) m) + m / 2 ^ (15 - k) % 2
-left_before k m h = let e : 16 - k ≡ 15 - k + 1 = omega arith in rw e (members_next (15 - k) m)
+pub left_before : (r m : ℕ) → 0 < r → length (members r m) ≡ length (members (r - 1) m) + m / 2 ^ (r - 1) % 2
+left_before r m h = let e : r ≡ r - 1 + 1 = omega arith in ap (λ (n : ℕ). length (members n m)) e ∙ members_next (r - 1) m
 
-pub left_next : (k m left : ℕ) → k < 16 → left ≡ length (members (16 - k) m)
-    → (left - m / 2 ^ (15 - k) % 2 ≡ length (members (15 - k) m)) × (left - m / 2 ^ (15 - k) % 2 ≡ length (members (16 - (k + 1)) m))
-left_next k m left h e =
-    let f : 16 - (k + 1) ≡ 15 - k = omega arith in
-    let z : left - m / 2 ^ (15 - k) % 2 ≡ length (members (15 - k) m) = omega (arith, left_before k m h) in
-    (z, rw f z)
+pub left_next : (r m left : ℕ) → 0 < r → left ≡ length (members r m) → left - m / 2 ^ (r - 1) % 2 ≡ length (members (r - 1) m)
+left_next r m left h e = omega (arith, left_before r m h)
 
 -- with the 8 bytes more, by the ones of the set
 module _ {o o₁ : List ℕ} {p p₁ : Cursor} (f u m : ℕ) (h : m < 65536) (d : Emitted o p o₁ p₁ (fields_list (move_all false f u (members 16 m))) 0) where

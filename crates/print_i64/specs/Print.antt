@@ -1,16 +1,14 @@
 -- What print_i64 writes and answers. From code.rs, print_i64, save_caller_save_registers and restore_caller_save_registers, and the scope:
 -- 'An even count of pushes, zero included, subtracts 8 from STACK'. Causes: 15 to 17 the context, then 3 the frame or the source, 10 the room; no labels are drawn.
-use Rattle.std.specs.Prelude.{ℕ, ◌+◌, ◌*◌, ◌-◌, ◌%◌, ◌≡◌, refl, Bool, true, cond, List, [], ◌∷◌, ltb, eqb, length, take, drop}
-use Rattle.records.specs.declared.context.ContextRead.{ContextRead}
-use Rattle.records.specs.declared.context.ContextRead.TheVariants.{Good, Bad}
+use Rattle.records.specs.declared.context.Flaw.{Flaw}
+use Rattle.std.specs.Prelude.{ℕ, ◌+◌, ◌*◌, ◌-◌, ◌%◌, ◌≡◌, refl, Bool, true, cond, List, [], ◌∷◌, ltb, eqb, length, take, drop, Err, Ok, Result}
 use Rattle.records.specs.declared.code.Code.{Code}
 use Rattle.records.specs.declared.code.Code.TheVariants.{ADDI, SUBI, MOV, MOVL, PUSH, POP, CALL}
 use Rattle.records.specs.Contexts.{checked_context, ext_at}
 use Rattle.records.specs.Names.{PRINTI64, PRINTLNI64}
 use Rattle.trees.specs.Tree.{Tree, straight, nop, leaf, seq, size, flat}
-use Rattle.emit.specs.declared.answer.Answer.{Answer}
-use Rattle.emit.specs.declared.answer.Answer.TheVariants.{Context, Operand}
-use Rattle.emit.specs.Answers.{unframed, granted, Answers}
+use Rattle.emit.specs.declared.answer.Refusal.TheVariants.{Context, Operand}
+use Rattle.emit.specs.Answers.{unframed, granted, Answers, Answer}
 use Rattle.layout.specs.declared.config.Shape.{Shape}
 use Rattle.layout.specs.Config.{STACK, TEMP, stack_offset, in_frame, register_for}
 use Rattle.layout.specs.Positions.{operand_ok}
@@ -72,15 +70,15 @@ print_i64 g newline w ext n =
     print_saving g newline w (first_backup n) (backups_used n (length (registers_to_save ext n))) (registers_to_save ext n)
 
 -- its answer for an output of so many bytes, where the context's check came out so
-abbrev pub print_answer : Shape → ℕ → Bool → ℕ → List ℕ → ContextRead → Answer
-print_answer g room newline w s (Good n) =
-    cond (operand_ok g w) (granted 0 room (24 * size (print_i64 g newline w (ext_at s) n)) 0) Operand
-print_answer g room newline w s (Bad flaw) = Context flaw
+abbrev pub print_answer : Shape → ℕ → Bool → ℕ → List ℕ → Result ℕ Flaw → Answer
+print_answer g room newline w s (Ok n) =
+    cond (operand_ok g w) (granted 0 room (24 * size (print_i64 g newline w (ext_at s) n)) 0) (Err Operand)
+print_answer g room newline w s (Err flaw) = Err (Context flaw)
 
 -- its records
-abbrev pub print_records : Shape → Bool → ℕ → List ℕ → ContextRead → List Code
-print_records g newline w s (Good n) = flat (print_i64 g newline w (ext_at s) n) 0
-print_records g newline w s (Bad flaw) = []
+abbrev pub print_records : Shape → Bool → ℕ → List ℕ → Result ℕ Flaw → List Code
+print_records g newline w s (Ok n) = flat (print_i64 g newline w (ext_at s) n) 0
+print_records g newline w s (Err flaw) = []
 
 -- its answer and its records in a frame of so many spills, in the context s
 abbrev pub print_in : ℕ → ℕ → Bool → ℕ → List ℕ → Answer

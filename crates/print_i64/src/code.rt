@@ -1,6 +1,5 @@
 // print_i64, from code.rs: the answer and its records in a lent output. It draws no labels: it takes no counter, and the answer's is 0.
-ghost use Rattle.std.specs.Prelude.{◌≡◌, ◌+◌, ◌*◌, ◌≤◌, ◌<◌, ◌^◌, length};
-ghost use Rattle.records.specs.declared.context.ContextRead.TheVariants.{Good};
+ghost use Rattle.std.specs.Prelude.{◌≡◌, ◌+◌, ◌*◌, ◌≤◌, ◌<◌, ◌^◌, length, Ok};
 ghost use Rattle.records.specs.Contexts.{checked_context, ext_at};
 ghost use Rattle.trees.specs.Tree.{size, flat};
 ghost use Rattle.emit.specs.Answers.{granted, Answers};
@@ -9,10 +8,9 @@ ghost use Rattle.layout.specs.Config.{Supported, operands};
 ghost use Rattle.print_i64.specs.Print.{source_to_temp, print_name, call_print, print_i64, print_answer, print_records, Prints};
 
 use crate::{registers, save};
-use emit::answer::Answer;
+use emit::answer::{Answer, Refusal, Written};
 use emit::cursor::{Cursor, Row};
-use layout::config::{Choice, STACK, Shape, TEMP};
-use records::context::ContextRead;
+use layout::config::{STACK, Shape, TEMP};
 use records::name::{PRINT_I64, PRINTLN_I64};
 use records::number::{CALL, MOV, MOVL};
 
@@ -85,14 +83,14 @@ fn print_checked(
     n: usize,
 ) -> Answer
     requires { (8 * n ≤ length context.now) × (n ≤ 4096) × Supported g }
-    ensures { Answers out.old out.new result (print_answer g (length out.old) newline w context.now (Good n)) (print_records g newline w context.now (Good n)) }
+    ensures { Answers out.old out.new result (print_answer g (length out.old) newline w context.now (Ok n)) (print_records g newline w context.now (Ok n)) }
 {
-    if layout::utils::operand_ok(g, w) {} else {
-        return Answer::Operand;
+    if !layout::utils::operand_ok(g, w) {
+        return Err(Refusal::Operand);
     }
     if emit::answer::ample(0, out.len(), 0, MOST_RECORDS) {
         let q = emit_print_i64(out, Cursor { at: 0, counter: 0 }, g, newline, w, context, n);
-        return emit::answer::written(q);
+        return Ok(Written::up_to(q));
     }
     print_sized(out, g, newline, w, context, n)
 }
@@ -112,30 +110,25 @@ fn print_sized(out: &mut [u8], g: Shape, newline: bool, w: u64, context: &[u8], 
         context,
         n,
     );
-    let answer = emit::answer::grant(0, out.len(), need);
-    if emit::answer::is_written(answer) {} else {
-        return answer;
-    }
+    let written = emit::answer::grant(0, out.len(), need)?;
     emit_print_i64(out, Cursor { at: 0, counter: 0 }, g, newline, w, context, n);
-    answer
+    Ok(written)
 }
 
 // Prints the integer in the source operand, with a newline if asked. The context's variables are kept.
 pub fn print_i64(out: &mut [u8], frame: u64, newline: bool, source: u64, context: &[u8]) -> Answer
     ensures { Prints frame out.old out.new result newline source context.now }
 {
-    match layout::config::frame_of(frame) {
-        Choice::Of(g) => print_i64_in(out, g, newline, source, context),
-        Choice::Unknown => emit::answer::unframed(context),
-    }
+    let Some(g) = layout::config::frame_of(frame) else {
+        return emit::answer::unframed(context);
+    };
+    print_i64_in(out, g, newline, source, context)
 }
 
 fn print_i64_in(out: &mut [u8], g: Shape, newline: bool, source: u64, context: &[u8]) -> Answer
     requires { Supported g }
     ensures { Answers out.old out.new result (print_answer g (length out.old) newline source context.now (checked_context context.now)) (print_records g newline source context.now (checked_context context.now)) }
 {
-    match records::context::check_context(context) {
-        ContextRead::Good(n) => print_checked(out, g, newline, source, context, n),
-        ContextRead::Bad(flaw) => Answer::Context(flaw),
-    }
+    let n = records::context::check_context(context)?;
+    print_checked(out, g, newline, source, context, n)
 }

@@ -19,9 +19,8 @@ pub fn registers_to_save(context: &[u8], n: usize) -> u16
     requires { 8 * n ≤ length context.now }
     ensures { result ≡ set_of (registers_to_save (ext_at context.now) n) }
 {
-    let k = records::bytes::least(n, 4);
     let mut set: u16 = 0;
-    for v in 0..k {
+    for v in 0..n.min(4) {
         set = set | (two_bits(context, v) << (4 + 2 * v));
     }
     set
@@ -47,6 +46,5 @@ pub fn backup_registers_used(n: usize, count: u64) -> u64
     if 16 <= first {
         return 0;
     }
-    let free = 16 - first;
-    if count < free { count } else { free }
+    count.min(16 - first)
 }

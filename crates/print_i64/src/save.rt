@@ -77,8 +77,7 @@ fn pop_all(out: &mut [u8], p: Cursor, set: u16, count: u64, used: u64) -> Cursor
 {
     let mut q = p;
     let mut left = count;
-    for k in 4..12 {
-        let r: u8 = 15 - k;
+    for r in (4..12).rev() {
         left = left - ((set >> r) % 2) as u64;
         q = pop_one(out, q, set, used, left, r);
     }

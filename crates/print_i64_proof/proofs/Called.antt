@@ -1,4 +1,5 @@
 -- STACK brought to a multiple of 16 and back, and the call between.
+use Rattle.std.specs.Prelude.{None}
 use Prim.Native.Nat.{ℕ, suc, ◌+◌, ◌%◌, ◌≤◌, ◌<◌}
 use mathlib.Core.Path.{◌≡◌, refl, ap, ◌∙◌}
 use mathlib.Core.Logic.{◌≢◌}
@@ -11,7 +12,6 @@ use Rattle.records.specs.declared.code.Code.TheVariants.{ADDI, SUBI, MOV, CALL}
 use Rattle.trees.specs.Tree.{nop, leaf, seq}
 use Rattle.word.specs.Words.{choose}
 use Rattle.layout.specs.Config.{STACK}
-use Rattle.machine_step.specs.declared.instruction.Compared.TheVariants.{Absent}
 use Rattle.machine_step.specs.View.{View, put_reg}
 use Rattle.machine_step.specs.Step.{Call, Config, config, changed, after_print, step}
 use Rattle.print_i64.specs.Print.{print_name}
@@ -75,7 +75,7 @@ pub record Called (B : ℕ) (o : View) (z : List Call) (newline : Bool) (w : ℕ
 
 -- what the call leaves, where STACK is a multiple of 16
 call_is : (words : ℕ → ℕ) (newline : Bool) (c : Config) → c.state.reg 0 % 16 ≡ 0
-    → evaluate words (leaf (CALL (print_name newline)) refl) c ≡ done (config (after_print words c.state) Absent (c.calls ++ (call_of newline (c.state.reg 7) ∷ [])))
+    → evaluate words (leaf (CALL (print_name newline)) refl) c ≡ done (config (after_print words c.state) None (c.calls ++ (call_of newline (c.state.reg 7) ∷ [])))
 unfolding step
 call_is words true c e = rw e
 call_is words false c e = rw e

@@ -1,4 +1,5 @@
 -- print_i64 of a position of the context: the source to TEMP if it is a spill, and the call with the registers of the first four variables saved around it.
+use Rattle.std.specs.Prelude.{Ok}
 use Prim.Native.Nat.{ℕ, zero, suc, ◌+◌, ◌*◌, ◌≤◌, ◌<◌, min}
 use mathlib.Core.Path.{◌≡◌, refl, sym, ap, ◌∙◌}
 use mathlib.Core.Logic.{◌≢◌}
@@ -10,7 +11,6 @@ use lib.Dec.{ltb}
 use lib.ListN.{length}
 use borrow.Author.Tests.{ltb-true, ltb-false}
 use Rattle.records.specs.declared.code.Code.TheVariants.{MOV, MOVL, CALL}
-use Rattle.records.specs.declared.context.ContextRead.TheVariants.{Good}
 use Rattle.records.specs.Contexts.{ext_at}
 use Rattle.trees.specs.Tree.{nop, leaf, seq}
 use Rattle.layout.specs.declared.config.Shape.{Shape}
@@ -180,5 +180,5 @@ print_does words {G} ext newline c k a v h b x =
 pub print_keeps_all_variables : PrintKeepsAllVariables
 unfolding PrintKeepsAllVariables
 print_keeps_all_variables G sup words v s n p newline h q l k =
-    rw q (ends G words v h (print_records G newline (location p) s (Good n)) (print_readable G sup newline (location p) s n) (print_i64 G newline (location p) (ext_at s) n) refl
+    rw q (ends G words v h (print_records G newline (location p) s (Ok n)) (print_readable G sup newline (location p) s n) (print_i64 G newline (location p) (ext_at s) n) refl
     (position_printed words (ext_at s) newline (starting v) n (placed G sup v h) p l k))

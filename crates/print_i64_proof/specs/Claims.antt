@@ -1,8 +1,7 @@
 -- What the crate promises of print_i64, from the scope, 'Operations': it has its source in register 7 at the CALL and keeps all variables, if the source is a position
 -- of its context, with STACK where the routine's setup leaves it. Variable v has its Fst at position 2v and its Snd at 2v+1; an integer's Fst is no part of it.
 -- A call is told by its name and by the word in register 7; the nine words that a print leaves in registers 1 and 4..11 are any.
-use Rattle.std.specs.Prelude.{ℕ, ◌+◌, ◌*◌, ◌≤◌, ◌<◌, ◌≡◌, Bool, false, List, [], ◌∷◌, ◌++◌}
-use Rattle.records.specs.declared.context.ContextRead.TheVariants.{Good}
+use Rattle.std.specs.Prelude.{ℕ, ◌+◌, ◌*◌, ◌≤◌, ◌<◌, ◌≡◌, Bool, false, List, [], ◌∷◌, ◌++◌, Ok}
 use Rattle.records.specs.Contexts.{checked_context, ext_at}
 use Rattle.layout.specs.declared.config.Shape.{Shape}
 use Rattle.layout.specs.Config.{Supported, STACK, HEAP, FREE, operands, positions}
@@ -33,6 +32,6 @@ pub record PrintLeaves (G : Shape) (newline : Bool) (word : ℕ) (ext : ℕ → 
 unfoldable pub PrintKeepsAllVariables : Type 0
 PrintKeepsAllVariables =
     (G : Shape) → Supported G → (words : ℕ → ℕ) (v : View) (context : List ℕ) (n p : ℕ) (newline : Bool) → Ready G v
-    → checked_context context ≡ Good n → p < 2 * n → p < positions G
+    → checked_context context ≡ Ok n → p < 2 * n → p < positions G
     → EndsWith G words (print_records G newline (location p) context (checked_context context)) v
     (PrintLeaves G newline (held (starting v) (location p)) (ext_at context) n (starting v))

@@ -2,7 +2,7 @@
 // cannot be opened. A read or a write that fails is none: no program ends by it.
 #![tactic(auto)]
 
-ghost use Rattle.std.specs.Prelude.{◌≤◌, length};
+ghost use Rattle.std.specs.Prelude.{◌≡◌, ◌≤◌, ◌<◌, [], length, take};
 
 use std::env::{Env, FillError};
 use std::fs::File;
@@ -24,10 +24,7 @@ pub fn arg_count(rt: &impl Env) -> usize {
 pub fn arg(rt: &impl Env, i: usize, word: &mut [u8]) -> usize
     ensures { result ≤ length word.new }
 {
-    match rt.arg(i, word) {
-        Ok(n) => n,
-        Err(_) => 0,
-    }
+    rt.arg(i, word).unwrap_or(0)
 }
 
 // A file to be read. A name is UTF-8.
@@ -43,6 +40,7 @@ pub fn read_full<R: Read>(file: &mut R, buf: &mut [u8]) -> usize
     ensures { result ≤ length buf.new }
 {
     let mut done = 0;
+    // Kept: how far each read goes is not known before.
     while done < buf.len() {
         let n = read_some(file, &mut buf[done..]);
         if n == 0 {
@@ -57,10 +55,15 @@ pub fn read_full<R: Read>(file: &mut R, buf: &mut [u8]) -> usize
 fn read_some<R: Read>(file: &mut R, buf: &mut [u8]) -> usize
     ensures { result ≤ length buf.new }
 {
-    match file.read(buf) {
-        Ok(n) => n,
-        Err(_) => 0,
-    }
+    file.read(buf).unwrap_or(0)
+}
+
+// The first bytes of a text, where it has so many; else none.
+pub fn start_of(text: &[u8], size: usize) -> &[u8]
+    ensures whole { size ≤ length text.now → result.now ≡ take size text.now }
+    ensures none { length text.now < size → result.now ≡ [] }
+{
+    text.get(..size).unwrap_or(&[])
 }
 
 // Writes all of the bytes, as far as they can be written.

@@ -1,11 +1,11 @@
 // The edition and the frame that a program's words choose: `edition N` and `frame N`, each for the files named after it.
 #![tactic(auto)]
 
-ghost use Rattle.std.specs.Prelude.{◌≡◌, ◌+◌, ◌≤◌};
+pub mod named; // the files that a command line names
+
+ghost use Rattle.std.specs.Prelude.{MatchOption, Some, true, false, ◌≡◌, ◌+◌, ◌≤◌};
 ghost use Rattle.text.specs.Putting.{farthest, Puts};
 ghost use Rattle.program_options.specs.Options.{at_first, one_of_two, with_edition, with_frame, chosen_edition, chosen_frame, chosen_any, heard, still_to_come, is_played, said_words};
-
-use plan_line::words;
 
 // What the next word is: any, or the number of an edition or of a frame.
 #[derive(Clone, Copy)]
@@ -15,116 +15,100 @@ pub enum Next {
     Frame,
 }
 
-// What is chosen. A number is 0 while it is still to come, and where there is no edition or no frame of the number that came.
+// What is chosen. A number is none while it is still to come, and where there is no edition or no frame of the number that came.
 #[derive(Clone, Copy)]
 pub struct Options {
-    pub edition: u64,
-    pub frame: u64,
+    pub edition: Option<u64>,
+    pub frame: Option<u64>,
     pub next: Next,
 }
 
-// What is to be said of a choice: nothing, or that there is no edition or no frame of that number.
+// What is to be said of a choice: that there is no edition or no frame of that number.
 #[derive(Clone, Copy)]
 pub enum Said {
-    Nothing,
     NoEdition,
     NoFrame,
 }
 
-// A word that chooses, with what is chosen after it, or another.
-#[derive(Clone, Copy)]
-pub enum Heard {
-    Choice(Options, Said),
-    Other,
-}
+// Of a word that chooses: what is chosen after it, and what is to be said of that, if anything.
+pub type Heard = Option<(Options, Option<Said>)>;
 
 // Before the first word.
 pub fn at_first() -> Options
     ensures { result ≡ at_first }
 {
     Options {
-        edition: 1,
-        frame: 256,
+        edition: Some(1),
+        frame: Some(256),
         next: Next::Any,
     }
 }
 
-// Which of two words a word is.
 #[derive(Clone, Copy)]
 pub enum Which {
     First,
     Second,
-    Neither,
 }
 
-fn one_of_two(word: &[u8], first: &[u8], second: &[u8]) -> Which
+// Which of two words a word is, if either.
+fn one_of_two(word: &[u8], first: &[u8], second: &[u8]) -> Option<Which>
     ensures { result ≡ one_of_two word.now first.now second.now }
 {
-    if words::same(word, first) {
-        return Which::First;
+    if word == first {
+        Some(Which::First)
+    } else if word == second {
+        Some(Which::Second)
+    } else {
+        None
     }
-    if words::same(word, second) {
-        return Which::Second;
-    }
-    Which::Neither
 }
 
-fn in_edition(o: Options, edition: u64, next: Next) -> Options
+fn in_edition(o: Options, edition: Option<u64>, next: Next) -> Options
     ensures { result ≡ with_edition o edition next }
 {
-    Options {
-        edition,
-        frame: o.frame,
-        next,
-    }
+    Options { edition, next, ..o }
 }
 
-fn in_frame(o: Options, frame: u64, next: Next) -> Options
+fn in_frame(o: Options, frame: Option<u64>, next: Next) -> Options
     ensures { result ≡ with_frame o frame next }
 {
-    Options {
-        edition: o.edition,
-        frame,
-        next,
-    }
+    Options { frame, next, ..o }
 }
 
-fn chosen_edition(o: Options, number: Which) -> Heard
+fn chosen_edition(o: Options, number: Option<Which>) -> Heard
     ensures { result ≡ chosen_edition o number }
 {
     match number {
-        Which::First => Heard::Choice(in_edition(o, 1, Next::Any), Said::Nothing),
-        Which::Second => Heard::Choice(in_edition(o, 2, Next::Any), Said::Nothing),
-        Which::Neither => Heard::Choice(in_edition(o, 0, Next::Any), Said::NoEdition),
+        Some(Which::First) => Some((in_edition(o, Some(1), Next::Any), None)),
+        Some(Which::Second) => Some((in_edition(o, Some(2), Next::Any), None)),
+        None => Some((in_edition(o, None, Next::Any), Some(Said::NoEdition))),
     }
 }
 
-fn chosen_frame(o: Options, number: Which) -> Heard
+fn chosen_frame(o: Options, number: Option<Which>) -> Heard
     ensures { result ≡ chosen_frame o number }
 {
     match number {
-        Which::First => Heard::Choice(in_frame(o, 256, Next::Any), Said::Nothing),
-        Which::Second => Heard::Choice(in_frame(o, 512, Next::Any), Said::Nothing),
-        Which::Neither => Heard::Choice(in_frame(o, 0, Next::Any), Said::NoFrame),
+        Some(Which::First) => Some((in_frame(o, Some(256), Next::Any), None)),
+        Some(Which::Second) => Some((in_frame(o, Some(512), Next::Any), None)),
+        None => Some((in_frame(o, None, Next::Any), Some(Said::NoFrame))),
     }
 }
 
-fn chosen_any(o: Options, name: Which) -> Heard
+fn chosen_any(o: Options, name: Option<Which>) -> Heard
     ensures { result ≡ chosen_any o name }
 {
-    match name {
-        Which::First => Heard::Choice(in_edition(o, 0, Next::Edition), Said::Nothing),
-        Which::Second => Heard::Choice(in_frame(o, 0, Next::Frame), Said::Nothing),
-        Which::Neither => Heard::Other,
+    match name? {
+        Which::First => Some((in_edition(o, None, Next::Edition), None)),
+        Which::Second => Some((in_frame(o, None, Next::Frame), None)),
     }
 }
 
-// One word of a command line.
+// One word of a command line, where it chooses.
 pub fn hear(word: &[u8], o: Options) -> Heard
     ensures { result ≡ heard word.now o }
 {
-    let next = o.next;
-    match next {
+    match o.next {
         Next::Any => chosen_any(o, one_of_two(word, b"edition", b"frame")),
         Next::Edition => chosen_edition(o, one_of_two(word, b"1", b"2")),
         Next::Frame => chosen_frame(o, one_of_two(word, b"256", b"512")),
@@ -132,36 +116,31 @@ pub fn hear(word: &[u8], o: Options) -> Heard
 }
 
 // What is to be said where no word follows.
-pub fn still_to_come(o: Options) -> Said
+pub fn still_to_come(o: Options) -> Option<Said>
     ensures { result ≡ still_to_come o }
 {
-    let next = o.next;
-    match next {
-        Next::Any => Said::Nothing,
-        Next::Edition => Said::NoEdition,
-        Next::Frame => Said::NoFrame,
+    match o.next {
+        Next::Any => None,
+        Next::Edition => Some(Said::NoEdition),
+        Next::Frame => Some(Said::NoFrame),
     }
 }
 
-// Whether a list is played: there are such an edition and such a frame.
-pub fn is_played(o: Options) -> bool
-    ensures { result ≡ is_played o }
+// The edition and the frame that a list is played in, where there are such.
+pub fn played_in(o: Options) -> Option<(u64, u64)>
+    ensures { MatchOption result (is_played o ≡ false) (λ p. (is_played o ≡ true) × (o.edition ≡ Some p.0) × (o.frame ≡ Some p.1)) }
 {
-    if o.edition == 0 {
-        return false;
-    }
-    if o.frame == 0 {
-        return false;
-    }
-    true
+    Some((o.edition?, o.frame?))
 }
 
-pub fn put_said(text: &mut [u8], at: usize, said: Said) -> usize
+pub fn put_said(text: &mut [u8], at: usize, said: Option<Said>) -> usize
     requires { at + 30 ≤ farthest }
     ensures { Puts 30 text.old at text.new result (said_words said) }
 {
-    match said {
-        Said::Nothing => at,
+    let Some(what) = said else {
+        return at;
+    };
+    match what {
         Said::NoEdition => text::put_bytes(text, at, b"an edition is 1 or 2\n"),
         Said::NoFrame => text::put_bytes(text, at, b"a frame has 256 or 512 spills\n"),
     }

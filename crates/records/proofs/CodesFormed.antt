@@ -1,4 +1,5 @@
 -- The instructions that are read from a list of bytes which the check accepts are well formed.
+use Rattle.std.specs.Prelude.{Ok}
 use Prim.Native.Nat.{ℕ, zero, suc, ◌+◌, ◌*◌, ◌≤◌, ◌<◌, min}
 use mathlib.Core.Path.{◌≡◌, sym, ap, ◌∙◌}
 use mathlib.Core.Bool.{true, ◌&&◌}
@@ -7,7 +8,6 @@ use native.Mathlib.Omega.{arith}
 use lib.Dec.{ltb}
 use lib.ListN.{drop}
 use lib.Seq.{drop-drop}
-use Rattle.records.specs.declared.check.Checked.TheVariants.{Good}
 use Rattle.records.specs.Checked.{first_bad, places, checked}
 use Rattle.records.specs.Codes.{fields_of}
 use Rattle.records.specs.Instructions.{fields_in, fields_ok, code_starts, checked_codes}
@@ -32,7 +32,7 @@ read_formed s e b =
       ok = rw same ok;
     }
 
-each_read : (limit m : ℕ) (s : List ℕ) → Bytes s → (n k : ℕ) → first_bad code_starts 24 limit s k n ≡ Good m → Each WellFormedCode (items 24 code_in n (drop (24 * k) s))
+each_read : (limit m : ℕ) (s : List ℕ) → Bytes s → (n k : ℕ) → first_bad code_starts 24 limit s k n ≡ Ok m → Each WellFormedCode (items 24 code_in n (drop (24 * k) s))
 unfolding first_bad
 each_read limit m s b zero k e = tt
 each_read limit m s b (suc n) k e =
@@ -43,7 +43,7 @@ each_read limit m s b (suc n) k e =
     (read_formed t (and_right (ltb k limit) (code_starts t) p.0) (each_drop (λ x. x < 256) (24 * k) s b), rw next at (each_read limit m s b n (suc k) p.1))
 
 -- and they are no more than the limit
-pub codes_formed : (most k : ℕ) (s : List ℕ) → Bytes s → checked_codes most s ≡ Good k → Each WellFormedCode (items 24 code_in k s) × (k ≤ most)
+pub codes_formed : (most k : ℕ) (s : List ℕ) → Bytes s → checked_codes most s ≡ Ok k → Each WellFormedCode (items 24 code_in k s) × (k ≤ most)
 unfolding checked
 codes_formed most k s b e =
     let limit : ℕ = min most 65536 in

@@ -1,4 +1,5 @@
 -- An instruction record read at a byte: its fields, whether it is well formed, and its instruction.
+use Rattle.std.specs.Prelude.{None, Some}
 use Prim.Native.Nat.{ℕ, ◌+◌, ◌*◌, ◌/◌, ◌≤◌, ◌<◌}
 use mathlib.Core.Path.{◌≡◌, sym, ◌∙◌}
 use mathlib.Core.Bool.{Bool, true, false, ◌&&◌}
@@ -10,7 +11,6 @@ use lib.Seq.{get_or-drop}
 use borrow.Author.Tests.{eq-eqb, ne_eqb, leb-true, lt-leb}
 use Rattle.records.specs.declared.code.Code.{Code}
 use Rattle.records.specs.declared.code.Fields.{Fields}
-use Rattle.records.specs.declared.code.CodeRead.TheVariants.{Record, Malformed}
 use Rattle.records.specs.Bytes.{number}
 use Rattle.records.specs.Codes.{fields, code_of}
 use Rattle.records.specs.Instructions.{fields_in, operands_ok, fields_ok, used, lab_with, code_starts, code_at}
@@ -35,16 +35,16 @@ module _ (s : List ℕ) where
       leb-true 24 (length s)
       (and_left (leb 24 (length s)) (eqb (get_or s 0 0) 0xA9) (and_left (leb 24 (length s) && eqb (get_or s 0 0) 0xA9) (fields_ok (fields_in s)) e))
 
-  pub part_code : {c : Code} {f : Fields} {b : Bool} (k : ℕ) → b ≡ code_starts (drop (24 * k) s) → b ≡ true → f ≡ fields_in (drop (24 * k) s) → c ≡ code_of f → Record c ≡ code_at s k
+  pub part_code : {c : Code} {f : Fields} {b : Bool} (k : ℕ) → b ≡ code_starts (drop (24 * k) s) → b ≡ true → f ≡ fields_in (drop (24 * k) s) → c ≡ code_of f → Some c ≡ code_at s k
   unfolding code_at
   part_code k e t q p = rw (← e, t, p, q)
 
-  pub part_bad : {b : Bool} (k : ℕ) → b ≡ code_starts (drop (24 * k) s) → b ≡ false → Malformed ≡ code_at s k
+  pub part_bad : {b : Bool} (k : ℕ) → b ≡ code_starts (drop (24 * k) s) → b ≡ false → None ≡ code_at s k
   unfolding code_at
   part_bad k e t = rw (← e, t)
 
   -- past the last whole record
-  pub part_none : (k : ℕ) → length s / 24 ≤ k → Malformed ≡ code_at s k
+  pub part_none : (k : ℕ) → length s / 24 ≤ k → None ≡ code_at s k
   unfolding code_at code_starts
   part_none k h = rw (lt-leb 24 (length (drop (24 * k) s)) (simp length-drop (omega arith)))
 

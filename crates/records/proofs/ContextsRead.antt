@@ -1,4 +1,5 @@
 -- A context that is checked: what a turn of the check keeps, what each end of it answers, and what an accepted context is.
+use Rattle.std.specs.Prelude.{Ok, Err, Result}
 use Prim.Native.Nat.{ℕ, zero, suc, ◌+◌, ◌*◌, ◌-◌, ◌/◌, ◌%◌, ◌≤◌, ◌<◌}
 use mathlib.Core.Path.{◌≡◌, refl, sym, ◌∙◌}
 use mathlib.Core.Bool.{Bool, true, false, ◌&&◌, cond}
@@ -12,8 +13,6 @@ use lib.Seq.{get_or-drop, drop-drop}
 use borrow.Author.Tests.{eq-eqb, ne_eqb, le-leb, lt-leb, leb-true, eqb-true}
 use Rattle.records.specs.declared.context.Flaw.{Flaw}
 use Rattle.records.specs.declared.context.Flaw.TheVariants.{Length, Mark, Kind}
-use Rattle.records.specs.declared.context.ContextRead.{ContextRead}
-use Rattle.records.specs.declared.context.ContextRead.TheVariants.{Good, Bad}
 use Rattle.records.specs.Bytes.{number}
 use Rattle.records.specs.Contexts.{marked, kind_ok, binding_starts, first_flaw, length_ok, counted_on, checked_context}
 use Rattle.records.proofs.Conditions.{both, agree}
@@ -88,17 +87,17 @@ pub after_next : (s : List ℕ) (k : ℕ) → drop 8 (drop (8 * k) s) ≡ drop (
 after_next s k = rw (drop-drop, add-one, mul-suc)
 
 -- k of n bindings are checked, and all is to do from the k-th on
-module _ (before : ℕ) (s : List ℕ) (k n : ℕ) {all : ContextRead} (so_far : all ≡ counted_on before (first_flaw k (n - k) (drop (8 * k) s))) where
-  pub done : n ≤ k → Good k ≡ all
+module _ (before : ℕ) (s : List ℕ) (k n : ℕ) {all : Result ℕ Flaw} (so_far : all ≡ counted_on before (first_flaw k (n - k) (drop (8 * k) s))) where
+  pub done : n ≤ k → Ok k ≡ all
   unfolding first_flaw
   done h = let m : n - k ≡ 0 = omega arith in rw (so_far, m)
 
   module _ (h : k < n) {b : Bool} (e : b ≡ marked (drop (8 * k) s)) where
-    pub bad_mark : b ≡ false → Bad (Mark (before + (k + 1))) ≡ all
+    pub bad_mark : b ≡ false → Err (Mark (before + (k + 1))) ≡ all
     unfolding first_flaw
     bad_mark t = let m : n - k ≡ suc (n - (k + 1)) = omega arith in rw (so_far, m, add-one, ← e, t)
 
-    pub bad_kind : {c : Bool} → b ≡ true → c ≡ formed (drop (8 * k) s) → c ≡ false → Bad (Kind (before + (k + 1))) ≡ all
+    pub bad_kind : {c : Bool} → b ≡ true → c ≡ formed (drop (8 * k) s) → c ≡ false → Err (Kind (before + (k + 1))) ≡ all
     unfolding first_flaw
     bad_kind t f u =
         let m : n - k ≡ suc (n - (k + 1)) = omega arith in
@@ -115,32 +114,32 @@ module _ (before : ℕ) (s : List ℕ) (k n : ℕ) {all : ContextRead} (so_far :
 
 -- the length comes first
 module _ (before : ℕ) (s : List ℕ) where
-  pub part_binding : (length s % 8 ≡ 0 → ⊥) → Bad Length ≡ counted_on before (checked_context s)
+  pub part_binding : (length s % 8 ≡ 0 → ⊥) → Err Length ≡ counted_on before (checked_context s)
   unfolding checked_context
   part_binding n = rw (ne_eqb (length s % 8) 0 n)
 
   module _ (w : length s % 8 ≡ 0) where
-    pub too_many : 32768 < length s → Bad Length ≡ counted_on before (checked_context s)
+    pub too_many : 32768 < length s → Err Length ≡ counted_on before (checked_context s)
     unfolding checked_context
     too_many h = rw (eq-eqb (length s % 8) 0 w, lt-leb (length s) (8 * 4096) h)
 
-    pub by_binding : {r : ContextRead} → length s ≤ 32768 → r ≡ counted_on before (first_flaw 0 (length s / 8) s) → r ≡ counted_on before (checked_context s)
+    pub by_binding : {r : Result ℕ Flaw} → length s ≤ 32768 → r ≡ counted_on before (first_flaw 0 (length s / 8) s) → r ≡ counted_on before (checked_context s)
     unfolding checked_context
     by_binding h e = e ∙ rw (eq-eqb (length s % 8) 0 w, le-leb (length s) (8 * 4096) h)
 
 -- bindings that come first
-pub counted_from_none : (c : ContextRead) → counted_on 0 c ≡ c
-counted_from_none (Good n) = refl
-counted_from_none (Bad Length) = refl
-counted_from_none (Bad (Mark place)) = rw zero-add
-counted_from_none (Bad (Kind place)) = rw zero-add
+pub counted_from_none : (c : Result ℕ Flaw) → counted_on 0 c ≡ c
+counted_from_none (Ok n) = refl
+counted_from_none (Err Length) = refl
+counted_from_none (Err (Mark place)) = rw zero-add
+counted_from_none (Err (Kind place)) = rw zero-add
 
 -- bindings that are good are so wherever they come
-pub counted_good : (k : ℕ) (c : ContextRead) {n : ℕ} → counted_on k c ≡ Good n → c ≡ Good n
-counted_good k (Good n) e = e
-counted_good k (Bad Length) e = cc
-counted_good k (Bad (Mark place)) e = cc
-counted_good k (Bad (Kind place)) e = cc
+pub counted_good : (k : ℕ) (c : Result ℕ Flaw) {n : ℕ} → counted_on k c ≡ Ok n → c ≡ Ok n
+counted_good k (Ok n) e = e
+counted_good k (Err Length) e = cc
+counted_good k (Err (Mark place)) e = cc
+counted_good k (Err (Kind place)) e = cc
 
 -- n bindings, all of them whole
 pub record Bindings (s : List ℕ) (n : ℕ) : Type 0 where
@@ -148,17 +147,17 @@ pub record Bindings (s : List ℕ) (n : ℕ) : Type 0 where
   pub within : n ≤ 4096
   pub each : (i : ℕ) → i < n → binding_starts (drop (8 * i) s) ≡ true
 
-no_flaw : (b c : Bool) (x : ContextRead) (f h : Flaw) {m : ℕ} → cond b (cond c x (Bad f)) (Bad h) ≡ Good m → (b && c ≡ true) × (x ≡ Good m)
+no_flaw : (b c : Bool) (x : Result ℕ Flaw) (f h : Flaw) {m : ℕ} → cond b (cond c x (Err f)) (Err h) ≡ Ok m → (b && c ≡ true) × (x ≡ Ok m)
 no_flaw true true x f h e = (refl, e)
 no_flaw true false x f h e = (cc, cc)
 no_flaw false c x f h e = (cc, cc)
 
-length_passed : (b : Bool) (x : ContextRead) {m : ℕ} → cond b x (Bad Length) ≡ Good m → (b ≡ true) × (x ≡ Good m)
+length_passed : (b : Bool) (x : Result ℕ Flaw) {m : ℕ} → cond b x (Err Length) ≡ Ok m → (b ≡ true) × (x ≡ Ok m)
 length_passed true x e = (refl, e)
 length_passed false x e = (cc, cc)
 
 -- a check that ends well
-passes : (s : List ℕ) (k n m : ℕ) → first_flaw k n s ≡ Good m → (m ≡ k + n) × ((i : ℕ) → i < n → formed (drop (8 * i) s) ≡ true)
+passes : (s : List ℕ) (k n m : ℕ) → first_flaw k n s ≡ Ok m → (m ≡ k + n) × ((i : ℕ) → i < n → formed (drop (8 * i) s) ≡ true)
 unfolding first_flaw
 passes s k zero m e = let q : m ≡ k = cc in (omega arith, λ i l. absurd (omega arith))
 passes s k (suc n) m e =
@@ -170,7 +169,7 @@ passes s k (suc n) m e =
     by f r zero l = f
     by f r (suc i) l = rw (mul-suc, add_comm (8 * i) 8, ← drop-drop) (r i (omega arith))
 
-ends_well : (s : List ℕ) (k n : ℕ) → ((i : ℕ) → i < n → formed (drop (8 * i) s) ≡ true) → first_flaw k n s ≡ Good (k + n)
+ends_well : (s : List ℕ) (k n : ℕ) → ((i : ℕ) → i < n → formed (drop (8 * i) s) ≡ true) → first_flaw k n s ≡ Ok (k + n)
 unfolding first_flaw
 ends_well s k zero f = let e : k + 0 ≡ k = omega arith in rw e
 ends_well s k (suc n) f =
@@ -179,7 +178,7 @@ ends_well s k (suc n) f =
     rw (b.0, b.1, e) (ends_well (drop 8 s) (suc k) n (λ i l. rw (drop-drop, add_comm 8 (8 * i), ← mul-suc) (f (suc i) (omega arith))))
 
 module _ (s : List ℕ) where
-  pub whole : {n : ℕ} → checked_context s ≡ Good n → Bindings s n
+  pub whole : {n : ℕ} → checked_context s ≡ Ok n → Bindings s n
   unfolding checked_context binding_starts
   whole {n} e =
       let c = length_passed (length_ok s) (first_flaw 0 (length s / 8) s) e in
@@ -194,7 +193,7 @@ module _ (s : List ℕ) where
         each = λ i h. rw (le-leb 8 (length (drop (8 * i) s)) (simp length-drop (omega arith))) (p.1 i (omega arith));
       }
 
-  pub is_accepted_lem : {n : ℕ} → Bindings s n → checked_context s ≡ Good n
+  pub is_accepted_lem : {n : ℕ} → Bindings s n → checked_context s ≡ Ok n
   unfolding checked_context binding_starts
   is_accepted_lem {n} b =
       let d : length s % 8 ≡ 0 = omega (arith, b.long) in
@@ -205,8 +204,8 @@ module _ (s : List ℕ) where
       rw (eq-eqb (length s % 8) 0 d, le-leb (length s) (8 * 4096) w, e) (rw z at (ends_well s 0 n f))
 
   -- a context that is accepted has at most 4,096 bindings, and no byte more
-  pub context_within : (n : ℕ) → checked_context s ≡ Good n → (n ≤ 4096) × (8 * n ≤ length s)
+  pub context_within : (n : ℕ) → checked_context s ≡ Ok n → (n ≤ 4096) × (8 * n ≤ length s)
   context_within n e = let b = whole e in (b.within, omega (arith, b.long))
 
-  pub context_long : (n : ℕ) → checked_context s ≡ Good n → length s ≡ 8 * n
+  pub context_long : (n : ℕ) → checked_context s ≡ Ok n → length s ≡ 8 * n
   context_long n e = (whole e).long

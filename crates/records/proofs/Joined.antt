@@ -1,4 +1,5 @@
 -- Lists of records of one kind, from what holds of one record: each is read at its place, the list is accepted, and a list that is accepted is the records of its items.
+use Rattle.std.specs.Prelude.{Ok}
 use Prim.Native.Nat.{ℕ, zero, suc, ◌+◌, ◌*◌, ◌≤◌, ◌<◌}
 use mathlib.Core.Path.{◌≡◌, sym, ◌∙◌}
 use mathlib.Core.Bool.{Bool, true}
@@ -8,7 +9,6 @@ use native.Mathlib.Omega.{arith}
 use lib.ListN.{length, get_or, drop, length-append, drop_of_length-le}
 use lib.Seq.{drop-cons, drop_at, drop-drop}
 use borrow.Author.Tests.{lt-ltb}
-use Rattle.records.specs.declared.check.Checked.TheVariants.{Good}
 use Rattle.records.specs.Checked.{first_bad, places, checked}
 use Rattle.records.specs.ReadBack.{Each, Bytes, joined, items}
 use Rattle.records.proofs.Checking.{all_checked, all_passed}
@@ -47,7 +47,7 @@ module _ {A : Type 0} {size : ℕ} {bytes : A → List ℕ} {starts : List ℕ �
 
   -- the check from place k + 1 on, where the rest of the list is records
   all_good : (limit : ℕ) (s : List ℕ) (xs : List A) (k : ℕ) → Each W xs → drop (size * k) s ≡ joined bytes xs → k + length xs ≤ limit
-      → first_bad starts size limit s k (length xs) ≡ Good (k + length xs)
+      → first_bad starts size limit s k (length xs) ≡ Ok (k + length xs)
   unfolding first_bad
   all_good limit s [] k each e h = rw add-zero
   all_good limit s (x ∷ xs) k each e h =
@@ -55,7 +55,7 @@ module _ {A : Type 0} {size : ℕ} {bytes : A → List ℕ} {starts : List ℕ �
       (all_good limit s xs (suc k) each.1 (rw (mul-suc, ← drop-drop, e) (drop_at (bytes x) (joined bytes xs) size (laws.long x))) (omega arith))
 
   pub accepted : (limit : ℕ) (xs : List A) → Each W xs → length xs ≤ limit → places size (joined bytes xs) ≡ length xs
-      → checked starts size limit (joined bytes xs) ≡ Good (length xs)
+      → checked starts size limit (joined bytes xs) ≡ Ok (length xs)
   unfolding checked
   accepted limit xs each h e =
       rw e (rw zero-add at (all_good limit (joined bytes xs) xs 0 each (rw mul-zero) (rw zero-add h)))
@@ -73,7 +73,7 @@ module _ {A : Type 0} {size : ℕ} {bytes : A → List ℕ} {starts : List ℕ �
       → joined bytes (items size item n s) ≡ s
   each_written n s byte h each = rw mul-zero at (all_written s byte n 0 (rw zero-add h) (λ i a b. each i (omega arith)))
 
-  pub written : (limit n : ℕ) (s : List ℕ) → Bytes s → length s ≤ size * places size s → checked starts size limit s ≡ Good n
+  pub written : (limit n : ℕ) (s : List ℕ) → Bytes s → length s ≤ size * places size s → checked starts size limit s ≡ Ok n
       → joined bytes (items size item n s) ≡ s
   unfolding checked
   written limit n s byte h e =

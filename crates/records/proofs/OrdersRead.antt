@@ -1,4 +1,6 @@
 -- An order that is read or written: which fields it uses, its parts in bytes, and the answer.
+use Rattle.records.specs.Checked.{malformed}
+use Rattle.std.specs.Prelude.{None, Some, Err, Ok}
 use Prim.Native.Nat.{ℕ, zero, suc, ◌+◌, ◌-◌, ◌≤◌, ◌<◌}
 use mathlib.Core.Path.{◌≡◌, refl, ◌∙◌}
 use mathlib.Core.Bool.{Bool, true, false, ◌&&◌, cond}
@@ -10,8 +12,6 @@ use lib.Seq.{sets}
 use borrow.Author.Tests.{eq-eqb, ne_eqb, le-leb, lt-leb, leb-true}
 use Rattle.records.specs.declared.order.Order.{Order}
 use Rattle.records.specs.declared.order.OrderFields.{OrderFields}
-use Rattle.records.specs.declared.order.OrderStart.TheVariants as start
-use Rattle.records.specs.declared.order.OrderRead.TheVariants.{Whole, Malformed}
 use Rattle.records.specs.Bytes.{le, stored}
 use Rattle.records.specs.Orders.{order_of, flags, used_by_order, largest_in_order, order_operands_ok, order_ok, order_bytes, order_in, order_starts, order_start, order_read}
 use Rattle.records.proofs.Conditions.{and_left, and_right}
@@ -87,39 +87,39 @@ module _ (s : List ℕ) where
     unfolding order_starts
     marked m z q e = rw (le-leb 24 (length s) h, eq-eqb (get_or s 0 0) 0xA8 m, eq-eqb (get_or s 3 0) 0 z, ← q) e
 
-  pub not_started : false ≡ order_starts s → start.Malformed ≡ order_start s
+  pub not_started : false ≡ order_starts s → None ≡ order_start s
   unfolding order_start
   not_started e = rw (← e)
 
-  pub started : {o : Order} {f : OrderFields} → true ≡ order_starts s → f ≡ order_in s → o ≡ order_of f → start.Starts o ≡ order_start s
+  pub started : {o : Order} {f : OrderFields} → true ≡ order_starts s → f ≡ order_in s → o ≡ order_of f → Some o ≡ order_start s
   unfolding order_start
   started e q p = rw (← e, p, q)
 
-  pub told : {o : Order} → order_start s ≡ start.Starts o → (order_starts s ≡ true) × (o ≡ order_of (order_in s))
+  pub told : {o : Order} → order_start s ≡ Some o → (order_starts s ≡ true) × (o ≡ order_of (order_in s))
   unfolding order_start
   told {o} e = by (order_starts s) e
     where
-      by : (b : Bool) → cond b (start.Starts (order_of (order_in s))) start.Malformed ≡ start.Starts o → (b ≡ true) × (o ≡ order_of (order_in s))
+      by : (b : Bool) → cond b (Some (order_of (order_in s))) None ≡ Some o → (b ≡ true) × (o ≡ order_of (order_in s))
       by true e = (refl, cc)
       by false e = (cc, cc)
 
-  pub none_told : order_start s ≡ start.Malformed → order_starts s ≡ false
+  pub none_told : order_start s ≡ None → order_starts s ≡ false
   unfolding order_start
   none_told e = by (order_starts s) e
     where
-      by : (b : Bool) → cond b (start.Starts (order_of (order_in s))) start.Malformed ≡ start.Malformed → b ≡ false
+      by : (b : Bool) → cond b (Some (order_of (order_in s))) None ≡ None → b ≡ false
       by true e = cc
       by false e = refl
 
-  pub read_bad : order_starts s ≡ false → Malformed 1 ≡ order_read s
+  pub read_bad : order_starts s ≡ false → Err (malformed 1) ≡ order_read s
   unfolding order_read
   read_bad t = rw t
 
-  pub read_surplus : order_starts s ≡ true → (length s ≡ 24 → ⊥) → Malformed 2 ≡ order_read s
+  pub read_surplus : order_starts s ≡ true → (length s ≡ 24 → ⊥) → Err (malformed 2) ≡ order_read s
   unfolding order_read
   read_surplus t n = rw (t, ne_eqb (length s) 24 n)
 
-  pub read_whole : {o : Order} → order_starts s ≡ true → o ≡ order_of (order_in s) → length s ≡ 24 → Whole o ≡ order_read s
+  pub read_whole : {o : Order} → order_starts s ≡ true → o ≡ order_of (order_in s) → length s ≡ 24 → Ok o ≡ order_read s
   unfolding order_read
   read_whole t p n = rw (t, eq-eqb (length s) 24 n, p)
 

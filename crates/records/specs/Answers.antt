@@ -1,4 +1,4 @@
--- What a function ensures whose answer is an enum. From the scope, 'Forms': a definition gives the paper's number and values for each case.
+-- What a function ensures that answers by cases. From the scope, 'Forms': a definition gives the paper's number and values for each case.
 use Rattle.std.specs.Prelude.{ℕ, ◌≡◌, List}
 
 -- the answer r is the one expected, and so are the number and values that cause_of gives it

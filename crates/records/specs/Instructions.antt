@@ -1,10 +1,9 @@
 -- Instruction records: their 24 bytes, which are well formed, and what is read from them. From the scope, 'Instruction record'.
-use Rattle.std.specs.Prelude.{ℕ, suc, ◌*◌, ◌%◌, min, Bool, true, not, ◌&&◌, ◌||◌, cond, List, [], ◌∷◌, ◌++◌, leb, ltb, eqb, length, get_or, drop}
+use Rattle.records.specs.declared.code.Code.{Code}
+use Rattle.records.specs.declared.check.Malformed.{Malformed}
+use Rattle.std.specs.Prelude.{ℕ, suc, ◌*◌, ◌%◌, min, Bool, true, not, ◌&&◌, ◌||◌, cond, List, [], ◌∷◌, ◌++◌, leb, ltb, eqb, length, get_or, drop, None, Some, Result, Option}
 use Rattle.records.specs.Causes.{ACCEPTED, MALFORMED}
-use Rattle.records.specs.declared.check.Checked.{Checked}
 use Rattle.records.specs.declared.code.Fields.{Fields}
-use Rattle.records.specs.declared.code.CodeRead.{CodeRead}
-use Rattle.records.specs.declared.code.CodeRead.TheVariants.{Record, Malformed}
 use Rattle.records.specs.Bytes.{le, number}
 use Rattle.records.specs.Checked.{checked}
 use Rattle.records.specs.Codes.{fields, fields_of, code_of}
@@ -75,14 +74,14 @@ unfoldable pub code_starts : List ℕ → Bool
 code_starts s = leb 24 (length s) && eqb (get_or s 0 0) 0xA9 && fields_ok (fields_in s)
 
 -- a list of at most 65,536 records, or fewer where the caller has a lower limit
-abbrev pub checked_codes : ℕ → List ℕ → Checked
+abbrev pub checked_codes : ℕ → List ℕ → Result ℕ Malformed
 checked_codes most s = checked code_starts 24 (min most 65536) s
 
 -- record k, counted from 0
-unfoldable pub code_at : List ℕ → ℕ → CodeRead
-code_at s k = cond (code_starts (drop (24 * k) s)) (Record (code_of (fields_in (drop (24 * k) s)))) Malformed
+unfoldable pub code_at : List ℕ → ℕ → Option Code
+code_at s k = cond (code_starts (drop (24 * k) s)) (Some (code_of (fields_in (drop (24 * k) s)))) None
 
 -- the scope's number and place for the answer on record k, 0 where it is read
-abbrev pub code_cause : ℕ → CodeRead → List ℕ
-code_cause k (Record c) = ACCEPTED ∷ []
-code_cause k Malformed = MALFORMED ∷ suc k ∷ []
+abbrev pub code_cause : ℕ → Option Code → List ℕ
+code_cause k (Some c) = ACCEPTED ∷ []
+code_cause k None = MALFORMED ∷ suc k ∷ []

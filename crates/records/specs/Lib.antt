@@ -1,7 +1,7 @@
 -- What the contracts of `records` cite, from the scope, 'Binding record', 'Instruction record', 'Order record'.
 pub mod Bytes  -- little-endian numbers, and bytes stored in an output
 pub mod Causes  -- the causes and their numbers
-pub mod Answers  -- what a function ensures whose answer is an enum
+pub mod Answers  -- what a function ensures that answers by cases
 pub mod Checked  -- the first bad or surplus record of a list, for records of any kind
 pub mod Contexts  -- binding records and contexts
 pub mod Flaws  -- the claim that what is told of a context is the earliest that is bad

@@ -1,15 +1,13 @@
 -- Order records: what each order's record holds, its 24 bytes, and which are well formed. From the scope, 'Order record'.
-use Rattle.std.specs.Prelude.{ℕ, ◌-◌, Bool, true, false, ◌&&◌, cond, List, [], ◌∷◌, ◌++◌, leb, ltb, eqb, length, get_or}
+use Rattle.records.specs.declared.check.Malformed.{Malformed}
+use Rattle.records.specs.Checked.{malformed}
+use Rattle.std.specs.Prelude.{ℕ, ◌-◌, Bool, true, false, ◌&&◌, cond, List, [], ◌∷◌, ◌++◌, leb, ltb, eqb, length, get_or, None, Some, Err, Ok, Option, Result}
 use Rattle.records.specs.Causes.{ACCEPTED, MALFORMED}
 use Rattle.records.specs.declared.order.Calculation.{Calculation}
 use Rattle.records.specs.declared.order.Calculation.TheVariants.{Add, Sub, Mul, Div, Rem}
 use Rattle.records.specs.declared.order.Order.{Order}
 use Rattle.records.specs.declared.order.Order.TheVariants.{Put, Compute, Copy, Drop, Store, Load, Print}
 use Rattle.records.specs.declared.order.OrderFields.{OrderFields}
-use Rattle.records.specs.declared.order.OrderStart.{OrderStart}
-use Rattle.records.specs.declared.order.OrderStart.TheVariants as start
-use Rattle.records.specs.declared.order.OrderRead.{OrderRead}
-use Rattle.records.specs.declared.order.OrderRead.TheVariants.{Whole, Malformed}
 use Rattle.records.specs.Bytes.{le, number}
 use Rattle.records.specs.Instructions.{word_ok, most_if}
 
@@ -102,18 +100,18 @@ unfoldable pub order_starts : List ℕ → Bool
 order_starts s = leb 24 (length s) && eqb (get_or s 0 0) 0xA8 && eqb (get_or s 3 0) 0 && order_ok (order_in s)
 
 -- the order that starts a list, where a whole, well-formed one does
-unfoldable pub order_start : List ℕ → OrderStart
-order_start s = cond (order_starts s) (start.Starts (order_of (order_in s))) start.Malformed
+unfoldable pub order_start : List ℕ → Option Order
+order_start s = cond (order_starts s) (Some (order_of (order_in s))) None
 
 -- an order goes in alone: a bad or part record is at place 1, a surplus one at place 2
-unfoldable pub order_read : List ℕ → OrderRead
+unfoldable pub order_read : List ℕ → Result Order Malformed
 order_read s =
-    cond (order_starts s) (cond (eqb (length s) 24) (Whole (order_of (order_in s))) (Malformed 2)) (Malformed 1)
+    cond (order_starts s) (cond (eqb (length s) 24) (Ok (order_of (order_in s))) (Err (malformed 2))) (Err (malformed 1))
 
 -- the scope's number and values for each answer: 0 where the order is whole
-abbrev pub order_cause : OrderRead → List ℕ
-order_cause (Whole order) = ACCEPTED ∷ []
-order_cause (Malformed place) = MALFORMED ∷ place ∷ []
+abbrev pub order_cause : Result Order Malformed → List ℕ
+order_cause (Ok order) = ACCEPTED ∷ []
+order_cause (Err m) = MALFORMED ∷ m.place ∷ []
 
 -- an order's 24 bytes
 abbrev pub record_of : Order → List ℕ

@@ -1,14 +1,10 @@
 -- Records that are written are read back the same, at every place; and what is read, written again, gives the same bytes.
 -- One claim over the three kinds of records, in terms of what the contracts of reading, checking and writing cite.
-use Rattle.std.specs.Prelude.{ℕ, zero, suc, ◌*◌, ◌^◌, ◌≤◌, ◌<◌, min, ◌≡◌, true, List, [], ◌∷◌, ◌++◌, length, get_or, drop}
-use Rattle.records.specs.declared.check.Checked.TheVariants.{Good}
-use Rattle.records.specs.declared.context.ContextRead.TheVariants as context
+use Rattle.std.specs.Prelude.{ℕ, zero, suc, ◌*◌, ◌^◌, ◌≤◌, ◌<◌, min, ◌≡◌, true, List, [], ◌∷◌, ◌++◌, length, get_or, drop, Ok, Some}
 use Rattle.records.specs.declared.code.Code.{Code}
 use Rattle.records.specs.declared.code.Code.TheVariants.{RET}
-use Rattle.records.specs.declared.code.CodeRead.TheVariants.{Record}
 use Rattle.records.specs.declared.binding.Binding.{Binding}
 use Rattle.records.specs.declared.order.Order.{Order}
-use Rattle.records.specs.declared.order.OrderRead.TheVariants.{Whole}
 use Rattle.records.specs.Codes.{fields_of, code_of}
 use Rattle.records.specs.Instructions.{fields_bytes, fields_in, fields_ok, checked_codes, code_at}
 use Rattle.records.specs.Contexts.{binding_bytes, binding_in, binding_starts, checked_context}
@@ -60,14 +56,14 @@ pub record RecordsReadBack : Type 0 where
   -- each instruction of a list that is written is read at its place, whatever follows the list
   pub codes_read :
       (cs : List Code) → Each WellFormedCode cs → (rest : List ℕ) (k : ℕ) → k < length cs
-      → code_at (joined code_bytes cs ++ rest) k ≡ Record (get_or cs k RET)
+      → code_at (joined code_bytes cs ++ rest) k ≡ Some (get_or cs k RET)
   -- the list is accepted, within the limit
   pub codes_accepted :
       (cs : List Code) → Each WellFormedCode cs → (most : ℕ) → length cs ≤ min most 65536
-      → checked_codes most (joined code_bytes cs) ≡ Good (length cs)
+      → checked_codes most (joined code_bytes cs) ≡ Ok (length cs)
   -- a list that is accepted, read and written again, is the same bytes
   pub codes_written :
-      (most n : ℕ) (s : List ℕ) → Bytes s → checked_codes most s ≡ Good n
+      (most n : ℕ) (s : List ℕ) → Bytes s → checked_codes most s ≡ Ok n
       → joined code_bytes (items 24 code_in n s) ≡ s
   -- of bindings, each that is written starts a record at its place, and is read from it
   pub bindings_start :
@@ -78,9 +74,9 @@ pub record RecordsReadBack : Type 0 where
       → binding_in (drop (8 * k) (joined binding_bytes bs ++ rest)) ≡ get_or bs k d
   pub context_accepted :
       (bs : List Binding) → Each WellFormedBinding bs → length bs ≤ 4096
-      → checked_context (joined binding_bytes bs) ≡ context.Good (length bs)
+      → checked_context (joined binding_bytes bs) ≡ Ok (length bs)
   pub context_written :
-      (n : ℕ) (s : List ℕ) → Bytes s → checked_context s ≡ context.Good n
+      (n : ℕ) (s : List ℕ) → Bytes s → checked_context s ≡ Ok n
       → joined binding_bytes (items 8 binding_in n s) ≡ s
-  pub order_reads : (o : Order) → WellFormedOrder o → order_read (order_bytes (order_fields_of o)) ≡ Whole o
-  pub order_written : (s : List ℕ) (o : Order) → Bytes s → order_read s ≡ Whole o → order_bytes (order_fields_of o) ≡ s
+  pub order_reads : (o : Order) → WellFormedOrder o → order_read (order_bytes (order_fields_of o)) ≡ Ok o
+  pub order_written : (s : List ℕ) (o : Order) → Bytes s → order_read s ≡ Ok o → order_bytes (order_fields_of o) ≡ s

@@ -1,8 +1,6 @@
 -- The registers' names in the Rust's sequence, and the number by which the processor encodes each.
 -- From the scope, 'Instruction record': registers 0..15 are rsp, rcx, rbx, rbp, rax, rdx, rsi, rdi, r8..r15; the numbers are the Intel 64 manual's.
-use Rattle.std.specs.Prelude.{ℕ, cond, List, [], ◌∷◌, ltb, get_or}
-use Rattle.records.specs.declared.register.Hardware.{Hardware}
-use Rattle.records.specs.declared.register.Hardware.TheVariants.{Number, Absent}
+use Rattle.std.specs.Prelude.{ℕ, cond, List, [], ◌∷◌, ltb, get_or, Some, None, Option}
 
 pub data RegisterName : Type 0 where
   rax rcx rdx rbx rsp rbp rsi rdi r8 r9 r10 r11 r12 r13 r14 r15 : RegisterName
@@ -29,5 +27,5 @@ encoded r13 = 13
 encoded r14 = 14
 encoded r15 = 15
 
-unfoldable pub hardware_of : ℕ → Hardware
-hardware_of r = cond (ltb r 16) (Number (encoded (get_or register_names r rsp))) Absent
+unfoldable pub hardware_of : ℕ → Option ℕ
+hardware_of r = cond (ltb r 16) (Some (encoded (get_or register_names r rsp))) None

@@ -18,15 +18,18 @@ pub struct Binding {
     pub id: u32,
 }
 
-fn kind_byte(kind: Kind) -> u8
-    ensures { result ≡ kind_byte kind }
-{
-    match kind {
-        Kind::Linked => 0,
-        Kind::Ext => 1,
+impl From<Kind> for u8 {
+    ghost from_gives = { λ kind byte. byte ≡ kind_byte kind };
+
+    fn from(kind: Kind) -> u8 {
+        match kind {
+            Kind::Linked => 0,
+            Kind::Ext => 1,
+        }
     }
 }
 
+// Kept by name: `binding_in` gives every byte a kind, so there is nothing to try.
 fn kind_of(byte: u8) -> Kind
     ensures { result ≡ kind_of byte }
 {
@@ -47,12 +50,8 @@ pub fn binding_at(s: &[u8], at: usize) -> Binding
 pub fn write_binding(out: &mut [u8], at: usize, b: Binding)
     ensures { out.new ≡ stored out.old at (binding_bytes b) }
 {
-    let held = b.kind;
-    let kind = kind_byte(held);
-    if 8 <= out.len() {
-        if at <= out.len() - 8 {
-            bytes::store_head(out, at, 0xA7, 0x01, kind, 0);
-            bytes::store4(out, at + 4, b.id);
-        }
+    if 8 <= out.len() && at <= out.len() - 8 {
+        bytes::store_head(out, at, 0xA7, 0x01, u8::from(b.kind), 0);
+        bytes::store4(out, at + 4, b.id);
     }
 }

@@ -1,5 +1,5 @@
 // Little-endian numbers in slices of bytes, and bytes copied.
-ghost use Rattle.std.specs.Prelude.{◌≡◌, [], ◌∷◌, ◌+◌, ◌*◌, ◌≤◌, min, length, take};
+ghost use Rattle.std.specs.Prelude.{◌≡◌, [], ◌∷◌, ◌+◌, ◌≤◌, length, take};
 ghost use Rattle.std.proofs.lemmas.List.Edits.{sets};
 ghost use Rattle.records.specs.Bytes.{le, number};
 
@@ -8,30 +8,18 @@ pub const MOST4: u32 = 4294967295;
 
 pub const MOST8: u64 = 18446744073709551615;
 
-fn quad(a: u8, b: u8, c: u8, d: u8) -> u32
-    ensures { result ≡ a + 256 * (b + 256 * (c + 256 * d)) }
-{
-    (a as u32) + 256 * ((b as u32) + 256 * ((c as u32) + 256 * (d as u32)))
-}
-
-fn halves(low: u32, high: u32) -> u64
-    ensures { result ≡ low + 4294967296 * high }
-{
-    (low as u64) + 4294967296 * (high as u64)
-}
-
 pub fn number4(s: &[u8], at: usize) -> u32
     requires { at + 4 ≤ length s.now }
     ensures { result ≡ number 4 s.now at }
 {
-    quad(s[at], s[at + 1], s[at + 2], s[at + 3])
+    u32::from_le_bytes([s[at], s[at + 1], s[at + 2], s[at + 3]])
 }
 
 pub fn number8(s: &[u8], at: usize) -> u64
     requires { at + 8 ≤ length s.now }
     ensures { result ≡ number 8 s.now at }
 {
-    halves(number4(s, at), number4(s, at + 4))
+    u64::from(number4(s, at)) + (u64::from(number4(s, at + 4)) << 32)
 }
 
 // The four bytes that start a record.
@@ -69,20 +57,10 @@ pub fn store8(out: &mut [u8], at: usize, v: u64)
     out[at + 7] = (v / 256 / 256 / 256 / 256 / 256 / 256 / 256 % 256) as u8;
 }
 
-pub fn least(x: usize, y: usize) -> usize
-    ensures { result ≡ min x y }
-{
-    if x < y { x } else { y }
-}
-
-// The first `count` bytes of `from`, from byte `at` on.
+// The first `count` bytes of `from`, from byte `at` on. Kept: three calls of order_check would slice both sides and prove anew that this is `sets`.
 pub fn copy_bytes(out: &mut [u8], at: usize, from: &[u8], count: usize)
     requires { (count ≤ length from.now) × (at + count ≤ length out.old) }
     ensures { out.new ≡ sets out.old at (take count from.now) }
 {
-    let mut i = 0;
-    while i < count {
-        out[at + i] = from[i];
-        i += 1;
-    }
+    out[at..at + count].copy_from_slice(&from[..count]);
 }

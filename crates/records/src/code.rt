@@ -8,7 +8,7 @@ ghost use Rattle.records.specs.Instructions.{fields_bytes, fields_in, used, outs
 
 use crate::bytes;
 use crate::bytes::{MOST4, MOST8};
-use crate::check::Checked;
+use crate::check::Malformed;
 use crate::name::{FIRST_UNNAMED, LAST_UNNAMED};
 
 // The machine instructions, labels and directives. Registers are 0 to 15, immediates are 64-bit two's complement, labels are numbers.
@@ -86,12 +86,6 @@ impl Fields {
     }
 }
 
-#[derive(Clone, Copy)]
-pub enum CodeRead {
-    Record(Code),
-    Malformed,
-}
-
 pub fn fields_of(c: Code) -> Fields
     ensures { result ≡ fields_of c }
 {
@@ -148,8 +142,7 @@ fn code_of(f: Fields) -> Code
     requires { (1 ≤ f.code) × (f.code ≤ 44) }
     ensures { result ≡ code_of f }
 {
-    let code = f.code;
-    match code {
+    match f.code {
         1 => Code::ADD(f.a, f.b),
         2 => Code::ADDRM(f.a, f.b, f.offset),
         3 => Code::ADDMR(f.a, f.offset, f.b),
@@ -256,33 +249,21 @@ fn most_of(code: u8) -> Fields
 fn outside_unnamed(l: u32) -> bool
     ensures { result ≡ outside_unnamed l }
 {
-    if l < FIRST_UNNAMED {
-        return true;
-    }
-    LAST_UNNAMED < l
+    l < FIRST_UNNAMED || LAST_UNNAMED < l
 }
 
 // Not 0, and not 2^31 plus 4 to 15.
 pub fn label_held(l: u32) -> bool
     ensures { result ≡ label_held l }
 {
-    if l == 0 {
-        return false;
-    }
-    outside_unnamed(l)
+    l != 0 && outside_unnamed(l)
 }
 
 // 0 where `most` is 0, and held where it is MOST4, which is odd. No branch asks whether `most` is 0: the compiler would make `most_of` a jump by the code.
 fn label_within(most: u32, l: u32) -> bool
     ensures { result ≡ label_within most l }
 {
-    if l <= most {} else {
-        return false;
-    }
-    if most % 2 <= l {} else {
-        return false;
-    }
-    outside_unnamed(l)
+    l <= most && most % 2 <= l && outside_unnamed(l)
 }
 
 fn operands_ok(f: Fields) -> bool
@@ -290,16 +271,16 @@ fn operands_ok(f: Fields) -> bool
     ensures { result ≡ operands_ok (used f.code) f }
 {
     let m = most_of(f.code);
-    if f.a <= m.a {} else {
+    if m.a < f.a {
         return false;
     }
-    if f.b <= m.b {} else {
+    if m.b < f.b {
         return false;
     }
-    if label_within(m.label, f.label) {} else {
+    if !label_within(m.label, f.label) {
         return false;
     }
-    if f.offset <= m.offset {} else {
+    if m.offset < f.offset {
         return false;
     }
     f.value <= m.value
@@ -308,11 +289,10 @@ fn operands_ok(f: Fields) -> bool
 pub fn fields_ok(f: Fields) -> bool
     ensures { result ≡ fields_ok f }
 {
-    let code = f.code;
-    if code == 0 {
+    if f.code == 0 {
         return false;
     }
-    if 44 < code {
+    if 44 < f.code {
         return false;
     }
     operands_ok(f)
@@ -341,7 +321,7 @@ pub fn is_label(s: &[u8], at: usize, label: u32) -> bool
     requires { at + 24 ≤ length s.now }
     ensures { result ≡ lab_with label (fields_in (drop at s.now)) }
 {
-    if s[at + 1] == 40 {} else {
+    if s[at + 1] != 40 {
         return false;
     }
     bytes::number4(s, at + 4) == label
@@ -352,43 +332,40 @@ fn code_starts(s: &[u8], at: usize) -> bool
     requires { at + 24 ≤ length s.now }
     ensures { result ≡ code_starts (drop at s.now) }
 {
-    if s[at] == 0xA9 {} else {
+    if s[at] != 0xA9 {
         return false;
     }
     fields_ok(fields_at(s, at))
 }
 
 // A list of at most 65,536 records, or of `most` where that is fewer. What is left after the whole ones is a part of one, or past the limit.
-pub fn check_codes(s: &[u8], most: usize) -> Checked
+pub fn check_codes(s: &[u8], most: usize) -> Result<usize, Malformed>
     ensures { AnswersBy checked_cause result (checked_codes most s.now) }
 {
-    let limit = bytes::least(most, 65536);
-    let n = bytes::least(s.len() / 24, limit);
-    let mut k = 0;
-    while k < n {
-        if code_starts(s, 24 * k) {} else {
-            return Checked::Malformed(k + 1);
+    let n = (s.len() / 24).min(most.min(65536));
+    for k in 0..n {
+        if !code_starts(s, 24 * k) {
+            return Err(Malformed { place: k + 1 });
         }
-        k += 1;
     }
-    if 24 * k < s.len() {
-        return Checked::Malformed(k + 1);
+    if 24 * n < s.len() {
+        return Err(Malformed { place: n + 1 });
     }
-    Checked::Good(k)
+    Ok(n)
 }
 
 // Record k, from 0.
-pub fn read_code(s: &[u8], k: usize) -> CodeRead
+pub fn read_code(s: &[u8], k: usize) -> Option<Code>
     ensures { AnswersBy (code_cause k) result (code_at s.now k) }
 {
     if s.len() / 24 <= k {
-        return CodeRead::Malformed;
+        return None;
     }
     let at = 24 * k;
     if code_starts(s, at) {
-        CodeRead::Record(code_of(fields_at(s, at)))
+        Some(code_of(fields_at(s, at)))
     } else {
-        CodeRead::Malformed
+        None
     }
 }
 
@@ -396,12 +373,10 @@ pub fn read_code(s: &[u8], k: usize) -> CodeRead
 pub fn write_fields(out: &mut [u8], at: usize, f: Fields)
     ensures { out.new ≡ stored out.old at (fields_bytes f) }
 {
-    if 24 <= out.len() {
-        if at <= out.len() - 24 {
-            bytes::store_head(out, at, 0xA9, f.code, f.a, f.b);
-            bytes::store4(out, at + 4, f.label);
-            bytes::store8(out, at + 8, f.offset);
-            bytes::store8(out, at + 16, f.value);
-        }
+    if 24 <= out.len() && at <= out.len() - 24 {
+        bytes::store_head(out, at, 0xA9, f.code, f.a, f.b);
+        bytes::store4(out, at + 4, f.label);
+        bytes::store8(out, at + 8, f.offset);
+        bytes::store8(out, at + 16, f.value);
     }
 }

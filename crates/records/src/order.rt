@@ -2,10 +2,11 @@
 ghost use Rattle.std.specs.Prelude.{◌≡◌, ◌+◌, ◌≤◌, length};
 ghost use Rattle.records.specs.Answers.{AnswersBy};
 ghost use Rattle.records.specs.Bytes.{stored};
-ghost use Rattle.records.specs.Orders.{flag_of, operation_of, newline_flag, order_fields_of, order_of, largest_in_order, order_ok, order_bytes, order_in, order_start, order_read, order_cause, wanted};
+ghost use Rattle.records.specs.Orders.{flag_of, operation_of, order_fields_of, order_of, largest_in_order, order_ok, order_bytes, order_in, order_start, order_read, order_cause, wanted};
 
 use crate::bytes;
 use crate::bytes::{MOST4, MOST8};
+use crate::check::Malformed;
 
 #[derive(Clone, Copy)]
 pub enum Calculation {
@@ -45,32 +46,22 @@ pub struct OrderFields {
     pub value: u64,
 }
 
-// The order that starts some bytes, where a whole one does.
-#[derive(Clone, Copy)]
-pub enum OrderStart {
-    Starts(Order),
-    Malformed,
-}
+// Compute's flag.
+impl From<Calculation> for u8 {
+    ghost from_gives = { λ operation flag. flag ≡ flag_of operation };
 
-// One whole order, or the place of the first bad or surplus record.
-#[derive(Clone, Copy)]
-pub enum OrderRead {
-    Whole(Order),
-    Malformed(usize),
-}
-
-fn flag_of(operation: Calculation) -> u8
-    ensures { result ≡ flag_of operation }
-{
-    match operation {
-        Calculation::Add => 0,
-        Calculation::Sub => 1,
-        Calculation::Mul => 2,
-        Calculation::Div => 3,
-        Calculation::Rem => 4,
+    fn from(operation: Calculation) -> u8 {
+        match operation {
+            Calculation::Add => 0,
+            Calculation::Sub => 1,
+            Calculation::Mul => 2,
+            Calculation::Div => 3,
+            Calculation::Rem => 4,
+        }
     }
 }
 
+// Kept by name: of the bytes that are no flag none comes here, and a TryFrom would ask again.
 fn operation_of(flag: u8) -> Calculation
     ensures { result ≡ operation_of flag }
 {
@@ -81,12 +72,6 @@ fn operation_of(flag: u8) -> Calculation
         3 => Calculation::Div,
         _ => Calculation::Rem,
     }
-}
-
-fn newline_flag(newline: bool) -> u8
-    ensures { result ≡ newline_flag newline }
-{
-    if newline { 1 } else { 0 }
 }
 
 impl OrderFields {
@@ -109,12 +94,12 @@ pub fn order_fields_of(o: Order) -> OrderFields
 {
     match o {
         Order::Put(value) => OrderFields::of(1, 0, 0, 0, 0, value),
-        Order::Compute(operation, a, b) => OrderFields::of(2, flag_of(operation), a, b, 0, 0),
+        Order::Compute(operation, a, b) => OrderFields::of(2, u8::from(operation), a, b, 0, 0),
         Order::Copy(a, n) => OrderFields::of(3, 0, a, 0, n, 0),
         Order::Drop => OrderFields::of(4, 0, 0, 0, 0, 0),
         Order::Store(n, tag) => OrderFields::of(5, 0, 0, 0, n, tag),
         Order::Load(n) => OrderFields::of(6, 0, 0, 0, n, 0),
-        Order::Print(newline, a) => OrderFields::of(7, newline_flag(newline), a, 0, 0, 0),
+        Order::Print(newline, a) => OrderFields::of(7, u8::from(newline), a, 0, 0, 0),
     }
 }
 
@@ -123,8 +108,7 @@ fn order_of(f: OrderFields) -> Order
     requires { (1 ≤ f.code) × (f.code ≤ 7) }
     ensures { result ≡ order_of f }
 {
-    let code = f.code;
-    match code {
+    match f.code {
         1 => Order::Put(f.value),
         2 => Order::Compute(operation_of(f.flag), f.a, f.b),
         3 => Order::Copy(f.a, f.n),
@@ -154,24 +138,23 @@ fn most_in(code: u8) -> OrderFields
 fn order_ok(f: OrderFields) -> bool
     ensures { result ≡ order_ok f }
 {
-    let code = f.code;
-    if code == 0 {
+    if f.code == 0 {
         return false;
     }
-    if 7 < code {
+    if 7 < f.code {
         return false;
     }
-    let m = most_in(code);
-    if f.flag <= m.flag {} else {
+    let m = most_in(f.code);
+    if m.flag < f.flag {
         return false;
     }
-    if f.a <= m.a {} else {
+    if m.a < f.a {
         return false;
     }
-    if f.b <= m.b {} else {
+    if m.b < f.b {
         return false;
     }
-    if f.n <= m.n {} else {
+    if m.n < f.n {
         return false;
     }
     f.value <= m.value
@@ -197,37 +180,33 @@ fn order_in(s: &[u8]) -> OrderFields
 }
 
 // The order that starts `s`, where a whole, well-formed one does.
-pub fn read_start(s: &[u8]) -> OrderStart
+pub fn read_start(s: &[u8]) -> Option<Order>
     ensures { result ≡ order_start s.now }
 {
     if s.len() < 24 {
-        return OrderStart::Malformed;
+        return None;
     }
-    if s[0] == 0xA8 {} else {
-        return OrderStart::Malformed;
+    if s[0] != 0xA8 {
+        return None;
     }
-    if s[3] == 0 {} else {
-        return OrderStart::Malformed;
+    if s[3] != 0 {
+        return None;
     }
     let f = order_in(s);
-    if order_ok(f) {
-        OrderStart::Starts(order_of(f))
-    } else {
-        OrderStart::Malformed
-    }
+    if order_ok(f) { Some(order_of(f)) } else { None }
 }
 
 // An order alone: refused at place 1 where it is bad or not whole, at place 2 where more follows.
-pub fn read_order(s: &[u8]) -> OrderRead
+pub fn read_order(s: &[u8]) -> Result<Order, Malformed>
     ensures { AnswersBy order_cause result (order_read s.now) }
 {
-    let OrderStart::Starts(order) = read_start(s) else {
-        return OrderRead::Malformed(1);
+    let Some(order) = read_start(s) else {
+        return Err(Malformed { place: 1 });
     };
     if s.len() == 24 {
-        OrderRead::Whole(order)
+        Ok(order)
     } else {
-        OrderRead::Malformed(2)
+        Err(Malformed { place: 2 })
     }
 }
 
@@ -236,14 +215,12 @@ pub fn write_order(out: &mut [u8], at: usize, o: Order)
     ensures { out.new ≡ stored out.old at (order_bytes (order_fields_of o)) }
 {
     let f = order_fields_of(o);
-    if 24 <= out.len() {
-        if at <= out.len() - 24 {
-            bytes::store_head(out, at, 0xA8, f.code, f.flag, 0);
-            bytes::store4(out, at + 4, f.a);
-            bytes::store4(out, at + 8, f.b);
-            bytes::store4(out, at + 12, f.n);
-            bytes::store8(out, at + 16, f.value);
-        }
+    if 24 <= out.len() && at <= out.len() - 24 {
+        bytes::store_head(out, at, 0xA8, f.code, f.flag, 0);
+        bytes::store4(out, at + 4, f.a);
+        bytes::store4(out, at + 8, f.b);
+        bytes::store4(out, at + 12, f.n);
+        bytes::store8(out, at + 16, f.value);
     }
 }
 
@@ -252,12 +229,7 @@ pub fn wanted(order: Order) -> u32
     ensures { result ≡ wanted order }
 {
     match order {
-        Order::Put(_) => 0,
-        Order::Compute(_, _, _) => 0,
-        Order::Copy(_, _) => 0,
-        Order::Drop => 0,
-        Order::Store(_, _) => 0,
         Order::Load(n) => n,
-        Order::Print(_, _) => 0,
+        _ => 0,
     }
 }

@@ -2,20 +2,14 @@
 ghost use Rattle.std.specs.Prelude.{◌≡◌};
 ghost use Rattle.records.specs.Registers.{hardware_of};
 
-#[derive(Clone, Copy)]
-pub enum Hardware {
-    Number(u8),
-    Absent,
-}
-
 // In the Rust's sequence: rsp, rcx, rbx, rbp, rax, rdx, rsi, rdi, r8 to r15.
 const HARDWARE: [u8; 16] = [4, 1, 3, 5, 0, 2, 6, 7, 8, 9, 10, 11, 12, 13, 14, 15];
 
-pub fn hardware_number(register: u8) -> Hardware
+pub fn hardware_number(register: u8) -> Option<u8>
     ensures { result ≡ hardware_of register }
 {
     if 16 <= register {
-        return Hardware::Absent;
+        return None;
     }
-    Hardware::Number(HARDWARE[register as usize])
+    Some(HARDWARE[register as usize])
 }

@@ -1,17 +1,14 @@
 -- The line of an order's answer: `3 load: refused 5, a variable of the wrong kind for the order`. A refusal's number and values are the scope's, 'Causes and numbers', by
 -- the `order_answer_cause` that the order function's contract cites.
-use Rattle.std.specs.Prelude.{ℕ, ◌-◌, Bool, ◌||◌, cond, List, [], ◌∷◌, ◌++◌, eqb}
+use Rattle.records.specs.declared.check.Malformed.{Malformed}
+use Rattle.std.specs.Prelude.{ℕ, ◌-◌, Bool, ◌||◌, cond, List, [], ◌∷◌, ◌++◌, eqb, Err, Ok, Result}
 use Rattle.records.specs.Causes.{MALFORMED, OPERAND, MISSING, KIND, COUNT, POSITION, LABELS, ROOM, CONTEXT_LENGTH, BINDING_MARK, BINDING_KIND, EDITION}
 use Rattle.records.specs.declared.order.Order.{Order}
 use Rattle.records.specs.declared.order.Order.TheVariants.{Put, Compute, Copy, Drop, Store, Load, Print}
-use Rattle.records.specs.declared.order.OrderRead.{OrderRead}
-use Rattle.records.specs.declared.order.OrderRead.TheVariants as read
 use Rattle.records.specs.Orders.{order_read}
 use Rattle.text.specs.Text.{ascii, decimal}
 use Rattle.layout.specs.Config.{in_frame, positions}
-use Rattle.order_spec.specs.declared.answer.OrderAnswer.{OrderAnswer}
-use Rattle.order_spec.specs.declared.answer.OrderAnswer.TheVariants.{Accepted, Context, Malformed, Frame, Missing, Kind, Count, Position, Labels, Room, Edition}
-use Rattle.order_spec.specs.Answered.{order_answer_cause}
+use Rattle.order_spec.specs.Answered.{order_answer_cause, OrderAnswer}
 use Rattle.report.specs.Parts.{counted}
 
 unfoldable pub order_name : Order → List ℕ
@@ -24,9 +21,9 @@ order_name (Load n) = ascii "load"
 order_name (Print newline a) = ascii "print"
 
 -- `order` where the record is malformed
-unfoldable pub read_name : OrderRead → List ℕ
-read_name (read.Whole order) = order_name order
-read_name (read.Malformed place) = ascii "order"
+unfoldable pub read_name : Result Order Malformed → List ℕ
+read_name (Ok order) = order_name order
+read_name (Err bad) = ascii "order"
 
 -- the order's number in the list, and its name
 unfoldable pub start : ℕ → List ℕ → List ℕ
@@ -79,17 +76,8 @@ acceptance records labels = counted "accepted, records " records ++ counted ", l
 
 -- `before` is the label counter that went in
 unfoldable pub outcome : ℕ → ℕ → OrderAnswer → List ℕ
-outcome frame before (Accepted records counter bindings) = acceptance records (counter - before)
-outcome frame before (Context flaw) = refusal frame (order_answer_cause (Context flaw))
-outcome frame before (Malformed place) = refusal frame (order_answer_cause (Malformed place))
-outcome frame before Frame = refusal frame (order_answer_cause Frame)
-outcome frame before Missing = refusal frame (order_answer_cause Missing)
-outcome frame before Kind = refusal frame (order_answer_cause Kind)
-outcome frame before Count = refusal frame (order_answer_cause Count)
-outcome frame before Position = refusal frame (order_answer_cause Position)
-outcome frame before Labels = refusal frame (order_answer_cause Labels)
-outcome frame before (Room bytes) = refusal frame (order_answer_cause (Room bytes))
-outcome frame before Edition = refusal frame (order_answer_cause Edition)
+outcome frame before (Ok a) = acceptance a.records (a.counter - before)
+outcome frame before (Err refused) = refusal frame (order_answer_cause (Err refused))
 
 unfoldable pub order_line : ℕ → ℕ → List ℕ → ℕ → OrderAnswer → List ℕ
 order_line frame number order before answer = start number order ++ outcome frame before answer ++ ascii "\n"

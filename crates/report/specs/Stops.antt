@@ -3,8 +3,7 @@
 use Rattle.std.specs.Prelude.{ℕ, cond, List, [], ◌∷◌, ◌++◌, eqb}
 use Rattle.records.specs.Causes.{ACCEPTED, LIMIT}
 use Rattle.text.specs.Text.{ascii}
-use Rattle.machine.specs.declared.run.RunAnswer.{RunAnswer}
-use Rattle.machine.specs.Run.{run_cause}
+use Rattle.machine.specs.Run.{run_cause, RunAnswer}
 use Rattle.report.specs.Parts.{counted}
 use Rattle.report.specs.Answers.{start}
 

@@ -1,5 +1,5 @@
 // The line of an order's answer.
-ghost use Rattle.std.specs.Prelude.{◌++◌, ℕ, ◌+◌, ◌-◌, ◌≤◌, length};
+ghost use Rattle.std.specs.Prelude.{◌++◌, ℕ, ◌+◌, ◌-◌, ◌≤◌, length, Err};
 ghost use Rattle.records.specs.Orders.{order_read};
 ghost use Rattle.records.specs.Contexts.{flaw_cause};
 ghost use Rattle.text.specs.Text.{ascii, decimal};
@@ -10,11 +10,12 @@ ghost use Rattle.report.specs.Parts.{counted};
 ghost use Rattle.report.specs.Answers.{order_name, read_name, start, refusal, acceptance, outcome, order_line};
 
 use crate::parts;
-use layout::config::{Choice, Shape};
-use order_spec::answer::OrderAnswer;
+use layout::config::Shape;
+use order_spec::answer::{OrderAnswer, OrderRefusal};
 use records::context::Flaw;
-use records::order::{Order, OrderRead};
+use records::order::Order;
 
+#[tactic(auto, using(text::proofs::Putting::at_most), unfolding(crate::specs::Answers::order_name))]
 fn put_name(text: &mut [u8], at: usize, order: Order) -> usize
     requires { at + 7 ≤ farthest }
     ensures { Puts 7 text.old at text.new result (order_name order) }
@@ -34,10 +35,9 @@ fn put_read_name(text: &mut [u8], at: usize, order: &[u8]) -> usize
     requires { at + 7 ≤ farthest }
     ensures { Puts 7 text.old at text.new result (read_name (order_read order.now)) }
 {
-    let read = records::order::read_order(order);
-    match read {
-        OrderRead::Whole(whole) => put_name(text, at, whole),
-        OrderRead::Malformed(_) => text::put_bytes(text, at, b"order"),
+    match records::order::read_order(order) {
+        Ok(whole) => put_name(text, at, whole),
+        Err(_) => text::put_bytes(text, at, b"order"),
     }
 }
 
@@ -107,7 +107,7 @@ fn put_flaw(text: &mut [u8], at: usize, flaw: Flaw) -> usize
 
 fn put_malformed(text: &mut [u8], at: usize, place: u64) -> usize
     requires { at + 87 ≤ farthest }
-    ensures { (frame : ℕ) → Puts 87 text.old at text.new result (refusal frame (order_answer_cause (OrderAnswer.Malformed place))) }
+    ensures { (frame : ℕ) → Puts 87 text.old at text.new result (refusal frame (order_answer_cause (Err (OrderRefusal.Malformed place)))) }
 {
     let next = parts::put_count(text, at, b"refused 2 at place ", place);
     text::put_bytes(
@@ -119,7 +119,7 @@ fn put_malformed(text: &mut [u8], at: usize, place: u64) -> usize
 
 fn put_short(text: &mut [u8], at: usize, bytes: u64) -> usize
     requires { at + 69 ≤ farthest }
-    ensures { (frame : ℕ) → Puts 69 text.old at text.new result (refusal frame (order_answer_cause (OrderAnswer.Room bytes))) }
+    ensures { (frame : ℕ) → Puts 69 text.old at text.new result (refusal frame (order_answer_cause (Err (OrderRefusal.Room bytes)))) }
 {
     let needed = parts::put_count(text, at, b"refused 10, ", bytes);
     let next = text::put_bytes(text, needed, b" bytes needed");
@@ -138,54 +138,51 @@ fn put_last(text: &mut [u8], at: usize, g: Shape) -> usize
 // The frame's last position is named.
 fn put_position(text: &mut [u8], at: usize, frame: u64) -> usize
     requires { at + 75 ≤ farthest }
-    ensures { Puts 75 text.old at text.new result (refusal frame (order_answer_cause OrderAnswer.Position)) }
+    ensures { Puts 75 text.old at text.new result (refusal frame (order_answer_cause (Err OrderRefusal.Position))) }
 {
     let next = text::put_bytes(text, at, b"refused 8, too many variables");
     match layout::config::frame_of(frame) {
-        Choice::Of(g) => put_last(text, next, g),
-        Choice::Unknown => next,
+        Some(g) => put_last(text, next, g),
+        None => next,
     }
 }
 
 // What was answered; `before` is the label counter that went in.
+#[tactic(auto, using(text::proofs::Putting::at_most), unfolding(text::specs::Text::digits, crate::specs::Answers::cause_words, crate::specs::Answers::separator, crate::specs::Answers::refusal, crate::specs::Answers::outcome))]
 fn put_outcome(text: &mut [u8], at: usize, frame: u64, before: u64, answer: OrderAnswer) -> usize
     requires { at + 96 ≤ farthest }
     ensures { Puts 96 text.old at text.new result (outcome frame before answer) }
 {
     match answer {
-        OrderAnswer::Accepted(records, counter, _) => {
-            put_acceptance(
-                text,
-                at,
-                records as u64,
-                layout::utils::excess(counter, before),
-            )
+        Ok(accepted) => {
+            let labels = accepted.counter.saturating_sub(before);
+            put_acceptance(text, at, accepted.records as u64, labels)
         }
-        OrderAnswer::Context(flaw) => put_flaw(text, at, flaw),
-        OrderAnswer::Malformed(place) => put_malformed(text, at, place as u64),
-        OrderAnswer::Frame => put_refused(text, at, 3, b", a frame has 256 or 512 spills"),
-        OrderAnswer::Missing => put_refused(
+        Err(OrderRefusal::Context(flaw)) => put_flaw(text, at, flaw),
+        Err(OrderRefusal::Malformed(place)) => put_malformed(text, at, place as u64),
+        Err(OrderRefusal::Frame) => put_refused(text, at, 3, b", a frame has 256 or 512 spills"),
+        Err(OrderRefusal::Missing) => put_refused(
             text,
             at,
             4,
             b", a place that is not in the context, or too few variables",
         ),
-        OrderAnswer::Kind => put_refused(
+        Err(OrderRefusal::Kind) => put_refused(
             text,
             at,
             5,
             b", a variable of the wrong kind for the order",
         ),
-        OrderAnswer::Count => put_refused(text, at, 7, b", a copy's count above 2147483647"),
-        OrderAnswer::Position => put_position(text, at, frame),
-        OrderAnswer::Labels => put_refused(
+        Err(OrderRefusal::Count) => put_refused(text, at, 7, b", a copy's count above 2147483647"),
+        Err(OrderRefusal::Position) => put_position(text, at, frame),
+        Err(OrderRefusal::Labels) => put_refused(
             text,
             at,
             9,
             b", labels above 2147483647 needed, let the counter start afresh",
         ),
-        OrderAnswer::Room(bytes) => put_short(text, at, bytes as u64),
-        OrderAnswer::Edition => put_refused(text, at, 23, b", an edition is 1 or 2"),
+        Err(OrderRefusal::Room(bytes)) => put_short(text, at, bytes as u64),
+        Err(OrderRefusal::Edition) => put_refused(text, at, 23, b", an edition is 1 or 2"),
     }
 }
 

@@ -4,7 +4,7 @@ ghost use Rattle.text.specs.Putting.{farthest, Puts};
 ghost use Rattle.report.specs.Stops.{stop_words, stop_line};
 
 use crate::{answers, parts};
-use machine::run::RunAnswer;
+use machine::run::{RunAnswer, Stop};
 
 fn put_fault(text: &mut [u8], at: usize, steps: u64, place: u64) -> usize
     requires { at + 80 ≤ farthest }
@@ -35,23 +35,24 @@ fn put_malformed(text: &mut [u8], at: usize, place: u64) -> usize
 }
 
 // The line of the order with a number, from 1, whose run did not end; nothing where it did.
+#[tactic(auto, using(text::proofs::Putting::at_most), unfolding(crate::specs::Stops::stopped, crate::specs::Stops::stop_line))]
 pub fn put_stop(text: &mut [u8], at: usize, number: u64, order: &[u8], ran: RunAnswer) -> usize
     requires { at + 147 ≤ farthest }
     ensures { Puts 147 text.old at text.new result (stop_line number order.now ran) }
 {
     match ran {
-        RunAnswer::Ended(_) => at,
-        RunAnswer::Malformed(place) => {
+        Ok(_) => at,
+        Err(Stop::Malformed(place)) => {
             let said = answers::put_start(text, at, number, order);
             let end = put_malformed(text, said, place as u64);
             text::put_bytes(text, end, b", the channel stops here\n")
         }
-        RunAnswer::Fault(steps, place) => {
+        Err(Stop::Fault(steps, place)) => {
             let said = answers::put_start(text, at, number, order);
             let end = put_fault(text, said, steps, place as u64);
             text::put_bytes(text, end, b", the channel stops here\n")
         }
-        RunAnswer::Limit(limit) => {
+        Err(Stop::Limit(limit)) => {
             let said = answers::put_start(text, at, number, order);
             let end = put_limit(text, said, limit);
             text::put_bytes(text, end, b", the channel stops here\n")

@@ -1,21 +1,23 @@
 -- The lines of variables, put one after the other.
+use Rattle.layout.specs.declared.config.Unshaped.{Unshaped}
+use Rattle.layout.specs.declared.config.Unshaped.TheVariants.{NoFrame, NoEdition}
+use Rattle.std.specs.Prelude.{Ok, Err}
 use Prim.Native.Nat.{ℕ, zero, suc, ◌+◌, ◌*◌, ◌-◌, ◌≤◌, ◌<◌}
 use mathlib.Core.Path.{◌≡◌, refl, ap, subst}
 use mathlib.Core.Bool.{Bool, true, false}
-use mathlib.Core.List.{List, ◌++◌, append_assoc, append-nil}
+use mathlib.Core.List.{List, [], ◌++◌, append_assoc, append-nil}
 use native.Mathlib.Nat.{le_antisymm}
 use native.Mathlib.Numerals.{add-one}
 use native.Mathlib.Omega.{arith}
 use lib.ListN.{length, get_or}
 use borrow.Author.Tests.{lt-ltb, le-ltb}
 use Rattle.records.specs.declared.context.Flaw.{Flaw}
-use Rattle.records.specs.declared.context.ContextRead.TheVariants.{Good, Bad}
 use Rattle.records.specs.Contexts.{checked_context, ext_at}
 use Rattle.text.specs.Putting.{Puts}
 use Rattle.text.proofs.Putting.{nothing, at_most, ◌⨟◌}
 use Rattle.word.specs.Words.{choose}
 use Rattle.layout.specs.declared.config.Shape.{Shape}
-use Rattle.layout.specs.Config.{positions, most_variables}
+use Rattle.layout.specs.Config.{in_shape, positions, most_variables}
 use Rattle.layout.specs.Positions.{location}
 use Rattle.layout.specs.Frame.{held_in, variable_in, variables_in}
 use Rattle.machine_step.specs.View.{words_of, from_end}
@@ -72,15 +74,20 @@ module _ (g : Shape) (context registers stack : List ℕ) where
 
 -- what a context's check decides
 module _ (g : Shape) (s registers stack o : List ℕ) (i : ℕ) where
-  pub of_bad : {flaw : Flaw} → checked_context s ≡ Bad flaw → Puts (83 * most_variables g) o i o i (variable_lines g s registers stack)
+  pub of_bad : {flaw : Flaw} → checked_context s ≡ Err flaw → Puts (83 * most_variables g) o i o i (variable_lines g s registers stack)
   unfolding variable_lines first_lines cell_lines
   of_bad e = rw (e, lt-ltb 0 (positions g) (omega arith)) (at_most (nothing o i) (omega arith))
 
-  pub of_many : {n : ℕ} → checked_context s ≡ Good n → positions g ≤ 2 * n → Puts (83 * most_variables g) o i o i (variable_lines g s registers stack)
+  pub of_many : {n : ℕ} → checked_context s ≡ Ok n → positions g ≤ 2 * n → Puts (83 * most_variables g) o i o i (variable_lines g s registers stack)
   unfolding variable_lines
   of_many {n} e h = rw (e, le-ltb (2 * n) (positions g) h) (at_most (nothing o i) (omega arith))
 
-  pub of_few : {n j : ℕ} {o' : List ℕ} → checked_context s ≡ Good n → 2 * n < positions g → Puts (83 * n) o i o' j (first_lines g s registers stack n)
+  pub of_few : {n j : ℕ} {o' : List ℕ} → checked_context s ≡ Ok n → 2 * n < positions g → Puts (83 * n) o i o' j (first_lines g s registers stack n)
       → Puts (83 * most_variables g) o i o' j (variable_lines g s registers stack)
   unfolding variable_lines
   of_few {n} e h p = rw (e, lt-ltb (2 * n) (positions g) h) (at_most p (omega arith))
+
+-- where there is no such edition or frame
+pub no_rows : (none : Unshaped) (f : Shape → List ℕ) (o : List ℕ) (i n : ℕ) → Puts n o i o i (in_shape (Err none) f [] [])
+no_rows NoFrame f o i n = at_most (nothing o i) (omega arith)
+no_rows NoEdition f o i n = at_most (nothing o i) (omega arith)

@@ -1,9 +1,8 @@
 -- What an order's print call writes: the integer of the variable that it names, as the print routines write it.
-use Rattle.std.specs.Prelude.{ℕ, ◌+◌, ◌*◌, Bool, cond, List, [], ◌++◌, ltb, length}
+use Rattle.records.specs.declared.check.Malformed.{Malformed}
+use Rattle.std.specs.Prelude.{ℕ, ◌+◌, ◌*◌, Bool, cond, List, [], ◌++◌, ltb, length, Err, Ok, Result}
 use Rattle.records.specs.declared.order.Order.{Order}
 use Rattle.records.specs.declared.order.Order.TheVariants.{Put, Compute, Copy, Drop, Store, Load, Print}
-use Rattle.records.specs.declared.order.OrderRead.{OrderRead}
-use Rattle.records.specs.declared.order.OrderRead.TheVariants as read
 use Rattle.records.specs.Orders.{order_read}
 use Rattle.text.specs.Text.{ascii, signed_decimal}
 use Rattle.layout.specs.declared.config.Shape.{Shape}
@@ -33,9 +32,9 @@ module _ (g : Shape) (reg stk : ℕ → ℕ) where
   prints_of (Load n) = []
   prints_of (Print newline a) = cond (ltb (2 * a + 1) (positions g)) (printed_text newline (word_of reg stk a)) []
 
-  unfoldable pub prints : OrderRead → List ℕ
-  prints (read.Whole order) = prints_of order
-  prints (read.Malformed place) = []
+  unfoldable pub prints : Result Order Malformed → List ℕ
+  prints (Ok order) = prints_of order
+  prints (Err bad) = []
 
 -- on lent registers and stack, by the order's bytes; nothing where the stack is not the frame's
 abbrev pub prints_on : ℕ → List ℕ → List ℕ → List ℕ → List ℕ

@@ -10,8 +10,8 @@ ghost use Rattle.machine_step.specs.Forms.{Sized};
 ghost use Rattle.report_state.specs.Prints.{printed_text, prints_of, prints, prints_on};
 
 use crate::variables;
-use layout::config::{Choice, Shape};
-use records::order::{Order, OrderRead};
+use layout::config::Shape;
+use records::order::Order;
 
 // The integer, and a newline if asked, as the print routines write them.
 fn put_printed(text: &mut [u8], at: usize, newline: bool, integer: u64) -> usize
@@ -54,21 +54,14 @@ fn put_whole(
     ensures { Puts 22 text.old at text.new result (prints_of g (words_of registers.now) (from_end stack.now) order) }
 {
     let limit = g.spills + 11;
-    match order {
-        Order::Put(_) => at,
-        Order::Compute(_, _, _) => at,
-        Order::Copy(_, _) => at,
-        Order::Drop => at,
-        Order::Store(_, _) => at,
-        Order::Load(_) => at,
-        Order::Print(newline, a) => {
-            let p = 2 * (a as u64) + 1;
-            if p < limit {
-                return put_word(text, at, newline, registers, stack, p);
-            }
-            at
-        }
+    let Order::Print(newline, a) = order else {
+        return at;
+    };
+    let p = 2 * (a as u64) + 1;
+    if p < limit {
+        return put_word(text, at, newline, registers, stack, p);
     }
+    at
 }
 
 // What an order writes, if it is a print order, on registers and a frame's stack; nothing on another number of words.
@@ -84,8 +77,8 @@ pub fn put_print(
     ensures { Puts 22 text.old at text.new result (prints_on frame order.now registers.now stack.now) }
 {
     match layout::config::frame_on(frame, stack.len()) {
-        Choice::Of(g) => put_print_in(text, at, g, order, registers, stack),
-        Choice::Unknown => at,
+        Some(g) => put_print_in(text, at, g, order, registers, stack),
+        None => at,
     }
 }
 
@@ -100,9 +93,8 @@ fn put_print_in(
     requires { Sized (stack_depth g) registers.now stack.now × (at + 22 ≤ farthest) × Supported g }
     ensures { Puts 22 text.old at text.new result (prints g (words_of registers.now) (from_end stack.now) (order_read order.now)) }
 {
-    let read = records::order::read_order(order);
-    match read {
-        OrderRead::Whole(whole) => put_whole(text, at, g, whole, registers, stack),
-        OrderRead::Malformed(_) => at,
+    match records::order::read_order(order) {
+        Ok(whole) => put_whole(text, at, g, whole, registers, stack),
+        Err(_) => at,
     }
 }

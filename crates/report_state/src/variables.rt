@@ -1,6 +1,5 @@
 // The line of each variable.
 ghost use Rattle.std.specs.Prelude.{◌≡◌, ◌++◌, ◌+◌, ◌*◌, ◌≤◌, ◌<◌, length};
-ghost use Rattle.records.specs.Contexts.{ext_at};
 ghost use Rattle.text.specs.Text.{ascii, signed_decimal};
 ghost use Rattle.text.specs.Putting.{farthest, Puts};
 ghost use Rattle.layout.specs.Config.{Supported, larger, positions, most_variables, stack_depth};
@@ -11,9 +10,8 @@ ghost use Rattle.machine_step.specs.Forms.{Sized};
 ghost use Rattle.heap.specs.Blocks.{cell};
 ghost use Rattle.report_state.specs.Cells.{block_name, cell_words, cell_line, variable_line, first_lines, variable_lines, variables_on};
 
-use layout::config::{Shape, Shaped};
+use layout::config::Shape;
 use layout::utils::ENTRIES;
-use records::context::ContextRead;
 use report::parts;
 
 fn put_block(text: &mut [u8], at: usize, g: Shape, pointer: u64) -> usize
@@ -24,7 +22,7 @@ fn put_block(text: &mut [u8], at: usize, g: Shape, pointer: u64) -> usize
         return text::put_bytes(text, at, b", empty");
     }
     let bytes = layout::offset::fst_offset(g.fields);
-    let block = layout::utils::excess(pointer, 65536) / bytes;
+    let block = pointer.saturating_sub(65536) / bytes;
     parts::put_count(text, at, b", block ", block)
 }
 
@@ -101,7 +99,7 @@ fn put_variable(
     let place = k as u64;
     let pointer = word_at(registers, stack, table, 2 * place);
     let word = word_at(registers, stack, table, 2 * place + 1);
-    let ext = layout::utils::is_ext(context, k as u64);
+    let ext = layout::utils::is_ext(context, place);
     put_cell(text, at, g, place, ext, pointer, word)
 }
 
@@ -120,10 +118,8 @@ fn put_first(
     ensures { Puts (83 * count) text.old at text.new result (first_lines g context.now registers.now stack.now count) }
 {
     let mut next = at;
-    let mut k = 0;
-    while k < count {
+    for k in 0..count {
         next = put_variable(text, next, g, context, registers, stack, table, k);
-        k += 1;
     }
     next
 }
@@ -143,9 +139,8 @@ pub fn put_variables(
     ensures { Puts (83 * most_variables larger) text.old at text.new result (variables_on edition frame context.now registers.now stack.now) }
 {
     match layout::config::shape_on(edition, frame, stack.len()) {
-        Shaped::In(g) => put_variables_in(text, at, g, context, registers, stack),
-        Shaped::NoFrame => at,
-        Shaped::NoEdition => at,
+        Ok(g) => put_variables_in(text, at, g, context, registers, stack),
+        Err(_) => at,
     }
 }
 
@@ -161,15 +156,12 @@ fn put_variables_in(
     ensures { Puts (83 * most_variables g) text.old at text.new result (variable_lines g context.now registers.now stack.now) }
 {
     let limit = g.spills + 11;
-    let checked = records::context::check_context(context);
-    match checked {
-        ContextRead::Bad(_) => at,
-        ContextRead::Good(count) => {
-            if limit <= 2 * (count as u64) {
-                return at;
-            }
-            let table = layout::utils::positions();
-            put_first(text, at, g, context, registers, stack, &table, count)
-        }
+    let Ok(count) = records::context::check_context(context) else {
+        return at;
+    };
+    if limit <= 2 * (count as u64) {
+        return at;
     }
+    let table = layout::utils::positions();
+    put_first(text, at, g, context, registers, stack, &table, count)
 }

@@ -1,11 +1,13 @@
 -- Head, body and cleanup written one after the other are the routine, whose bytes are those of its records; and the answer.
 use Prim.Native.Nat.{ℕ, zero, suc, ◌+◌, ◌*◌, ◌≤◌}
 use mathlib.Core.Path.{◌≡◌, refl, sym, ap, ◌∙◌}
-use mathlib.Core.Bool.{Bool, true, false}
+use mathlib.Core.Bool.{false}
+use Rattle.std.specs.Prelude.{Ok, Err}
+use Rattle.std.specs.Result.{IsErrAnd}
 use mathlib.Core.List.{List, [], ◌∷◌, ◌++◌, append_assoc}
 use native.Mathlib.Omega.{arith}
-use lib.ListN.{length, take, length-append}
-use lib.Seq.{sets, length-sets, take-length}
+use lib.ListN.{length, length-append}
+use lib.Seq.{sets, length-sets}
 use borrow.Author.Tests.{le-ltb}
 use Rattle.records.specs.declared.code.Code.{Code}
 use Rattle.records.specs.ReadBack.{joined, items, code_bytes, code_in}
@@ -13,9 +15,12 @@ use Rattle.records.proofs.CodesBack.{code_laws}
 use Rattle.records.proofs.Joined.{joined_length}
 use Rattle.records.proofs.ReadBack.{records_read_back}
 use Rattle.records.proofs.Storing.{sets_then}
-use Rattle.emit.specs.declared.answer.Answer.{Answer}
+use Rattle.records.specs.declared.check.Malformed.{Malformed}
+use Rattle.emit.specs.declared.answer.Written.{Written}
+use Rattle.emit.specs.declared.answer.Refusal.{Refusal}
+use Rattle.emit.specs.declared.answer.Refusal.TheVariants.{Body}
 use Rattle.emit.specs.declared.cursor.Cursor.{Cursor}
-use Rattle.emit.specs.Answers.{cause_of, granted, accepted}
+use Rattle.emit.specs.Answers.{cause_of, granted, accepted, Answer}
 use Rattle.emit.specs.Emitted.{fields_list, Emitted}
 use Rattle.emit.proofs.Laws.{length_fields}
 use Rattle.emit.proofs.Wrote.{written_whole, granted_if}
@@ -59,7 +64,7 @@ module _ (g : Shape) where
   pub assembled : {o o₁ o₂ o₃ : List ℕ} {p q e z : Cursor} (n : ℕ) (body : List ℕ)
       → 24 * (25 + n) + length body ≤ length o
       → Emitted o p o₁ q (fields_list (head g n)) 0 → p.at ≡ 0
-      → o₂ ≡ sets o₁ q.at (take (length body) body)
+      → o₂ ≡ sets o₁ q.at body
       → Emitted o₂ e o₃ z (fields_list (cleanup g)) 0 → e.at ≡ q.at + length body
       → o₃ ≡ sets o 0 (routine_bytes g n body)
   unfolding routine_bytes
@@ -69,7 +74,7 @@ module _ (g : Shape) where
       let k = body_place n d s in
       let j = head_bytes n in
       let first : o₁ ≡ sets o 0 A = d.bytes ∙ rw s (written_whole (head g n) o 0 (omega (arith, head_length n))) in
-      let second : o₂ ≡ sets (sets o 0 A) q.at body = rw (← first) (rw (take-length body) at b) in
+      let second : o₂ ≡ sets (sets o 0 A) q.at body = rw (← first) b in
       let long : length o₂ ≡ length o = rw second (length-sets (sets o 0 A) q.at body ∙ length-sets o 0 A) in
       c.bytes
       ∙ written_whole (cleanup g) o₂ e.at (omega arith)
@@ -77,20 +82,29 @@ module _ (g : Shape) where
       (sets_then body C (sets o 0 A) q.at e.at (sym t)
       ∙ sets_then A (body ++ C) o 0 q.at (omega arith))
 
-module _ (g : Shape) {o : List ℕ} {r expected : Answer} {b : Bool} (n : ℕ) (body : List ℕ) (e : r ≡ expected) (f : b ≡ accepted r) where
-  pub not_assembled : b ≡ false → Assembles o o r expected (routine_bytes g n body)
-  not_assembled h = record { answer = e; cause = ap cause_of e; bytes = rw (← e, ← f, h) }
-
-  pub all_assembled : {o' : List ℕ} → b ≡ true → o' ≡ sets o 0 (routine_bytes g n body) → Assembles o o' r expected (routine_bytes g n body)
-  all_assembled h w = record { answer = e; cause = ap cause_of e; bytes = rw (← e, ← f, h) w }
+module _ (g : Shape) {o : List ℕ} {r expected : Answer} {w : Written} (n : ℕ) (body : List ℕ) (e : r ≡ expected) (f : r ≡ Ok w) where
+  pub all_assembled : {o' : List ℕ} → o' ≡ sets o 0 (routine_bytes g n body) → Assembles o o' (Ok w) expected (routine_bytes g n body)
+  all_assembled h =
+      let k : ◌≡◌ {A = Answer} (Ok w) expected = sym f ∙ e in
+      record { answer = k; cause = ap cause_of k; bytes = rw (← k) h }
 
 module _ (g : Shape) (o : List ℕ) (n : ℕ) (body : List ℕ) {r : Answer} (e : r ≡ granted 0 (length o) (24 * (25 + n) + length body) 0) where
   pub expected_answer : n ≤ 5 → r ≡ accepting g (length o) n body
   expected_answer h = rw (le-ltb 5 n h, bytes_length g n body) e
 
-  pub room_enough_lem : {b : Bool} → b ≡ accepted r → b ≡ true → 24 * (25 + n) + length body ≤ length o
-  room_enough_lem f t = (granted_if 0 (length o) (24 * (25 + n) + length body) 0 (ap accepted (sym e) ∙ sym f ∙ t)).1
+  pub room_enough_lem : {w : Written} → r ≡ Ok w → 24 * (25 + n) + length body ≤ length o
+  room_enough_lem f = (granted_if 0 (length o) (24 * (25 + n) + length body) 0 (ap (λ x. accepted x) (sym e ∙ f))).1
 
 -- a refusal leaves the output
 pub refused : {o routine : List ℕ} {r expected : Answer} → r ≡ expected → accepted r ≡ false → Assembles o o r expected routine
 refused e f = record { answer = e; cause = ap cause_of e; bytes = rw (← e, f) }
+
+-- also one handed on by `?`, and one of the body
+pub handed_on : {o routine : List ℕ} {r z expected : Answer} {x : Refusal} → r ≡ expected → r ≡ Err x → IsErrAnd z (λ y. y ≡ x) → Assembles o o z expected routine
+handed_on {z = Ok w} e f h = absurd h
+handed_on {z = Err y} {expected} e f h =
+    let k : ◌≡◌ {A = Answer} (Err y) expected = ap (λ v. Err v) h ∙ sym f ∙ e in
+    refused k refl
+
+pub body_refused : {o routine : List ℕ} {m : Malformed} (z : Answer) → IsErrAnd z (λ y. y ≡ Body m.place) → Assembles o o z (Err (Body m.place)) routine
+body_refused z h = handed_on refl refl h

@@ -1,10 +1,10 @@
 -- The parts of a routine: one argument of those left, and how long an accepted body is.
+use Rattle.std.specs.Prelude.{Ok}
 use Prim.Native.Nat.{ℕ, zero, suc, ◌+◌, ◌*◌, ◌-◌, ◌≤◌, ◌<◌}
 use mathlib.Core.Path.{◌≡◌, refl}
 use mathlib.Core.List.{List, ◌∷◌}
 use native.Mathlib.Omega.{arith}
 use lib.ListN.{length}
-use Rattle.records.specs.declared.check.Checked.TheVariants.{Good}
 use Rattle.records.specs.declared.code.Code.TheVariants.{MOV}
 use Rattle.records.specs.Checked.{places, checked}
 use Rattle.records.specs.Instructions.{code_starts, checked_codes}
@@ -18,7 +18,7 @@ pub next_argument : (n : ℕ) → 0 < n → move_arguments n ≡ MOV (2 * n + 3)
 next_argument zero h = absurd (omega arith)
 next_argument (suc n) h = let e : suc n - 1 ≡ n = omega arith in rw e
 
-pub body_length : (s : List ℕ) (n : ℕ) → checked_codes 65506 s ≡ Good n → length s ≤ 24 * 65506
+pub body_length : (s : List ℕ) (n : ℕ) → checked_codes 65506 s ≡ Ok n → length s ≤ 24 * 65506
 unfolding checked
 body_length s n e =
     let q = all_checked code_starts 24 65506 s 0 (places 24 s) n e in

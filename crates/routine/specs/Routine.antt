@@ -1,6 +1,6 @@
 -- A whole routine around a body of records. From into_routine.rs, function by function, and the scope, 'Causes and numbers': 2 for a record of the body
 -- or one past 65,506, 3 for the frame, 6 for more than 5 arguments, 10 for the room. The body stands in the output as it was given.
-use Rattle.std.specs.Prelude.{ℕ, zero, suc, ◌+◌, ◌*◌, ◌≡◌, cond, List, [], ◌∷◌, ◌++◌, ltb, length, get_or}
+use Rattle.std.specs.Prelude.{ℕ, zero, suc, ◌+◌, ◌*◌, ◌≡◌, cond, List, [], ◌∷◌, ◌++◌, ltb, length, get_or, Err}
 use Rattle.std.proofs.lemmas.List.Edits.{sets}
 use Rattle.records.specs.declared.code.Code.{Code}
 use Rattle.records.specs.declared.code.Code.TheVariants.{ADDI, SUBI, MOV, PUSH, POP, RET, LAB, NOEXECSTACK, TEXT, GLOBAL, EXTERN}
@@ -8,9 +8,8 @@ use Rattle.records.specs.Instructions.{checked_codes}
 use Rattle.records.specs.ReadBack.{joined, code_bytes}
 use Rattle.records.specs.Names.{ASMMAIN, CLEANUP, PRINTI64, PRINTLNI64}
 use Rattle.records.specs.Checked.{on_checked}
-use Rattle.emit.specs.declared.answer.Answer.{Answer}
-use Rattle.emit.specs.declared.answer.Answer.TheVariants.{Body, Operand, Arguments, Edition}
-use Rattle.emit.specs.Answers.{cause_of, granted, accepted}
+use Rattle.emit.specs.declared.answer.Refusal.TheVariants.{Body, Operand, Arguments, Edition}
+use Rattle.emit.specs.Answers.{cause_of, granted, accepted, Answer}
 use Rattle.layout.specs.declared.config.Shape.{Shape}
 use Rattle.layout.specs.Config.{STACK, HEAP, FREE, block_bytes, shape_of, in_shape}
 
@@ -69,15 +68,15 @@ module _ (g : Shape) where
 
   -- the answer for a body that is accepted, and an output of so many bytes
   abbrev pub accepting : ℕ → ℕ → List ℕ → Answer
-  accepting room n body = cond (ltb 5 n) Arguments (granted 0 room (length (routine_bytes n body)) 0)
+  accepting room n body = cond (ltb 5 n) (Err Arguments) (granted 0 room (length (routine_bytes n body)) 0)
 
   unfoldable pub routine_answer : ℕ → ℕ → List ℕ → Answer
-  routine_answer room n body = on_checked (checked_codes 65506 body) (λ k. accepting room n body) Body
+  routine_answer room n body = on_checked (checked_codes 65506 body) (λ k. accepting room n body) (λ place. Err (Body place))
 
 -- the answer and the routine's bytes in an edition and a frame of so many spills
 abbrev pub routine_in : ℕ → ℕ → ℕ → ℕ → List ℕ → Answer
 routine_in edition frame room n body =
-    in_shape (shape_of edition frame) (λ g. routine_answer g room n body) (on_checked (checked_codes 65506 body) (λ k. Operand) Body) Edition
+    in_shape (shape_of edition frame) (λ g. routine_answer g room n body) (on_checked (checked_codes 65506 body) (λ k. Err Operand) (λ place. Err (Body place))) (Err Edition)
 
 abbrev pub routine_bytes_in : ℕ → ℕ → ℕ → List ℕ → List ℕ
 routine_bytes_in edition frame n body = in_shape (shape_of edition frame) (λ g. routine_bytes g n body) [] []

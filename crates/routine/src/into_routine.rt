@@ -1,18 +1,17 @@
 // A whole routine: control directives and entry point, setup, the body as it is given, cleanup.
-ghost use Rattle.std.specs.Prelude.{◌≡◌, false, ◌+◌, ◌*◌, ◌≤◌, ◌<◌, ◌^◌, length};
+ghost use Rattle.std.specs.Prelude.{◌≡◌, false, ◌+◌, ◌*◌, ◌≤◌, ◌<◌, ◌^◌, length, Err};
 ghost use Rattle.std.proofs.lemmas.List.Edits.{sets};
 ghost use Rattle.records.specs.Instructions.{checked_codes};
 ghost use Rattle.records.specs.Checked.{on_checked};
 ghost use Rattle.emit.specs.Emitted.{fields_list, Emitted};
 ghost use Rattle.emit.specs.Answers.{accepted};
-ghost use Rattle.emit.specs.declared.answer.Answer.TheVariants.{Operand, Body};
+ghost use Rattle.emit.specs.declared.answer.Refusal.TheVariants.{Operand, Body};
 ghost use Rattle.layout.specs.Config.{Supported};
 ghost use Rattle.routine.specs.Routine.{argument, preamble, setup, move_arguments, head, cleanup, routine_bytes, accepting, routine_answer, routine_in, routine_bytes_in, Assembles};
 
-use emit::answer::Answer;
+use emit::answer::{Answer, Refusal};
 use emit::cursor::{Cursor, Row};
-use layout::config::{FREE, HEAP, STACK, Shape, Shaped};
-use records::check::Checked;
+use layout::config::{FREE, HEAP, STACK, Shape, Unshaped};
 use records::name::{ASM_MAIN, CLEANUP, PRINT_I64, PRINTLN_I64};
 use records::number::{ADDI, EXTERN, GLOBAL, LAB, MOV, NOEXECSTACK, POP, PUSH, RET, SUBI, TEXT};
 
@@ -85,12 +84,9 @@ fn move_arguments(out: &mut [u8], p: Cursor, n: usize) -> Cursor
     ensures { Emitted out.old p out.new result (fields_list (move_arguments n)) 0 }
 {
     let mut q = p;
-    let mut left = n;
-    while 0 < left {
-        let from = arg(left);
-        let to = (2 * left + 3) as u8;
-        q = emit::cursor::emit(out, q, Row(MOV, to, from, 0, 0, 0));
-        left -= 1;
+    for i in (1..n + 1).rev() {
+        let to = (2 * i + 3) as u8;
+        q = emit::cursor::emit(out, q, Row(MOV, to, arg(i), 0, 0, 0));
     }
     q
 }
@@ -134,8 +130,8 @@ fn assemble(out: &mut [u8], g: Shape, body: &[u8], n: usize)
     ensures { out.new ≡ sets out.old 0 (routine_bytes g n body.now) }
 {
     let q = emit_head(out, Cursor { at: 0, counter: 0 }, g, n);
-    records::bytes::copy_bytes(out, q.at, body, body.len());
     let end = q.at + body.len();
+    out[q.at..end].copy_from_slice(body);
     emit_cleanup(
         out,
         Cursor {
@@ -151,42 +147,35 @@ fn assemble_checked(out: &mut [u8], g: Shape, body: &[u8], n: usize) -> Answer
     ensures { Assembles out.old out.new result (accepting g (length out.old) n body.now) (routine_bytes g n body.now) }
 {
     if 5 < n {
-        return Answer::Arguments;
+        return Err(Refusal::Arguments);
     }
     let size = 24 * (25 + n) + body.len();
-    let answer = emit::answer::grant(
+    let written = emit::answer::grant(
         0,
         out.len(),
         Cursor {
             at: size,
             counter: 0,
         },
-    );
-    if emit::answer::is_written(answer) {} else {
-        return answer;
-    }
+    )?;
     assemble(out, g, body, n);
-    answer
+    Ok(written)
 }
 
 fn routine_in(out: &mut [u8], g: Shape, body: &[u8], arguments: usize) -> Answer
     requires { Supported g }
     ensures { Assembles out.old out.new result (routine_answer g (length out.old) arguments body.now) (routine_bytes g arguments body.now) }
 {
-    match records::code::check_codes(body, MOST) {
-        Checked::Good(_) => assemble_checked(out, g, body, arguments),
-        Checked::Malformed(place) => Answer::Body(place),
-    }
+    records::code::check_codes(body, MOST)?;
+    assemble_checked(out, g, body, arguments)
 }
 
 // What a frame of another number of spills is answered.
 fn unframed(body: &[u8]) -> Answer
-    ensures { (result ≡ on_checked (checked_codes 65506 body.now) (λ k. Operand) Body) × (accepted result ≡ false) }
+    ensures { (result ≡ on_checked (checked_codes 65506 body.now) (λ k. Err Operand) (λ place. Err (Body place))) × (accepted result ≡ false) }
 {
-    match records::code::check_codes(body, MOST) {
-        Checked::Good(_) => Answer::Operand,
-        Checked::Malformed(place) => Answer::Body(place),
-    }
+    records::code::check_codes(body, MOST)?;
+    Err(Refusal::Operand)
 }
 
 // A whole routine around a body of at most 65,506 records, for 0 to 5 arguments.
@@ -200,8 +189,8 @@ pub fn into_x86_64_routine(
     ensures { Assembles out.old out.new result (routine_in edition frame (length out.old) arguments body.now) (routine_bytes_in edition frame arguments body.now) }
 {
     match layout::config::shape_of(edition, frame) {
-        Shaped::In(g) => routine_in(out, g, body, arguments),
-        Shaped::NoFrame => unframed(body),
-        Shaped::NoEdition => Answer::Edition,
+        Ok(g) => routine_in(out, g, body, arguments),
+        Err(Unshaped::NoFrame) => unframed(body),
+        Err(Unshaped::NoEdition) => Err(Refusal::Edition),
     }
 }

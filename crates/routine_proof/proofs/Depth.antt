@@ -1,27 +1,22 @@
 -- No instruction changes how deep the stack is, so that a body comes to the cleanup with the stack that it was entered with.
+use Rattle.std.specs.Prelude.{None, Some, Ok, Err, Option}
 use Prim.Native.Nat.{ℕ, zero, suc, ◌+◌, ◌%◌}
 use mathlib.Core.Path.{◌≡◌, refl, sym, ap, ◌∙◌}
 use mathlib.Core.Bool.{Bool, not, ◌&&◌}
 use mathlib.Core.List.{List}
-use mathlib.Core.Option.{Option, none, some}
+use mathlib.Core.Option.{Option as Element, none, some}
 use lib.Dec.{eqb}
 use lib.ListN.{get_elem?}
 use Rattle.records.specs.declared.code.Code.{Code}
 use Rattle.records.specs.declared.code.Code.TheVariants.{ADD, ADDRM, ADDMR, ADDI, ADDIM, SUB, SUBRM, SUBMR, SUBI, IMUL, IMULRM, IMULMR, IDIV, IDIVM, CQO, JMP, JMPL, JMPLN, LEAL, MOV, MOVS, MOVL, MOVI, MOVIM, CMP, CMPRM, CMPMR, CMPI, CMPIM, JEL, JNEL, JLL, JLEL, JGL, JGEL, PUSH, POP, CALL, RET, LAB, NOEXECSTACK, TEXT, GLOBAL, EXTERN}
 use Rattle.records.proofs.Conditions.{both_ways}
 use Rattle.word.specs.Words.{sum, difference, product, divides, less}
-use Rattle.machine_step.specs.declared.instruction.Compared.{Compared}
-use Rattle.machine_step.specs.declared.instruction.Compared.TheVariants.{Absent, Of}
-use Rattle.machine_step.specs.declared.memory.Fetched.{Fetched}
-use Rattle.machine_step.specs.declared.memory.Fetched.TheVariants.{Word, Nothing}
 use Rattle.machine_step.specs.declared.memory.Place.{Place}
 use Rattle.machine_step.specs.declared.memory.Place.TheVariants.{Stack, Heap, Nowhere}
 use Rattle.machine_step.specs.View.{View, put_reg}
 use Rattle.machine_step.specs.Memory.{Operand, register, memory, immediate, place_of, put_at, load, store, value_of, assigned}
 use Rattle.machine_step.specs.Step.{Config, Outcome, next, jump, end, fault, on_word, on_state, on_pair, is_print_name, calculate, move, compare, divide, branch, push, pop, call, return, step}
-use Rattle.machine.specs.declared.run.RunAnswer.TheVariants.{Ended, Limit}
-use Rattle.machine.specs.declared.run.Found.{Found}
-use Rattle.machine.specs.declared.run.Found.TheVariants as found
+use Rattle.machine.specs.declared.run.Stop.TheVariants.{Limit}
 use Rattle.machine.specs.Run.{Done, done, on_record, on_found, find, follow, runs}
 use Rattle.trees_proof.specs.Claims.{RunsTo}
 
@@ -32,20 +27,20 @@ Deep n (end d) = d.state.depth ≡ n
 Deep n (fault d) = d.state.depth ≡ n
 
 abbrev DeepView : ℕ → Option View → Type 0
-DeepView n (some s) = s.depth ≡ n
-DeepView n none = Unit {0}
+DeepView n (Some s) = s.depth ≡ n
+DeepView n None = Unit {0}
 
-on_word_lem : (c : Config) (l : Fetched) (k : ℕ → Outcome) → ((w : ℕ) → Deep c.state.depth (k w)) → Deep c.state.depth (on_word c l k)
-on_word_lem c (Word w) k h = h w
-on_word_lem c Nothing k h = refl
+on_word_lem : (c : Config) (l : Option ℕ) (k : ℕ → Outcome) → ((w : ℕ) → Deep c.state.depth (k w)) → Deep c.state.depth (on_word c l k)
+on_word_lem c (Some w) k h = h w
+on_word_lem c None k h = refl
 
 on_state_lem : (c : Config) (o : Option View) (k : View → Outcome) → DeepView c.state.depth o → ((s : View) → s.depth ≡ c.state.depth → Deep c.state.depth (k s)) → Deep c.state.depth (on_state c o k)
-on_state_lem c (some s) k e h = h s e
-on_state_lem c none k e h = refl
+on_state_lem c (Some s) k e h = h s e
+on_state_lem c None k e h = refl
 
-on_pair_lem : (c : Config) (q : Compared) (k : ℕ → ℕ → Outcome) → ((x y : ℕ) → Deep c.state.depth (k x y)) → Deep c.state.depth (on_pair c q k)
-on_pair_lem c (Of x y) k h = h x y
-on_pair_lem c Absent k h = refl
+on_pair_lem : (c : Config) (q : Option (ℕ × ℕ)) (k : ℕ → ℕ → Outcome) → ((x y : ℕ) → Deep c.state.depth (k x y)) → Deep c.state.depth (on_pair c q k)
+on_pair_lem c (Some (x, y)) k h = h x y
+on_pair_lem c None k h = refl
 
 put_deep : (s : View) (p : Place) (v : ℕ) → DeepView s.depth (put_at s p v)
 put_deep s (Stack i) v = refl
@@ -139,13 +134,13 @@ step_deep words (EXTERN label) c = refl
 abbrev DeepDone : ℕ → Done → Type 0
 DeepDone n d = d.last.state.depth ≡ n
 
-on_record_lem : (n : ℕ) (o : Option Code) (past : Done) (here : Code → Done) → DeepDone n past → ((x : Code) → DeepDone n (here x)) → DeepDone n (on_record o past here)
+on_record_lem : (n : ℕ) (o : Element Code) (past : Done) (here : Code → Done) → DeepDone n past → ((x : Code) → DeepDone n (here x)) → DeepDone n (on_record o past here)
 on_record_lem n none past here e h = e
 on_record_lem n (some x) past here e h = h x
 
-on_found_lem : (n : ℕ) (f : Found) (lost : Done) (at : ℕ → Done) → DeepDone n lost → ((j : ℕ) → DeepDone n (at j)) → DeepDone n (on_found f lost at)
-on_found_lem n found.Absent lost at e h = e
-on_found_lem n (found.At j) lost at e h = h j
+on_found_lem : (n : ℕ) (f : Option ℕ) (lost : Done) (at : ℕ → Done) → DeepDone n lost → ((j : ℕ) → DeepDone n (at j)) → DeepDone n (on_found f lost at)
+on_found_lem n None lost at e h = e
+on_found_lem n (Some j) lost at e h = h j
 
 follow_deep : (p : List Code) (made i : ℕ) (c : Config) (go : ℕ → Config → Done) (o : Outcome) → Deep c.state.depth o
     → ((j : ℕ) (d : Config) → DeepDone d.state.depth (go j d)) → DeepDone c.state.depth (follow p made i c go o)
@@ -166,7 +161,7 @@ module _ (words : ℕ → ℕ) (p : List Code) where
   unfolding runs
   last_here made i d = by (get_elem? p i)
     where
-      by : (o : Option Code) → (on_record o (done (Ended made) d) (λ x. done (Limit made) d)).last ≡ d
+      by : (o : Element Code) → (on_record o (done (Ok made) d) (λ x. done (Err (Limit made)) d)).last ≡ d
       by none = refl
       by (some x) = refl
 

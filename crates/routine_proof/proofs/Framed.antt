@@ -1,9 +1,9 @@
 -- A routine sets up and returns: the sixteen records and the moves of the arguments, and the cleanup, computed at the stack pointers that they start from.
+use Rattle.std.specs.Prelude.{None, Some, Ok, Err}
 use Prim.Native.Nat.{ℕ, zero, suc, ◌+◌, ◌*◌, ◌≤◌, ◌<◌}
 use mathlib.Core.Path.{◌≡◌, refl, sym, ap, subst, ◌∙◌, fun_ext}
 use mathlib.Core.Bool.{Bool, true, false, cond}
 use mathlib.Core.List.{List, [], ◌∷◌, ◌++◌}
-use mathlib.Core.Option.{some}
 use native.Mathlib.Omega.{arith}
 use native.Mathlib.Nat.{zero-add, add-zero}
 use lib.Dec.{eqb}
@@ -16,11 +16,10 @@ use Rattle.records.specs.Names.{CLEANUP}
 use Rattle.layout.specs.declared.config.Shape.{Shape}
 use Rattle.layout.specs.Config.{Supported, STACK, frame_pointer, block_words, block_bytes}
 use Rattle.word.specs.Words.{sum, difference}
-use Rattle.machine_step.specs.declared.instruction.Compared.TheVariants.{Absent}
 use Rattle.machine_step.specs.View.{View, upd, put_reg}
 use Rattle.machine_step.specs.Step.{Config, config, end, step}
 use Rattle.machine.proofs.Places.{place_1, place_2, place_3, place_4, place_5, place_6}
-use Rattle.machine.specs.declared.run.RunAnswer.TheVariants.{Ended, Limit}
+use Rattle.machine.specs.declared.run.Stop.TheVariants.{Limit}
 use Rattle.machine.specs.Run.{codes_of, runs, started, ran, starting}
 use Rattle.machine.specs.Run as machine
 use Rattle.trees_proof.specs.Evaluation.{done}
@@ -71,11 +70,11 @@ abbrev entering : View → View
 entering v = pointed v 1099511627768
 
 abbrev framed : View → (ℕ → ℕ) → Config
-framed v registers = config (record { reg = registers; stk = saves v; mem = v.mem; depth = v.depth; size = v.size }) Absent []
+framed v registers = config (record { reg = registers; stk = saves v; mem = v.mem; depth = v.depth; size = v.size }) None []
 
 record Entry (G : Shape) (words : ℕ → ℕ) (n : ℕ) (v : View) : Type 0 where
   to : Config
-  run : through words (head G n) (starting v) ≡ some to
+  run : through words (head G n) (starting v) ≡ Some to
   state : SetUp G n v to
 
 module _ (G : Shape) (v : View) where
@@ -134,12 +133,12 @@ front G = LAB CLEANUP ∷ ADDI 0 (8 * G.spills) ∷ popped
 
 -- after the second of them
 abbrev leaving : Config → ℕ → Config
-leaving b stack = config (pointed b.state stack) Absent b.calls
+leaving b stack = config (pointed b.state stack) None b.calls
 
 record Exit (G : Shape) (words registers : ℕ → ℕ) (b : Config) : Type 0 where
   to : Config
   last : Config
-  run : through words (front G) b ≡ some to
+  run : through words (front G) b ≡ Some to
   return : step words RET to ≡ end last
   state : Returned registers b last
 
@@ -148,14 +147,14 @@ popped_registers v =
     upd (upd (upd (upd (upd (upd (upd (upd (upd (upd (upd (upd (upd v.reg 0 1099511627720) 0 1099511627728) 15 (v.stk 6)) 0 1099511627736) 14 (v.stk 5)) 0 1099511627744) 13 (v.stk 4)) 0 1099511627752) 12 (v.stk 3)) 0 1099511627760) 3 (v.stk 2)) 0 1099511627768) 2 (v.stk 1)
 
 abbrev emptied : Config → Config
-emptied b = config (record { reg = popped_registers b.state; stk = b.state.stk; mem = b.state.mem; depth = b.state.depth; size = b.state.size }) Absent b.calls
+emptied b = config (record { reg = popped_registers b.state; stk = b.state.stk; mem = b.state.mem; depth = b.state.depth; size = b.state.size }) None b.calls
 
-pops_run : (words : ℕ → ℕ) (b : Config) → 7 ≤ b.state.depth → through words popped (leaving b 1099511627720) ≡ some (emptied b)
+pops_run : (words : ℕ → ℕ) (b : Config) → 7 ≤ b.state.depth → through words popped (leaving b 1099511627720) ≡ Some (emptied b)
 unfolding step sum
 pops_run words b deep = rw (place_6 b.state.depth b.state.size deep, place_5 b.state.depth b.state.size deep, place_4 b.state.depth b.state.size deep, place_3 b.state.depth b.state.size deep, place_2 b.state.depth b.state.size deep, place_1 b.state.depth b.state.size deep)
 
 exits : (words registers : ℕ → ℕ) (b : Config) → 7 ≤ b.state.depth → SavedIn b.state.stk registers
-    → (to : Config) × (last : Config) × (through words popped (leaving b 1099511627720) ≡ some to) × (step words RET to ≡ end last) × Returned registers b last
+    → (to : Config) × (last : Config) × (through words popped (leaving b 1099511627720) ≡ Some to) × (step words RET to ≡ end last) × Returned registers b last
 unfolding step sum
 exits words registers b deep s = (
   emptied b,
@@ -212,11 +211,11 @@ module _ (G : Shape) (words : ℕ → ℕ) (n : ℕ) (body : List Code) (v : Vie
     to_body left made = rw (head_length G n, zero-add) at (passes words p (head G n) 0 (body ++ cleanup G) (starting v) x.to refl x.run left made)
 
     -- a record stands there, the body's first or the cleanup's
-    stopped : started words p (16 + n) v ≡ machine.done (Limit (16 + n)) x.to
+    stopped : started words p (16 + n) v ≡ machine.done (Err (Limit (16 + n))) x.to
     unfolding runs
     stopped = rw (add-zero, zero-add) at (to_body 0 0) ∙ by body body_place
       where
-        by : (b : List Code) → drop (16 + n) p ≡ b ++ cleanup G → runs words p 0 (16 + n) (16 + n) x.to ≡ machine.done (Limit (16 + n)) x.to
+        by : (b : List Code) → drop (16 + n) p ≡ b ++ cleanup G → runs words p 0 (16 + n) (16 + n) x.to ≡ machine.done (Err (Limit (16 + n))) x.to
         by [] e = rw (at_drop p (16 + n) e)
         by (c ∷ cs) e = rw (at_drop p (16 + n) e)
 
@@ -227,12 +226,12 @@ module _ (G : Shape) (words : ℕ → ℕ) (n : ℕ) (body : List Code) (v : Vie
       to_cleanup : RunsTo words p (16 + n + most) 0 (16 + n + length body) (starting v) b
       to_cleanup = after words p (16 + n) most 0 (16 + n) (16 + n + length body) (done b) enters g (omega arith) (16 + n + most) (omega arith)
 
-      to_return : (e : Config) → through words (front G) b ≡ some e → RunsTo words p (16 + n + most + 8) 0 (16 + n + length body + 8) (starting v) e
+      to_return : (e : Config) → through words (front G) b ≡ Some e → RunsTo words p (16 + n + most + 8) 0 (16 + n + length body + 8) (starting v) e
       to_return e h =
           after words p (16 + n + most) 8 0 (16 + n + length body) (16 + n + length body + 8) (done e) to_cleanup
           (reached words p (front G) (16 + n + length body) (RET ∷ []) b e cleanup_place h) (omega arith) (16 + n + most + 8) (omega arith)
 
-      returned : (y : Exit G words v.reg b) (limit : ℕ) → 16 + n + most + 9 ≤ limit → (k : ℕ) × (k ≤ limit) × (started words p limit v ≡ machine.done (Ended k) y.last)
+      returned : (y : Exit G words v.reg b) (limit : ℕ) → 16 + n + most + 9 ≤ limit → (k : ℕ) × (k ≤ limit) × (started words p limit v ≡ machine.done (Ok k) y.last)
       returned y limit h =
           let z : drop (16 + n + length body + 8) p ≡ RET ∷ [] = drop_part p (16 + n + length body) 8 (front G) (RET ∷ []) cleanup_place refl in
           ended words p (16 + n + length body + 8) (starting v) y.to y.last z y.return (16 + n + most + 8) limit (to_return y.to y.run) (omega arith)

@@ -1,8 +1,7 @@
 -- What the crate promises of the bytes of an accepted routine: entered with STACK at 2^40 − 8 they set up the frame, the free lists and the arguments for the body; and
 -- where the body comes to the cleanup with STACK and the six saved words as they were, they return to the caller with its registers and what the body left in the others.
 -- From into_routine.rs, the scope, 'Machine', and the System V AMD64 ABI: rbx, rbp and r12..r15 are registers 2, 3 and 12..15.
-use Rattle.std.specs.Prelude.{ℕ, suc, ◌+◌, ◌*◌, ◌≤◌, ◌<◌, ◌≡◌, ◌≢◌, true, List, [], ◌++◌}
-use Rattle.records.specs.declared.check.Checked.TheVariants.{Good}
+use Rattle.std.specs.Prelude.{ℕ, suc, ◌+◌, ◌*◌, ◌≤◌, ◌<◌, ◌≡◌, ◌≢◌, true, List, [], ◌++◌, Ok, Err}
 use Rattle.records.specs.declared.code.Code.{Code}
 use Rattle.records.specs.Instructions.{checked_codes}
 use Rattle.records.specs.ReadBack.{Bytes}
@@ -13,7 +12,7 @@ use Rattle.word.specs.Words.{sum}
 use Rattle.machine_step.specs.View.{View}
 use Rattle.machine_step.specs.Memory.{stack_end, stack_entry, heap_ok}
 use Rattle.machine_step.specs.Step.{Config}
-use Rattle.machine.specs.declared.run.RunAnswer.TheVariants.{Ended, Limit}
+use Rattle.machine.specs.declared.run.Stop.TheVariants.{Limit}
 use Rattle.machine.specs.Run.{done, codes_of, ran, starting}
 use Rattle.trees_proof.specs.Claims.{RunsTo}
 use Rattle.routine.specs.Routine.{argument, head, cleanup, routine_bytes, routine_answer}
@@ -72,7 +71,7 @@ pub record Returns (G : Shape) (words : ℕ → ℕ) (bytes : List ℕ) (limit :
   pub steps : ℕ
   pub within : steps ≤ limit
   pub last : Config
-  pub run : ran (block_words G) words bytes limit v ≡ done (Ended steps) last
+  pub run : ran (block_words G) words bytes limit v ≡ done (Ok steps) last
   pub state : Returned v.reg b last
 
 -- such a routine, entered in the state v
@@ -80,7 +79,7 @@ pub record Frames (G : Shape) (words : ℕ → ℕ) (n k : ℕ) (body : List ℕ
   -- the configuration that the body starts from, at place 16 + n: a run of the routine's bytes comes to it in 16 + n steps
   pub entered : Config
   pub enters : RunsTo words (routine G n k body) (16 + n) 0 (16 + n) (starting v) entered
-  pub starts : ran (block_words G) words (routine_bytes G n body) (16 + n) v ≡ done (Limit (16 + n)) entered
+  pub starts : ran (block_words G) words (routine_bytes G n body) (16 + n) v ≡ done (Err (Limit (16 + n))) entered
   pub state : SetUp G n v entered
   -- if the body comes to the cleanup's place, by its end or by a jump, with STACK and the saved words as they were
   pub returns : (most : ℕ) (b : Config) → RunsTo words (routine G n k body) most (16 + n) (16 + n + k) entered b
@@ -91,4 +90,4 @@ pub record Frames (G : Shape) (words : ℕ → ℕ) (n k : ℕ) (body : List ℕ
 unfoldable pub RoutineReturns : Type 0
 RoutineReturns =
     (G : Shape) → Supported G → (words : ℕ → ℕ) (room n k : ℕ) (body : List ℕ) (v : View) → Bytes body → accepted (routine_answer G room n body) ≡ true
-    → checked_codes 65506 body ≡ Good k → v.reg STACK ≡ stack_entry → v.depth ≡ stack_depth G → heap_ok (block_words G) v.size ≡ true → Frames G words n k body v
+    → checked_codes 65506 body ≡ Ok k → v.reg STACK ≡ stack_entry → v.depth ≡ stack_depth G → heap_ok (block_words G) v.size ≡ true → Frames G words n k body v

@@ -1,4 +1,5 @@
 -- So many puts, and a store of all that they made, in any shape: the claim holds of them, and the store is accepted.
+use Rattle.std.specs.Prelude.{Err, Ok}
 use Prim.Native.Nat.{ℕ, zero, suc, ◌+◌, ◌*◌, ◌-◌, ◌≤◌, ◌<◌}
 use mathlib.Core.Bool.{Bool, true, false, cond}
 use mathlib.Core.List.{List, [], ◌∷◌}
@@ -7,7 +8,6 @@ use native.Mathlib.Omega.{arith}
 use lib.Dec.{eqb}
 use lib.ListN.{length, length-append}
 use borrow.Author.Tests.{ne_eqb, le-ltb, le-leb, lt-leb}
-use Rattle.records.specs.declared.context.ContextRead.TheVariants.{Good}
 use Rattle.records.specs.declared.binding.Kind.TheVariants.{Ext}
 use Rattle.records.specs.declared.order.Order.{Order}
 use Rattle.records.specs.declared.order.Order.TheVariants.{Put, Store}
@@ -23,7 +23,7 @@ use Rattle.heap.specs.Values.{integer, Values, nil, cons, count_of, appended}
 use Rattle.memory.specs.Objects.{snd, ext_in, object_sizes}
 use Rattle.memory.proofs.Sizes.{object_records, immediate_size, store_object_records}
 use Rattle.order_context_proof.proofs.Bindings.{good_none, good_length}
-use Rattle.order_spec.specs.declared.answer.OrderAnswer.TheVariants.{Position}
+use Rattle.order_spec.specs.declared.answer.OrderRefusal.TheVariants.{Position}
 use Rattle.order_spec.specs.Answered.{Asked, order_is, order_accepted, order_answer_cause, order_granted, decided, answer_to}
 use Rattle.order_spec.specs.Plain.{plainly}
 use Rattle.order_spec.specs.Writes.{made, tree_of, context_after, present, kinds_ok, asked}
@@ -51,7 +51,7 @@ unfolding binding_bytes le
 made_long k = refl
 
 -- the put on a context of k variables
-module _ (g : Shape) (sup : Supported g) (context : List ℕ) (k : ℕ) (good : checked_context context ≡ Good k) where
+module _ (g : Shape) (sup : Supported g) (context : List ℕ) (k : ℕ) (good : checked_context context ≡ Ok k) where
   put_read : answer_to g context put_seven.asked ≡ decided g context k put_seven.asked
   unfolding put_seven order_bytes le number order_in order_of order_readers order_ok order_operands_ok used_by_order order_starts
   put_read = all_passed g context put_seven.asked good good_none refl refl refl
@@ -70,7 +70,7 @@ module _ (g : Shape) (sup : Supported g) (context : List ℕ) (k : ℕ) (good : 
   unfolding put_seven order_bytes le number order_in order_of order_readers present kinds_ok asked
   put_refused h = ap order_answer_cause (put_read ∙ refusing)
     where
-      refusing : decided g context k put_seven.asked ≡ Position
+      refusing : decided g context k put_seven.asked ≡ Err Position
       refusing = rw (lt-leb (2 * k + 2) (positions g) h)
 
 -- puts alone acquire nothing and owe nothing, so that the claim holds of them
@@ -97,8 +97,8 @@ module _ (g : Shape) (sup : Supported g) (blocks : ℕ) (two : 2 ≤ blocks) (mo
   put_on n true vs e f = ap (λ (ws : Values). appended ws (cons (integer 7) nil)) f ∙ one_more n
   put_on n false vs e f = never e
 
-  good_after : (n : ℕ) → values g blocks (puts n) ≡ sevens n → checked_context (reached g blocks (puts n)).context ≡ Good n
-  good_after n e = (after_puts n).sound.places ∙ ap (λ (vs : Values). Good (count_of vs)) e ∙ ap Good (count_sevens n)
+  good_after : (n : ℕ) → values g blocks (puts n) ≡ sevens n → checked_context (reached g blocks (puts n)).context ≡ Ok n
+  good_after n e = (after_puts n).sound.places ∙ ap (λ (vs : Values). Ok (count_of vs)) e ∙ ap Ok (count_sevens n)
 
   pub held : (n : ℕ) → n ≤ most_variables g → values g blocks (puts n) ≡ sevens n
   unfolding puts put_seven order_bytes le number order_in order_of order_readers
@@ -136,7 +136,7 @@ module _ (g : Shape) (sup : Supported g) {n tag : ℕ} (it : Item) (w : Stores n
   unfolding context_after binding_bytes le
   after_small context = let z : n - n ≡ 0 = omega arith in rw z (omega arith)
 
-  store_judged : (context : List ℕ) → checked_context context ≡ Good n → answer_to g context it.asked ≡ order_granted it.asked (tree_of g context n [] (Store n tag)) (context_after context n [] (Store n tag))
+  store_judged : (context : List ℕ) → checked_context context ≡ Ok n → answer_to g context it.asked ≡ order_granted it.asked (tree_of g context n [] (Store n tag)) (context_after context n [] (Store n tag))
   unfolding present kinds_ok asked
   store_judged context good =
       let q : Asked = it.asked in
@@ -145,7 +145,7 @@ module _ (g : Shape) (sup : Supported g) {n tag : ℕ} (it : Item) (w : Stores n
       (rw (w.is_order, ne_eqb n 0 (λ z. absurd (omega arith))) (le-leb (2 * n) (positions g) (omega arith)))
       ∙ rw (w.is_order, w.alone)
 
-  store_accepted : (context : List ℕ) → checked_context context ≡ Good n → order_accepted (answer_to g context it.asked) ≡ true
+  store_accepted : (context : List ℕ) → checked_context context ≡ Ok n → order_accepted (answer_to g context it.asked) ≡ true
   store_accepted context good =
       let s = store_small g sup context n n tag in
       let k = after_small context in

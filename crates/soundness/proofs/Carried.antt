@@ -1,4 +1,5 @@
 -- What the induction over a list of items carries, and how an order that changes something carries it on.
+use Rattle.std.specs.Prelude.{Ok}
 use mathlib.Core.Bool.{true}
 use mathlib.Core.List.{List, ◌∷◌}
 use mathlib.Core.Logic.{◌≢◌}
@@ -6,7 +7,6 @@ use mathlib.Core.Path.{◌≡◌, refl, sym, ◌∙◌, ap, subst}
 use Prim.Native.Nat.{ℕ, suc, ◌+◌, ◌-◌, ◌*◌, ◌≤◌, ◌<◌}
 use native.Mathlib.Omega.{arith}
 use lib.ListN.{length}
-use Rattle.records.specs.declared.context.ContextRead.TheVariants.{Good}
 use Rattle.records.specs.declared.order.Order.{Order}
 use Rattle.records.specs.declared.order.Order.TheVariants.{Put, Compute, Copy, Drop, Store, Load, Print}
 use Rattle.records.specs.Contexts.{checked_context, ext_at, bindings_in}
@@ -76,13 +76,13 @@ legal bindings (Load n) vs e w = object_is bindings n (value_at (count_of vs - 1
 legal bindings (Print newline a) vs e w = never e
 
 -- how many variables a context has
-pub places_are : (context : List ℕ) (k : ℕ) → checked_context context ≡ Good k → places_in context ≡ k
+pub places_are : (context : List ℕ) (k : ℕ) → checked_context context ≡ Ok k → places_in context ≡ k
 places_are context k e = ap bindings_in e
 
 module _ (G : Shape) where
   -- for a channel beside the plain machine's values, with the frontier below a bound, and the states before
   pub record Carried (blocks bound : ℕ) (past : List HeapState) (ch : Channel) (vs : Values) : Type 0 where
-    pub places : checked_context ch.context ≡ Good (count_of vs)
+    pub places : checked_context ch.context ≡ Ok (count_of vs)
     pub kinds : KindsFrom (ext_at ch.context) 0 vs
     pub few : 2 * count_of vs < positions G
     pub placed : Placed G blocks (starting ch.view)
@@ -143,14 +143,14 @@ module _ (G : Shape) where
     bounded_by_run le d p free = represents_within G le p.performs (legal bindings o vs changing owed.0) f.represents free
 
     -- a store leaves the variables with the blocks that they led to before it and those it acquires
-    pub reaches_on : checked_context context ≡ Good (count_of (plainly o vs)) → (d : Config) → Did d → acquires G o ≢ 0
+    pub reaches_on : checked_context context ≡ Ok (count_of (plainly o vs)) → (d : Config) → Did d → acquires G o ≢ 0
         → (n m : ℕ) → Reaches n (state_of G ch vs) → Reaches m (state_of G (record { context = context; view = d.state }) (plainly o vs)) → m ≡ n + acquires G o
     reaches_on good d p some n m a b =
         let before : ReachableCount (heap_of G (starting ch.view)).fields (pointers (variables (ext_at ch.context) (starting ch.view) 0 (count_of vs))) n = rw (places_are ch.context (count_of vs) f.places) at a in
         let after : ReachableCount (heap_of G d).fields (pointers (variables (ext_at context) d 0 (count_of (plainly o vs)))) m = rw (places_are context (count_of (plainly o vs)) good) at b in
         omega (arith, store_reaches p.performs (λ e. some (sym (stored_blocks o vs) ∙ ap (λ (k : ℕ). length (object_sizes G k)) e)) f.represents before after, stored_blocks o vs)
 
-    pub carried_on : (bound' : ℕ) → checked_context context ≡ Good (count_of (plainly o vs)) → KindsFrom (ext_at context) 0 (plainly o vs) → 2 * count_of (plainly o vs) < positions G
+    pub carried_on : (bound' : ℕ) → checked_context context ≡ Ok (count_of (plainly o vs)) → KindsFrom (ext_at context) 0 (plainly o vs) → 2 * count_of (plainly o vs) < positions G
         → (d : Config) → Did d → BoundedAfter vs o context bound' d → Carried blocks bound' (state_of G ch vs ∷ past) (record { context = context; view = d.state }) (plainly o vs)
     carried_on bound' good same-kinds few d p b =
         let next : Channel = record { context = context; view = d.state } in

@@ -1,4 +1,5 @@
 -- A tree that does something ends as a run of its records' bytes, with their number as the step limit.
+use Rattle.std.specs.Prelude.{Ok}
 use mathlib.Core.Bool.{true}
 use mathlib.Core.Path.{◌≡◌, sym, ◌∙◌, ap}
 use Prim.Native.Nat.{ℕ, ◌+◌, ◌*◌, ◌/◌, ◌%◌, ◌≤◌}
@@ -13,7 +14,6 @@ use Rattle.trees.specs.Tree.{Tree, labels, size, flat}
 use Rattle.machine_step.specs.Memory.{heap_ok}
 use Rattle.machine_step.specs.Step.{Config}
 use Rattle.machine_step.specs.View.{View}
-use Rattle.machine.specs.declared.run.RunAnswer.TheVariants.{Ended}
 use Rattle.machine.specs.Run.{done, ran, started, starting}
 use Rattle.trees_proof.specs.Evaluation.{evaluate}
 use Rattle.trees_proof.specs.Evaluation as evaluation
@@ -37,7 +37,7 @@ module _ (G : Shape) where
     pub within : steps ≤ size t
     pub last : Config
     pub tree : evaluate words t (starting v) ≡ evaluation.done last
-    pub run : ran (block_words G) words (joined code_bytes (flat t counter)) (size t) v ≡ done (Ended steps) last
+    pub run : ran (block_words G) words (joined code_bytes (flat t counter)) (size t) v ≡ done (Ok steps) last
     pub post : Q last
 
   pub ends : {words : ℕ → ℕ} {t : Tree} {v : View} {Q : Config → Type 0} (counter : ℕ) → Formed t → counter + labels t ≤ last_label → size t ≤ 65536 → heap_ok (block_words G) v.size ≡ true

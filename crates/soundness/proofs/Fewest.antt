@@ -1,4 +1,5 @@
 -- The season's list on three blocks; and put 7 and store 1 on two blocks: one is reachable, so that the frontier would be past the heap.
+use Rattle.std.specs.Prelude.{Err}
 use mathlib.Core.List.{List, [], ◌∷◌}
 use mathlib.Core.Logic.{◌≢◌}
 use mathlib.Core.Path.{◌≡◌, refl, ◌∙◌, ap}
@@ -10,7 +11,7 @@ use Rattle.records.specs.Orders.{order_bytes, order_in, order_of, order_readers,
 use Rattle.layout.specs.Config.{base, stack_offset}
 use Rattle.layout.proofs.Placing.{base_supported}
 use Rattle.layout.specs.Positions.{location}
-use Rattle.machine.specs.declared.run.RunAnswer.TheVariants.{Fault}
+use Rattle.machine.specs.declared.run.Stop.TheVariants.{Fault}
 use Rattle.heap.specs.Blocks.{Cell, pointers}
 use Rattle.heap.proofs.CountingLemmas.{same_self, same_other, occ_length}
 use Rattle.heap.proofs.GrowthLemmas.{nothing_led}
@@ -75,7 +76,7 @@ no_fault : (blocks : ℕ) (its : List Item) → AllRan base blocks its → NoFau
 no_fault blocks [] r = tt
 no_fault blocks (it ∷ its) r = ((λ e. ended (r.0 e)), no_fault blocks its r.1)
   where
-    ended : Ran base (reached base blocks its) (values base blocks its) it → (steps place : ℕ) → (run_of base (reached base blocks its) it.asked it.words).answer ≢ Fault steps place
+    ended : Ran base (reached base blocks its) (values base blocks its) it → (steps place : ℕ) → (run_of base (reached base blocks its) it.asked it.words).answer ≢ Err (Fault steps place)
     ended s steps place f = let z : ◌≡◌ {A = ℕ} 0 1 = cc s.ended in omega arith
 
 -- an object of one has a block

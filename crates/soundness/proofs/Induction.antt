@@ -1,4 +1,5 @@
 -- The claims, by one induction over the list of items: what is granted of a list, and how that makes each accepted order do what it names, are its parameters.
+use Rattle.std.specs.Prelude.{Err, Ok}
 use mathlib.Core.Bool.{Bool, true, false, ◌&&◌}
 use mathlib.Core.Logic.{◌≢◌}
 use mathlib.Core.List.{List, [], ◌∷◌}
@@ -27,7 +28,7 @@ use Rattle.heap.specs.Words.{by_address, word_at, headers, address_of, block_num
 use Rattle.layout.specs.declared.config.Shape.{Shape}
 use Rattle.layout.specs.Config.{Supported, frame_of, edition_of, shape_of, stack_depth, block_words}
 use Rattle.layout.proofs.Placing.{no_frame, no_edition, shaped_supported}
-use Rattle.machine.specs.declared.run.RunAnswer.TheVariants.{Fault}
+use Rattle.machine.specs.declared.run.Stop.TheVariants.{Fault}
 use Rattle.machine.specs.Run.{starting}
 use Rattle.trees_proof.specs.Evaluation.{done, evaluate}
 use Rattle.layout_proof.proofs.Runs.{so}
@@ -35,9 +36,7 @@ use Rattle.memory_proof.proofs.Attempting.{surely, unless_faulted}
 use Rattle.memory_proof.proofs.Shown.{L, heap_of}
 use Rattle.memory_proof.proofs.Variables.{variables}
 use Rattle.order_spec.specs.Writes.{tree_of, context_after}
-use Rattle.order_spec.specs.declared.answer.OrderAnswer.{OrderAnswer}
-use Rattle.order_spec.specs.declared.answer.OrderAnswer.TheVariants as answers
-use Rattle.order_spec.specs.Answered.{order_accepted, order_is, places_in, answer_to, order_counter_after}
+use Rattle.order_spec.specs.Answered.{order_accepted, order_is, places_in, answer_to, order_counter_after, OrderAnswer}
 use Rattle.order_spec.specs.Plain.{OwedKinds}
 use Rattle.order_spec.proofs.Accepting.{Taken, taken}
 use Rattle.memory.specs.Objects.{object_sizes}
@@ -66,17 +65,8 @@ module _ (G : Shape) (sup : Supported G) where
   refused ch it e = record { channel_kept = rw e; records_kept = λ o. rw e; context_kept = λ o. rw e; counter_kept = by (answer_to G ch.context it.asked) e }
     where
       by : (r : OrderAnswer) → order_accepted r ≡ false → order_counter_after it.asked.counter r ≡ it.asked.counter
-      by (answers.Accepted records after bindings) e = never (sym e)
-      by (answers.Context flaw) e = refl
-      by (answers.Malformed place) e = refl
-      by answers.Frame e = refl
-      by answers.Missing e = refl
-      by answers.Kind e = refl
-      by answers.Count e = refl
-      by answers.Position e = refl
-      by answers.Labels e = refl
-      by (answers.Room bytes) e = refl
-      by answers.Edition e = refl
+      by (Ok a) e = never (sym e)
+      by (Err refusal) e = refl
 
   all_refused : (blocks : ℕ) (its : List Item) → AllRefused G blocks its
   all_refused blocks [] = tt
@@ -215,14 +205,14 @@ module _ (G : Shape) (sup : Supported G) where
     }
 
     -- by runs that meet no fault
-    tree_done : (it : Item) (its : List Item) → 2 ≤ blocks → ((steps place : ℕ) → (run_of G (reached G blocks its) it.asked it.words).answer ≢ Fault steps place) → TakenAt it its → (f : CarriedAt (suc blocks) its)
+    tree_done : (it : Item) (its : List Item) → 2 ≤ blocks → ((steps place : ℕ) → (run_of G (reached G blocks its) it.asked it.words).answer ≢ Err (Fault steps place)) → TakenAt it its → (f : CarriedAt (suc blocks) its)
         → (d : Config) × (evaluate it.words (tree_of G (reached G blocks its).context (count_of (values G blocks its)) it.asked.bindings (order_is it.asked)) (starting (reached G blocks its).view) ≡ done d)
     tree_done it its two n t f =
         not_faulted G blocks (suc blocks) (suc blocks) (states_before G blocks its) (reached G blocks its) (values G blocks its) it f t two
-        (subst (λ (k : ℕ). (steps place : ℕ) → (run_at G blocks (suc blocks) (suc blocks) (states_before G blocks its) (reached G blocks its) (values G blocks its) it k).answer ≢ Fault steps place)
+        (subst (λ (k : ℕ). (steps place : ℕ) → (run_at G blocks (suc blocks) (suc blocks) (states_before G blocks its) (reached G blocks its) (values G blocks its) it k).answer ≢ Err (Fault steps place))
         (places_are (reached G blocks its).context (count_of (values G blocks its)) f.places) n)
 
-    owed_by_run : (it : Item) (its : List Item) → 2 ≤ blocks → ((steps place : ℕ) → (run_of G (reached G blocks its) it.asked it.words).answer ≢ Fault steps place) → OwedKinds it.asked.bindings (order_is it.asked) (values G blocks its)
+    owed_by_run : (it : Item) (its : List Item) → 2 ≤ blocks → ((steps place : ℕ) → (run_of G (reached G blocks its) it.asked it.words).answer ≢ Err (Fault steps place)) → OwedKinds it.asked.bindings (order_is it.asked) (values G blocks its)
         → TakenAt it its → CarriedAt (suc blocks) its → OwedAt it its
     owed_by_run it its two n kinds t f =
         let d = tree_done it its two n t f in

@@ -1,4 +1,5 @@
 -- Store, load, share_block_n and erase_block on a channel that carries what the induction carries, by the runs of their bytes.
+use Rattle.std.specs.Prelude.{Ok}
 use mathlib.Core.Bool.{Bool, true, false, cond}
 use mathlib.Core.List.{List, [], ◌∷◌, ◌++◌}
 use mathlib.Core.Logic.{◌≢◌}
@@ -12,7 +13,6 @@ use lib.Seq.{length-take-le}
 use borrow.Author.Tests.{ltb-true, lt-ltb, le-leb, ne_eqb}
 use Rattle.records.specs.declared.binding.Kind.TheVariants.{Linked}
 use Rattle.records.specs.declared.order.Order.TheVariants.{Store, Load}
-use Rattle.records.specs.declared.context.ContextRead.TheVariants.{Good}
 use Rattle.records.specs.Contexts.{checked_context, ext_at}
 use Rattle.records.specs.Names.{last_label}
 use Rattle.trees.specs.Tree.{Tree, labels, size}
@@ -284,7 +284,7 @@ module _ (G : Shape) (sup : Supported G) where
         by : ltb (2 * (v + suc n) - 1) (positions G) ≡ true → 2 * (v + suc n) ≤ positions G
         by q = omega (arith, ltb-true (2 * (v + suc n) - 1) (positions G) q)
 
-    module _ (bindings : List ℕ) (good : checked_context bindings ≡ Good (places_in bindings)) (fitting : load_fits G (K - 1) (places_in bindings) ≡ true)
+    module _ (bindings : List ℕ) (good : checked_context bindings ≡ Ok (places_in bindings)) (fitting : load_fits G (K - 1) (places_in bindings) ≡ true)
         (owed : AsStored bindings (places_in bindings) (value_at (K - 1) vs)) where
       abbrev N : ℕ
       N = places_in bindings
@@ -331,7 +331,7 @@ module _ (G : Shape) (sup : Supported G) where
         let front = good_take ch.context (K - 1) f.places (omega arith) in
         let g = load_granted G counter room bindings (take (8 * (K - 1)) ch.context) (K - 1) front e in
         let n : places_in bindings ≡ g.0 = places_are bindings g.0 g.1 in
-        let good : checked_context bindings ≡ Good (places_in bindings) = g.1 ∙ ap Good (sym n) in
+        let good : checked_context bindings ≡ Ok (places_in bindings) = g.1 ∙ ap Ok (sym n) in
         let fitting : load_fits G (K - 1) (places_in bindings) ≡ true = ap (load_fits G (K - 1)) n ∙ g.2 in
         let labelled : counter + labels (load_object G (ext_in bindings (K - 1)) (K - 1) (places_in bindings)) ≤ last_label
         = subst (λ (m : ℕ). counter + labels (load_object G (ext_in bindings (K - 1)) (K - 1) m) ≤ last_label) (sym n) g.3 in

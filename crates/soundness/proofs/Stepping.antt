@@ -1,4 +1,5 @@
 -- One accepted order, on from a channel: its run ends within its records, and what the induction carries is carried on.
+use Rattle.std.specs.Prelude.{Ok, Err}
 use mathlib.Core.Bool.{Bool, true, false, cond}
 use mathlib.Core.List.{List, [], ◌∷◌, ◌++◌}
 use mathlib.Core.Logic.{◌≢◌}
@@ -19,7 +20,7 @@ use Rattle.layout.specs.Config.{positions, most_variables, block_words}
 use Rattle.layout.specs.Positions.{location}
 use Rattle.print_i64.specs.Print.{print_name}
 use Rattle.machine_step.specs.Step.{Config}
-use Rattle.machine.specs.declared.run.RunAnswer.TheVariants.{Ended, Fault}
+use Rattle.machine.specs.declared.run.Stop.TheVariants.{Fault}
 use Rattle.machine.specs.Run.{Done, ran, started, starting}
 use Rattle.trees_proof.specs.Evaluation.{Evaluated, done, faulted, evaluate}
 use Rattle.trees_proof.specs.Claims.{RunAnswers, TreeRunsWhole}
@@ -78,7 +79,7 @@ module _ (G : Shape) where
     pub record SteppedAt (k : ℕ) : Type 0 where
       pub steps : ℕ
       pub within : steps ≤ size (tree_at k)
-      pub ended : (run_at k).answer ≡ Ended steps
+      pub ended : (run_at k).answer ≡ Ok steps
       pub calls : (run_at k).last.calls ≡ calls_of O vs
       pub carried : Carried G blocks bound' (past_of O (state_of G ch vs) past) (left_by k (run_at k).last) (plainly O vs)
       -- what the tree has done is what the run has left
@@ -98,7 +99,7 @@ module _ (G : Shape) where
 
     module _ (f : Carried G blocks bound past ch vs) (w : Taken G ch.context it.asked (count_of vs)) (two : 2 ≤ blocks) where
       -- the tree does not fault, where its records' run does not
-      pub not_faulted : ((steps place : ℕ) → (run_at (count_of vs)).answer ≢ Fault steps place) → (d : Config) × (evaluate it.words (tree_at (count_of vs)) (starting ch.view) ≡ done d)
+      pub not_faulted : ((steps place : ℕ) → (run_at (count_of vs)).answer ≢ Err (Fault steps place)) → (d : Config) × (evaluate it.words (tree_at (count_of vs)) (starting ch.view) ≡ done d)
       unfolding TreeRunsWhole
       not_faulted n = by (evaluate it.words (tree_at (count_of vs)) (starting ch.view)) (tree_runs_whole it.words (tree_at (count_of vs)) it.asked.counter 0 ch.view)
         where

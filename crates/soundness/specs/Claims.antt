@@ -1,8 +1,7 @@
 -- Demand 3: the heap stays sound for every list of orders, in every supported shape of blocks and frame. One claim on the whole list; this file and the definitions it cites are all that it says.
 -- `fresh` and what an item does to a channel are what the contracts of `channel_step::channel` cite.
 -- From the scope, 'Order record', 'Plain machine of demand 3' and 'Blocks and objects'.
-use Rattle.std.specs.Prelude.{ℕ, ◌+◌, ◌*◌, ◌≤◌, ◌<◌, ◌≡◌, ◌≢◌, Bool, true, false, ◌&&◌, cond, List, [], ◌∷◌, length}
-use Rattle.records.specs.declared.context.ContextRead.TheVariants.{Good}
+use Rattle.std.specs.Prelude.{ℕ, ◌+◌, ◌*◌, ◌≤◌, ◌<◌, ◌≡◌, ◌≢◌, Bool, true, false, ◌&&◌, cond, List, [], ◌∷◌, length, Ok}
 use Rattle.records.specs.declared.order.Order.{Order}
 use Rattle.records.specs.declared.order.Order.TheVariants.{Put, Compute, Copy, Drop, Store, Load, Print}
 use Rattle.records.specs.Contexts.{checked_context, ext_at}
@@ -12,7 +11,6 @@ use Rattle.layout.specs.Config.{Supported, stack_depth, block_words, STACK, HEAP
 use Rattle.layout.specs.Frame.{variables_in}
 use Rattle.print_i64.specs.Print.{print_name}
 use Rattle.machine_step.specs.Step.{Call}
-use Rattle.machine.specs.declared.run.RunAnswer.TheVariants.{Ended}
 use Rattle.heap.specs.Values.{Values, nil, count_of, value_at, KindsFrom}
 use Rattle.heap.specs.Words.{memory_of, layout}
 use Rattle.heap.specs.Orders.{HeapState}
@@ -68,7 +66,7 @@ module _ (g : Shape) where
   pub record Ran (ch : Channel) (vs : Values) (it : Item) : Type 0 where
     pub steps : ℕ
     pub within : steps ≤ record_count g ch it.asked
-    pub ended : (run_of g ch it.asked it.words).answer ≡ Ended steps
+    pub ended : (run_of g ch it.asked it.words).answer ≡ Ok steps
     pub calls : (run_of g ch it.asked it.words).last.calls ≡ calls_of (order_is it.asked) vs
 
   -- the heap that a channel's words show, HEAP and FREE, and its variables as pairs of words, beside values
@@ -83,7 +81,7 @@ module _ (g : Shape) where
   -- what holds of a channel beside the plain machine's values, on a heap of so many blocks, with the states before
   pub record SoundAt (blocks : ℕ) (past : List HeapState) (ch : Channel) (vs : Values) : Type 0 where
     -- the context has the values' kinds, in sequence
-    pub places : checked_context ch.context ≡ Good (count_of vs)
+    pub places : checked_context ch.context ≡ Ok (count_of vs)
     pub kinds : KindsFrom (ext_at ch.context) 0 vs
     -- every variable holds its value; each block below the frontier is in exactly one of linear list, lazy list and held; held is what pointers reach;
     -- a held block's count is its pointers less one; the frontier ends FREE's chain and is the first block never held or on HEAP's list

@@ -11,7 +11,7 @@ use Rattle.records.specs.ReadBack.{Bytes}
 use Rattle.heap.specs.Values.{integer, object, Values, nil, cons}
 use Rattle.heap.specs.Blocks.{Cell, cell}
 use Rattle.order_spec.specs.Answered.{Asked}
-use Rattle.order_spec.specs.Writes.{made, asked}
+use Rattle.order_spec.specs.Writes.{made}
 use Rattle.soundness.specs.Claims.{Item, values, acquired, state_after, After}
 use Rattle.layout.specs.Config.{base}
 

@@ -1,7 +1,7 @@
 -- Store, load, share_block_n and erase_block on the context of a channel that a list of orders has reached: what the run of the bytes that each function writes leaves.
 -- From the scope, 'Operations': they "do what they name on the context of a state that orders reach under demand 3's premises, a store's own blocks and a load's own kinds counted in".
 -- `store_tree`, `load_tree`, `share_block`, `erase_block` and the answers are what the contracts of the functions cite.
-use Rattle.std.specs.Prelude.{ℕ, suc, ◌+◌, ◌*◌, ◌-◌, ◌≤◌, ◌<◌, ◌≡◌, ◌≢◌, true, false, List, [], ◌∷◌, ◌++◌, length, replicate, take}
+use Rattle.std.specs.Prelude.{ℕ, suc, ◌+◌, ◌*◌, ◌-◌, ◌≤◌, ◌<◌, ◌≡◌, ◌≢◌, true, false, List, [], ◌∷◌, ◌++◌, length, replicate, take, Ok}
 use Rattle.records.specs.declared.binding.Kind.TheVariants.{Linked}
 use Rattle.records.specs.declared.order.Order.TheVariants.{Store, Load}
 use Rattle.records.specs.Contexts.{ext_at}
@@ -17,7 +17,6 @@ use Rattle.memory.specs.Blocks.{erase_block, share_block}
 use Rattle.memory.specs.LoadAnswered.{load_tree, load_answer}
 use Rattle.memory.specs.Objects.{object_sizes}
 use Rattle.machine_step.specs.View.{View}
-use Rattle.machine.specs.declared.run.RunAnswer.TheVariants.{Ended}
 use Rattle.machine.specs.Run.{Done, ran}
 use Rattle.heap.specs.Blocks.{Cell, pointers, Memory}
 use Rattle.heap.specs.Claims.{Sound, Reaches}
@@ -59,7 +58,7 @@ module _ (g : Shape) where
     pub record RunLeaves (Left : View → Type 0) : Type 0 where
       pub steps : ℕ
       pub within : steps ≤ size t
-      pub ended : run_of_records.answer ≡ Ended steps
+      pub ended : run_of_records.answer ≡ Ok steps
       pub calls : run_of_records.last.calls ≡ []
       pub left : Left run_of_records.last.state
 

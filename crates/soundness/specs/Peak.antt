@@ -1,9 +1,9 @@
 -- How much heap to fit: the frontier against the most blocks that the variables led to at once, by runs that met no fault on however many blocks there are.
 -- The frontier is the number of blocks below it. The lists, the states and the heap after a list are those of demand 3's claim.
-use Rattle.std.specs.Prelude.{ℕ, suc, ◌+◌, ◌≤◌, ◌≡◌, ◌≢◌, true, List, [], ◌∷◌}
+use Rattle.std.specs.Prelude.{ℕ, suc, ◌+◌, ◌≤◌, ◌≡◌, ◌≢◌, true, List, [], ◌∷◌, Err}
 use Rattle.layout.specs.declared.config.Shape.{Shape}
 use Rattle.layout.specs.Config.{Supported, base}
-use Rattle.machine.specs.declared.run.RunAnswer.TheVariants.{Fault}
+use Rattle.machine.specs.declared.run.Stop.TheVariants.{Fault}
 use Rattle.heap.specs.Words.{layout}
 use Rattle.heap.specs.Claims.{HeapAfter, ReachesAtMost, Peak}
 use Rattle.memory.specs.Objects.{object_sizes}
@@ -17,7 +17,7 @@ module _ (g : Shape) where
     -- no accepted order's run has met a fault
     abbrev pub NoFault : List Item → Type 0
     NoFault [] = Unit {0}
-    NoFault (it ∷ its) = (is_accepted g (reached g blocks its) it.asked ≡ true → (steps place : ℕ) → (run_of g (reached g blocks its) it.asked it.words).answer ≢ Fault steps place) × NoFault its
+    NoFault (it ∷ its) = (is_accepted g (reached g blocks its) it.asked ≡ true → (steps place : ℕ) → (run_of g (reached g blocks its) it.asked it.words).answer ≢ Err (Fault steps place)) × NoFault its
 
     -- each accepted load names the kinds that its object was stored with
     abbrev pub LoadsOwed : List Item → Type 0

@@ -1,237 +1,213 @@
-// The linear list, the lazy list and the held blocks. Among MARKS a block has four words: where it is, how many pointers name it, whether it was ever held
-// or on HEAP's list, and the value that was seen in it. PEAK is the most blocks that the variables reached after any one order so far.
-use crate::{arithmetic, plain, table, words, work};
+// The linear list, the lazy list and the held blocks.
+use crate::error::Unsound;
+use crate::plain::{Object, PlainMachine};
+use crate::state::State;
+use crate::work::{MOST, Work};
+use std::alloc::{AllocError, Global};
 
-const LINEAR: u64 = 1;
-
-const LAZY: u64 = 2;
-
-const HELD: u64 = 3;
-
-fn place(block: u64, i: u64) -> u64 {
-    table::place_in(table::MARKS, table::WORK, 4, block, i)
+// Where a block is.
+#[derive(Clone, Copy, Debug, PartialEq, Eq)]
+enum Place {
+    Linear,
+    Lazy,
+    Held,
 }
 
-fn mark(memory: &[u64], block: u64, i: u64) -> u64 {
-    table::at(memory, place(block, i))
+// What is known of a block: where it is, how many pointers name it, whether it was ever held or on HEAP's list, and the object that was seen in it.
+#[derive(Clone, Copy, Debug, PartialEq, Eq)]
+struct Mark {
+    place: Option<Place>,
+    pointers: u64,
+    was_used: bool,
+    seen: Option<Object>,
 }
 
-fn set_mark(memory: &mut [u64], block: u64, i: u64, x: u64) {
-    table::set(memory, place(block, i), x)
-}
+impl Mark {
+    const NEW: Mark = Mark {
+        place: None,
+        pointers: 0,
+        was_used: false,
+        seen: None,
+    };
 
-pub fn seen(memory: &[u64], block: u64) -> u64 {
-    mark(memory, block, 3)
-}
-
-pub fn set_seen(memory: &mut [u64], block: u64, value: u64) {
-    set_mark(memory, block, 3, value)
-}
-
-fn forget(memory: &mut [u64], block: u64) {
-    set_mark(memory, block, 0, 0);
-    set_mark(memory, block, 1, 0);
-    set_mark(memory, block, 3, 0);
-}
-
-// All marks but whether a block was ever held or on HEAP's list.
-pub fn forget_all(memory: &mut [u64], blocks: u64) {
-    let mut b = 0;
-    while b < blocks {
-        forget(memory, b);
-        b += 1;
+    // All but whether it was ever held or on HEAP's list.
+    fn forget(&mut self) {
+        *self = Mark {
+            was_used: self.was_used,
+            ..Mark::NEW
+        };
     }
-}
 
-// A block that is nowhere yet is put somewhere.
-fn claim(memory: &mut [u64], block: u64, place: u64) -> bool {
-    if mark(memory, block, 0) == 0 {
-        set_mark(memory, block, 0, place);
-        return true;
+    // A block that is nowhere yet is put somewhere.
+    fn claim(&mut self, place: Place) -> Result<(), Unsound> {
+        Unsound::unless(self.place.is_none())?;
+        self.place = Some(place);
+        Ok(())
     }
-    false
-}
 
-fn push_pointer(memory: &mut [u64], pointer: u64) {
-    if 0 < pointer {
-        work::push(memory, pointer);
-    }
-}
-
-// The Fsts of a block's fields, a link among them.
-fn push_fields(fields: u64, heap: &[u64], memory: &mut [u64], block: u64) {
-    let mut field = 0;
-    while field < fields {
-        push_pointer(memory, words::fst_in(fields, heap, block, field));
-        field += 1;
-    }
-}
-
-// From HEAP to 0.
-pub fn linear(fields: u64, heap: &[u64], memory: &mut [u64], blocks: u64, head: u64) -> bool {
-    let mut next = head;
-    let mut i = 0;
-    while i < blocks {
-        if next == 0 {
-            return true;
+    // Below the frontier a block is in one of the three, and a held block's count is its pointers less one; from the frontier up it is in none.
+    fn check_place(&self, state: &State, block: usize, frontier: usize) -> Result<(), Unsound> {
+        match self.place {
+            None => Unsound::unless(frontier <= block),
+            Some(place) => {
+                Unsound::unless(block < frontier)?;
+                if place == Place::Held {
+                    let count = state.head_word(block)?;
+                    return Unsound::unless(count.wrapping_add(1) == self.pointers);
+                }
+                Ok(())
+            }
         }
-        let block = words::block_at(fields, heap, next);
-        if claim(memory, block, LINEAR) {} else {
-            return false;
+    }
+
+    // The frontier is the first block never held or on HEAP's list.
+    fn check_history(&mut self, block: usize, frontier: usize) -> Result<(), Unsound> {
+        if matches!(self.place, Some(Place::Held | Place::Linear)) {
+            self.was_used = true;
         }
-        next = words::word_in(fields, heap, block, 0);
-        i += 1;
+        Unsound::unless(self.was_used == (block < frontier))
     }
-    next == 0
 }
 
-// From FREE to the first block that starts with 0, which is the frontier; NONE if there is none.
-pub fn lazy(fields: u64, heap: &[u64], memory: &mut [u64], blocks: u64, head: u64) -> u64 {
-    let mut next = head;
-    let mut i = 0;
-    while i < blocks {
-        let block = words::block_at(fields, heap, next);
-        next = words::word_in(fields, heap, block, 0);
-        if next == 0 {
-            return block;
+// The marks of all blocks, the pointers that are left to follow, and the peak: the most blocks that the variables reached after any one order so far.
+#[derive(Drop)]
+pub struct Heap {
+    marks: Vec<Mark>,
+    pointers: Work<u64>,
+    peak: usize,
+}
+
+impl Heap {
+    pub fn new(alloc: Global, blocks: usize) -> Result<Heap, AllocError> {
+        Ok(Heap {
+            marks: vec![in alloc; Mark::NEW; blocks]?,
+            pointers: Work::new(alloc, 0)?,
+            peak: 0,
+        })
+    }
+
+    pub fn peak(&self) -> usize {
+        self.peak
+    }
+
+    // The blocks of the linear list are marked, and then those that the variables reach, which count for the peak; the lazy list ends at the frontier, which is
+    // one block more than the peak; its blocks hold others; and then each block is looked at, which has a mark.
+    pub fn check(&mut self, state: &State, machine: &PlainMachine) -> Result<(), Unsound> {
+        for mark in self.marks.iter_mut() {
+            mark.forget();
         }
-        if claim(memory, block, LAZY) {} else {
-            return table::NONE;
+        self.mark_linear(state, state.registers[2])?;
+        self.pointers.clear();
+        self.push_roots(state, machine)?;
+        self.follow(state)?;
+        self.raise_peak();
+        let frontier = self.mark_lazy(state, state.registers[3])?;
+        Unsound::unless(frontier == self.peak.wrapping_add(1))?;
+        self.follow(state)?;
+        Unsound::unless(state.blocks() <= self.marks.len())?;
+        for (block, mark) in self.marks.iter_mut().enumerate() {
+            mark.check_place(state, block, frontier)?;
+            mark.check_history(block, frontier)?;
         }
-        push_fields(fields, heap, memory, block);
-        i += 1;
+        Ok(())
     }
-    table::NONE
-}
 
-fn push_root(memory: &mut [u64], i: u64) {
-    if plain::count_of(memory, plain::value(memory, i)) == plain::INTEGER {} else {
-        push_pointer(memory, words::fst(memory, i));
+    fn claim(&mut self, block: usize, place: Place) -> Result<(), Unsound> {
+        let mark = self.marks.get_mut(block).ok_or(Unsound)?;
+        mark.claim(place)
     }
-}
 
-// The pointers in variables.
-fn roots(memory: &mut [u64]) {
-    let n = plain::length(memory);
-    let mut i = 0;
-    while i < n {
-        push_root(memory, i);
-        i += 1;
-    }
-}
-
-// One pointer more names a block.
-fn name(memory: &mut [u64], block: u64) {
-    let pointers = mark(memory, block, 1);
-    set_mark(memory, block, 1, arithmetic::sum(pointers, 1));
-}
-
-// A block that no pointer named before: it is held, one block more, and its fields are pointers too. NONE if it is on a list, or no block.
-fn enter(fields: u64, heap: &[u64], memory: &mut [u64], block: u64) -> u64 {
-    if claim(memory, block, HELD) {
-        push_fields(fields, heap, memory, block);
-        return 1;
-    }
-    table::NONE
-}
-
-// One pointer: 1 if the block that it names was not held yet, 0 if it was; NONE if it cannot be.
-fn hold(fields: u64, heap: &[u64], memory: &mut [u64], pointer: u64) -> u64 {
-    let block = words::block_at(fields, heap, pointer);
-    name(memory, block);
-    if mark(memory, block, 0) == HELD {
-        return 0;
-    }
-    enter(fields, heap, memory, block)
-}
-
-// How many blocks more are held by the pointers that are left to follow; NONE if one names a block that cannot be.
-pub fn follow(fields: u64, heap: &[u64], memory: &mut [u64]) -> u64 {
-    let mut found = 0;
-    let mut i = 0;
-    while i < work::MOST {
-        let pointer = work::pop(memory);
+    fn push_pointer(&mut self, pointer: u64) -> Result<(), Unsound> {
         if pointer == 0 {
-            return found;
+            return Ok(());
         }
-        let more = hold(fields, heap, memory, pointer);
-        if more == table::NONE {
-            return table::NONE;
+        self.pointers.push(pointer)
+    }
+
+    // The Fsts of a block's fields, a link among them.
+    fn push_fields(&mut self, state: &State, block: usize) -> Result<(), Unsound> {
+        for field in 0..state.edition.fields() {
+            self.push_pointer(state.field(block, field)?.fst)?;
         }
-        found = arithmetic::sum(found, more);
-        i += 1;
+        Ok(())
     }
-    table::NONE
-}
 
-pub fn peak(memory: &[u64]) -> u64 {
-    table::at(memory, table::PEAK)
-}
-
-fn raise_peak(memory: &mut [u64], reachable: u64) {
-    if peak(memory) < reachable {
-        table::set(memory, table::PEAK, reachable);
-    }
-}
-
-// The variables' pointers followed, before those of the lazy list: the blocks that they reach count for the peak.
-pub fn reach(fields: u64, heap: &[u64], memory: &mut [u64]) -> bool {
-    work::clear(memory);
-    roots(memory);
-    let reachable = follow(fields, heap, memory);
-    if reachable == table::NONE {
-        return false;
-    }
-    raise_peak(memory, reachable);
-    true
-}
-
-// Below the frontier a block is in one of the three, and a held block's count is its pointers less one; from the frontier up it is in none.
-fn block_sound(fields: u64, heap: &[u64], memory: &[u64], block: u64, frontier: u64) -> bool {
-    let place = mark(memory, block, 0);
-    if frontier <= block {
-        return place == 0;
-    }
-    if place == HELD {
-        let count = words::word_in(fields, heap, block, 0);
-        return count == arithmetic::difference(mark(memory, block, 1), 1);
-    }
-    place == LINEAR || place == LAZY
-}
-
-fn remember(memory: &mut [u64], block: u64, place: u64) {
-    if place == HELD || place == LINEAR {
-        set_mark(memory, block, 2, 1);
-    }
-}
-
-// The frontier is the first block never held or on HEAP's list.
-fn history_sound(memory: &mut [u64], block: u64, frontier: u64) -> bool {
-    let place = mark(memory, block, 0);
-    remember(memory, block, place);
-    let ever = mark(memory, block, 2);
-    if block < frontier {
-        return ever == 1;
-    }
-    ever == 0
-}
-
-pub fn all_sound(
-    fields: u64,
-    heap: &[u64],
-    memory: &mut [u64],
-    blocks: u64,
-    frontier: u64,
-) -> bool {
-    let mut b = 0;
-    while b < blocks {
-        if block_sound(fields, heap, memory, b, frontier) {} else {
-            return false;
+    // From HEAP to 0.
+    fn mark_linear(&mut self, state: &State, head: u64) -> Result<(), Unsound> {
+        let mut next = head;
+        for _ in 0..state.blocks() {
+            if next == 0 {
+                return Ok(());
+            }
+            let block = state.block_at(next)?;
+            self.claim(block, Place::Linear)?;
+            next = state.head_word(block)?;
         }
-        if history_sound(memory, b, frontier) {} else {
-            return false;
-        }
-        b += 1;
+        Unsound::unless(next == 0)
     }
-    true
+
+    // From FREE to the first block that starts with 0, which is the frontier.
+    fn mark_lazy(&mut self, state: &State, head: u64) -> Result<usize, Unsound> {
+        let mut next = head;
+        for _ in 0..state.blocks() {
+            let block = state.block_at(next)?;
+            next = state.head_word(block)?;
+            if next == 0 {
+                return Ok(block);
+            }
+            self.claim(block, Place::Lazy)?;
+            self.push_fields(state, block)?;
+        }
+        Err(Unsound)
+    }
+
+    // The pointers in variables.
+    fn push_roots(&mut self, state: &State, machine: &PlainMachine) -> Result<(), Unsound> {
+        for i in 0..machine.length() {
+            if !machine.variable(i).is_integer() {
+                self.push_pointer(state.variable(i)?.fst)?;
+            }
+        }
+        Ok(())
+    }
+
+    // The pointers that are left.
+    fn follow(&mut self, state: &State) -> Result<(), Unsound> {
+        for _ in 0..MOST {
+            match self.pointers.pop() {
+                Some(pointer) => self.hold(state, pointer)?,
+                None => return Ok(()),
+            }
+        }
+        Err(Unsound)
+    }
+
+    // One pointer more names a block. One that no pointer named before is held, and its fields are pointers too; it cannot be on a list.
+    fn hold(&mut self, state: &State, pointer: u64) -> Result<(), Unsound> {
+        let block = state.block_at(pointer)?;
+        let mark = self.marks.get_mut(block).ok_or(Unsound)?;
+        mark.pointers = mark.pointers.wrapping_add(1);
+        if mark.place == Some(Place::Held) {
+            return Ok(());
+        }
+        mark.claim(Place::Held)?;
+        self.push_fields(state, block)
+    }
+
+    fn raise_peak(&mut self) {
+        let held = self
+            .marks
+            .iter()
+            .filter(|mark| mark.place == Some(Place::Held))
+            .count();
+        self.peak = self.peak.max(held);
+    }
+
+    // Notes that an object is seen in a block; whether it was not the one seen there last.
+    pub fn see(&mut self, block: usize, object: Object) -> Result<bool, Unsound> {
+        let mark = self.marks.get_mut(block).ok_or(Unsound)?;
+        let is_new = mark.seen != Some(object);
+        mark.seen = Some(object);
+        Ok(is_new)
+    }
 }

@@ -1,148 +1,178 @@
-// The plain machine of demand 3. A value goes by its number: among NODES it has four words, its integer or tag, where its list starts among CELLS, how
-// long that is (INTEGER for an integer), and one unused. VALUES has the number of each variable's value. MADE is how many values there are, USED how many
-// cells are used, and LENGTH how many variables there are.
-use crate::{arithmetic, order, table};
+// The plain machine of demand 3: values in variables, and no heap.
+use crate::order::Order;
+use std::alloc::{AllocError, Global};
 
-pub const INTEGER: u64 = 18446744073709551615;
+// How many variables it has places for, and how many fields of objects. What has no place is lost.
+const VARIABLES: usize = 512;
 
-fn node(v: u64, i: u64) -> u64 {
-    table::place_in(table::NODES, table::CELLS, 4, v, i)
+const FIELDS: usize = 65536;
+
+// A tag, and which of the machine's fields are the object's.
+#[derive(Clone, Copy, Debug, PartialEq, Eq)]
+pub struct Object {
+    pub tag: u64,
+    pub first: usize,
+    pub count: usize,
 }
 
-fn cell(i: u64) -> u64 {
-    table::place(table::CELLS, table::VALUES, i)
+#[derive(Clone, Copy, Debug, PartialEq, Eq)]
+pub enum Value {
+    Integer(u64),
+    Object(Object),
 }
 
-fn variable(i: u64) -> u64 {
-    table::place(table::VALUES, table::VARIABLES, i)
+impl Object {
+    // What a place holds before there is any value.
+    pub const EMPTY: Object = Object {
+        tag: 0,
+        first: 0,
+        count: 0,
+    };
 }
 
-pub fn length(memory: &[u64]) -> u64 {
-    table::at(memory, table::LENGTH)
-}
+impl Value {
+    // What is read of a lost value.
+    const LOST: Value = Value::Integer(u64::MAX);
 
-// The value of a variable.
-pub fn value(memory: &[u64], i: u64) -> u64 {
-    table::at(memory, variable(i))
-}
+    // What its Snd holds: the integer, or the tag.
+    pub fn word(self) -> u64 {
+        match self {
+            Value::Integer(integer) => integer,
+            Value::Object(object) => object.tag,
+        }
+    }
 
-// A value in a list.
-pub fn listed(memory: &[u64], i: u64) -> u64 {
-    table::at(memory, cell(i))
-}
+    pub fn is_integer(self) -> bool {
+        matches!(self, Value::Integer(_))
+    }
 
-pub fn word_of(memory: &[u64], v: u64) -> u64 {
-    table::at(memory, node(v, 0))
-}
-
-pub fn first_of(memory: &[u64], v: u64) -> u64 {
-    table::at(memory, node(v, 1))
-}
-
-pub fn count_of(memory: &[u64], v: u64) -> u64 {
-    table::at(memory, node(v, 2))
-}
-
-// A value in a new variable.
-fn push(memory: &mut [u64], v: u64) {
-    let n = length(memory);
-    table::set(memory, variable(n), v);
-    table::set(memory, table::LENGTH, arithmetic::sum(n, 1));
-}
-
-fn set_node(memory: &mut [u64], v: u64, content: u64, first: u64, count: u64) {
-    table::set(memory, node(v, 0), content);
-    table::set(memory, node(v, 1), first);
-    table::set(memory, node(v, 2), count);
-}
-
-// A new value, in a new variable.
-fn make(memory: &mut [u64], content: u64, first: u64, count: u64) {
-    let v = table::at(memory, table::MADE);
-    set_node(memory, v, content, first, count);
-    table::set(memory, table::MADE, arithmetic::sum(v, 1));
-    push(memory, v);
-}
-
-fn put(memory: &mut [u64], integer: u64) {
-    make(memory, integer, 0, INTEGER)
-}
-
-fn result(flag: u8, x: u64, y: u64) -> u64 {
-    match flag {
-        0 => arithmetic::sum(x, y),
-        1 => arithmetic::difference(x, y),
-        2 => arithmetic::product(x, y),
-        3 => arithmetic::quotient(x, y),
-        _ => arithmetic::remainder(x, y),
+    // What a load of it takes: its tag, and which of the machine's fields. An integer has no list. Its number of fields is read as the largest word, so a list
+    // of orders that breaks the premise of its loads is not played to its end.
+    fn loaded(self) -> Object {
+        match self {
+            Value::Integer(integer) => Object {
+                tag: integer,
+                first: 0,
+                count: usize::MAX,
+            },
+            Value::Object(object) => object,
+        }
     }
 }
 
-fn compute(memory: &mut [u64], flag: u8, a: u64, b: u64) {
-    let x = word_of(memory, value(memory, a));
-    let y = word_of(memory, value(memory, b));
-    put(memory, result(flag, x, y))
+// Where a list's bindings are not its objects' own kinds, the machine goes on with other variables than the state has: their number is modulo 2^64, a place
+// keeps what was in it last, and those that nothing was in hold the first value of all.
+#[derive(Drop)]
+pub struct PlainMachine {
+    variables: Vec<Value>,
+    length: usize,
+    fields: Vec<Value>,
+    used: usize,
+    has_values: bool,
 }
 
-fn copy(memory: &mut [u64], a: u64, n: u64) {
-    let v = value(memory, a);
-    let mut i = 0;
-    while i < n {
-        push(memory, v);
-        i += 1;
+impl PlainMachine {
+    pub fn new(alloc: Global) -> Result<PlainMachine, AllocError> {
+        let empty = Value::Object(Object::EMPTY);
+        Ok(PlainMachine {
+            variables: vec![in alloc; empty; VARIABLES]?,
+            length: 0,
+            fields: vec![in alloc; empty; FIELDS]?,
+            used: 0,
+            has_values: false,
+        })
     }
-}
 
-// The last n variables go.
-fn shorten(memory: &mut [u64], n: u64) {
-    let kept = arithmetic::difference(length(memory), n);
-    table::set(memory, table::LENGTH, kept)
-}
-
-// The n values of variables from `first` on, into new cells.
-fn list(memory: &mut [u64], first: u64, n: u64) {
-    let used = table::at(memory, table::USED);
-    let mut i = 0;
-    while i < n {
-        let v = value(memory, arithmetic::sum(first, i));
-        table::set(memory, cell(arithmetic::sum(used, i)), v);
-        i += 1;
+    // How many variables there are.
+    pub fn length(&self) -> usize {
+        self.length
     }
-    table::set(memory, table::USED, arithmetic::sum(used, n));
-}
 
-fn store(memory: &mut [u64], n: u64, tag: u64) {
-    let first = table::at(memory, table::USED);
-    shorten(memory, n);
-    list(memory, length(memory), n);
-    make(memory, tag, first, n);
-}
-
-// The n values in cells from `first` on, into new variables.
-fn unlist(memory: &mut [u64], first: u64, n: u64) {
-    let mut i = 0;
-    while i < n {
-        push(memory, listed(memory, arithmetic::sum(first, i)));
-        i += 1;
+    // The value of a variable.
+    pub fn variable(&self, i: usize) -> Value {
+        self.variables.get(i).copied().unwrap_or(Value::LOST)
     }
-}
 
-fn load(memory: &mut [u64]) {
-    shorten(memory, 1);
-    let v = value(memory, length(memory));
-    let first = first_of(memory, v);
-    unlist(memory, first, count_of(memory, v));
-}
+    // The value of an object's field.
+    pub fn field(&self, object: Object, i: usize) -> Value {
+        let place = object.first.wrapping_add(i);
+        self.fields.get(place).copied().unwrap_or(Value::LOST)
+    }
 
-// What an accepted order does.
-pub fn perform(memory: &mut [u64], order: &[u8]) {
-    match order::code(order) {
-        1 => put(memory, order::value(order)),
-        2 => compute(memory, order::flag(order), order::a(order), order::b(order)),
-        3 => copy(memory, order::a(order), order::n(order)),
-        4 => shorten(memory, 1),
-        5 => store(memory, order::n(order), order::value(order)),
-        6 => load(memory),
-        _ => {}
+    // A value in a new variable.
+    fn push(&mut self, value: Value) {
+        if let Some(place) = self.variables.get_mut(self.length) {
+            *place = value;
+        }
+        self.length = self.length.wrapping_add(1);
+    }
+
+    // A new value, in a new variable.
+    fn put(&mut self, value: Value) {
+        if !self.has_values {
+            self.has_values = true;
+            self.variables.fill(value);
+        }
+        self.push(value);
+    }
+
+    fn copy(&mut self, variable: usize, count: usize) {
+        let value = self.variable(variable);
+        for _ in 0..count {
+            self.push(value);
+        }
+    }
+
+    // The last variables go.
+    fn shorten(&mut self, count: usize) {
+        self.length = self.length.wrapping_sub(count);
+    }
+
+    // The last variables go into an object.
+    fn store(&mut self, count: usize, tag: u64) {
+        let first = self.used;
+        self.shorten(count);
+        for i in 0..count {
+            let value = self.variable(self.length.wrapping_add(i));
+            self.store_field(value);
+        }
+        self.put(Value::Object(Object { tag, first, count }));
+    }
+
+    fn store_field(&mut self, value: Value) {
+        if let Some(place) = self.fields.get_mut(self.used) {
+            *place = value;
+        }
+        self.used = self.used.wrapping_add(1);
+    }
+
+    // The last variable goes, and its object's fields come.
+    fn load(&mut self) {
+        self.shorten(1);
+        let object = self.variable(self.length).loaded();
+        for i in 0..object.count {
+            self.push(self.field(object, i));
+        }
+    }
+
+    // What an accepted order does.
+    pub fn perform(&mut self, order: Order) {
+        match order {
+            Order::Literal(integer) => self.put(Value::Integer(integer)),
+            Order::Compute {
+                operation,
+                left,
+                right,
+            } => {
+                let x = self.variable(left).word();
+                let y = self.variable(right).word();
+                self.put(Value::Integer(operation.of(x, y)));
+            }
+            Order::Copy { variable, count } => self.copy(variable, count),
+            Order::Drop => self.shorten(1),
+            Order::Store { count, tag } => self.store(count, tag),
+            Order::Load { .. } => self.load(),
+            Order::Other => {}
+        }
     }
 }

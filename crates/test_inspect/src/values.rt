@@ -1,167 +1,138 @@
 // The values that variables hold, and the objects behind them.
-use crate::{arithmetic, heap, plain, shape, words, work};
+use crate::edition::Edition;
+use crate::error::Unsound;
+use crate::heap::Heap;
+use crate::plain::{Object, PlainMachine, Value};
+use crate::state::{Pair, State};
+use crate::work::{MOST, Work};
+use std::alloc::{AllocError, Global};
 
-// An object is left to look at: its address above the value's number plus one.
-fn leave(memory: &mut [u64], v: u64, fst: u64) {
-    work::push(memory, arithmetic::sum(v, 1));
-    work::push(memory, fst);
+// An object that is left to look at, and the address where it is to be.
+#[derive(Clone, Copy, Debug, PartialEq, Eq)]
+struct Placed {
+    address: u64,
+    object: Object,
 }
 
-// Two words hold value v. An object that is behind them is left.
-fn holds(memory: &mut [u64], v: u64, fst: u64, snd: u64) -> bool {
-    if snd == plain::word_of(memory, v) {} else {
-        return false;
-    }
-    let count = plain::count_of(memory, v);
-    if count == plain::INTEGER {
-        return true;
-    }
-    if count == 0 {
-        return fst == 0;
-    }
-    if fst == 0 {
-        return false;
-    }
-    leave(memory, v, fst);
-    true
+#[derive(Drop)]
+pub struct Values {
+    objects: Work<Placed>,
 }
 
-// A variable has its value's kind and holds it.
-fn variable_sound(memory: &mut [u64], i: u64) -> bool {
-    let v = plain::value(memory, i);
-    let integer = plain::count_of(memory, v) == plain::INTEGER;
-    if (words::kind(memory, i) == 1) == integer {} else {
-        return false;
+impl Values {
+    pub fn new(alloc: Global) -> Result<Values, AllocError> {
+        let blank = Placed {
+            address: 0,
+            object: Object::EMPTY,
+        };
+        Ok(Values {
+            objects: Work::new(alloc, blank)?,
+        })
     }
-    let fst = words::fst(memory, i);
-    let snd = words::snd(memory, i);
-    holds(memory, v, fst, snd)
-}
 
-fn variables_sound(memory: &mut [u64]) -> bool {
-    let n = plain::length(memory);
-    let mut i = 0;
-    while i < n {
-        if variable_sound(memory, i) {} else {
-            return false;
+    // The values of all variables.
+    pub fn check(
+        &mut self,
+        state: &State,
+        machine: &PlainMachine,
+        heap: &mut Heap,
+    ) -> Result<(), Unsound> {
+        self.objects.clear();
+        for i in 0..machine.length() {
+            self.check_variable(state, i, machine.variable(i))?;
         }
-        i += 1;
-    }
-    true
-}
-
-// A field holds value v; an integer's Fst is 0.
-fn field_sound(
-    fields: u64,
-    heap: &[u64],
-    memory: &mut [u64],
-    block: u64,
-    field: u64,
-    v: u64,
-) -> bool {
-    let fst = words::fst_in(fields, heap, block, field);
-    if plain::count_of(memory, v) == plain::INTEGER {
-        if fst == 0 {} else {
-            return false;
-        }
-    }
-    holds(memory, v, fst, words::snd_in(fields, heap, block, field))
-}
-
-// The first field that an object of n values uses: a whole block in the last one, and all but the link in each other, from the last value on.
-fn first_field(fields: u64, n: u64) -> u64 {
-    if n <= fields {
-        return fields - n;
-    }
-    let link = shape::link_of(fields);
-    let over = arithmetic::remainder(n - fields, link);
-    if over == 0 {
-        0
-    } else {
-        arithmetic::difference(link, over)
-    }
-}
-
-fn unused_sound(fields: u64, heap: &[u64], block: u64, first: u64) -> bool {
-    let mut field = 0;
-    while field < first {
-        if words::fst_in(fields, heap, block, field) == 0 {} else {
-            return false;
-        }
-        field += 1;
-    }
-    true
-}
-
-// The n values whose numbers start at a cell lie in an object.
-fn object_sound(
-    fields: u64,
-    heap: &[u64],
-    memory: &mut [u64],
-    head: u64,
-    cell: u64,
-    n: u64,
-) -> bool {
-    let link = shape::link_of(fields);
-    let mut block = head;
-    let mut field = first_field(fields, n);
-    if unused_sound(fields, heap, block, field) {} else {
-        return false;
-    }
-    let mut last = n <= fields;
-    let mut i = 0;
-    while i < n {
-        if field == link {
-            if last {} else {
-                block = words::block_at(fields, heap, words::fst_in(fields, heap, block, link));
-                field = 0;
-                last = n - i <= fields;
+        for _ in 0..MOST {
+            match self.objects.pop() {
+                Some(placed) => self.look(state, machine, heap, placed)?,
+                None => return Ok(()),
             }
         }
-        let v = plain::listed(memory, arithmetic::sum(cell, i));
-        if field_sound(fields, heap, memory, block, field, v) {} else {
-            return false;
-        }
-        field = arithmetic::sum(field, 1);
-        i += 1;
+        Err(Unsound)
     }
-    true
+
+    // A pair holds a value. An object that is behind it is left.
+    fn check_pair(&mut self, pair: Pair, value: Value) -> Result<(), Unsound> {
+        Unsound::unless(pair.snd == value.word())?;
+        match value {
+            Value::Integer(_) => Ok(()),
+            Value::Object(object) => {
+                Unsound::unless((pair.fst == 0) == (object.count == 0))?;
+                if object.count == 0 {
+                    return Ok(());
+                }
+                self.objects.push(Placed {
+                    address: pair.fst,
+                    object,
+                })
+            }
+        }
+    }
+
+    // A variable has its value's kind and holds it.
+    fn check_variable(&mut self, state: &State, i: usize, value: Value) -> Result<(), Unsound> {
+        Unsound::unless(state.is_integer(i) == value.is_integer())?;
+        self.check_pair(state.variable(i)?, value)
+    }
+
+    // A field holds a value; an integer's Fst is 0.
+    fn check_field(&mut self, pair: Pair, value: Value) -> Result<(), Unsound> {
+        Unsound::unless(pair.fst == 0 || !value.is_integer())?;
+        self.check_pair(pair, value)
+    }
+
+    // An object is looked at once in its block.
+    fn look(
+        &mut self,
+        state: &State,
+        machine: &PlainMachine,
+        heap: &mut Heap,
+        placed: Placed,
+    ) -> Result<(), Unsound> {
+        let block = state.block_at(placed.address)?;
+        if heap.see(block, placed.object)? {
+            self.check_object(state, machine, block, placed.object)?;
+        }
+        Ok(())
+    }
+
+    // An object lies in the blocks from its first one on.
+    fn check_object(
+        &mut self,
+        state: &State,
+        machine: &PlainMachine,
+        head: usize,
+        object: Object,
+    ) -> Result<(), Unsound> {
+        let fields = state.edition.fields();
+        let link = state.edition.link();
+        let mut block = head;
+        let mut field = first_field(state.edition, object.count);
+        for unused in 0..field {
+            Unsound::unless(state.field(block, unused)?.fst == 0)?;
+        }
+        let mut is_last = object.count <= fields;
+        for i in 0..object.count {
+            if field == link && !is_last {
+                block = state.block_at(state.field(block, link)?.fst)?;
+                field = 0;
+                is_last = object.count - i <= fields;
+            }
+            self.check_field(state.field(block, field)?, machine.field(object, i))?;
+            field = field.wrapping_add(1);
+        }
+        Ok(())
+    }
 }
 
-// An object is looked at once for each value that is to be in it.
-fn look(fields: u64, heap: &[u64], memory: &mut [u64], block: u64, number: u64) -> bool {
-    if heap::seen(memory, block) == number {
-        return true;
+// The first field that an object of so many values uses: a whole block in the last one, and all but the link in each other, from the last value on.
+fn first_field(edition: Edition, count: usize) -> usize {
+    let fields = edition.fields();
+    if count <= fields {
+        return fields - count;
     }
-    heap::set_seen(memory, block, number);
-    let v = arithmetic::difference(number, 1);
-    let first = plain::first_of(memory, v);
-    let count = plain::count_of(memory, v);
-    object_sound(fields, heap, memory, block, first, count)
-}
-
-// The objects that are left to look at.
-fn objects_sound(fields: u64, heap: &[u64], memory: &mut [u64]) -> bool {
-    let mut i = 0;
-    while i < work::MOST {
-        let address = work::pop(memory);
-        if address == 0 {
-            return true;
-        }
-        let number = work::pop(memory);
-        let block = words::block_at(fields, heap, address);
-        if look(fields, heap, memory, block, number) {} else {
-            return false;
-        }
-        i += 1;
+    let link = edition.link();
+    match (count - fields) % link {
+        0 => 0,
+        over => link - over,
     }
-    false
-}
-
-// The values of all variables, where nothing is left to look at yet.
-pub fn values_sound(fields: u64, heap: &[u64], memory: &mut [u64]) -> bool {
-    if variables_sound(memory) {} else {
-        return false;
-    }
-    objects_sound(fields, heap, memory)
 }

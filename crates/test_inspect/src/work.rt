@@ -1,29 +1,39 @@
-// What is left to look at: a stack, whose word 0 is how many there are.
-use crate::{arithmetic, table};
+// What is left to look at.
+use crate::error::Unsound;
+use std::alloc::{AllocError, Global};
 
-// More than a state of 1,500 blocks and 261 variables leaves in all, in either edition. The stack has room for two words of each.
-pub const MOST: u64 = 12000;
+// More than a state of 1,500 blocks and 261 variables leaves in all, in either edition.
+pub const MOST: usize = 12000;
 
-fn place(i: u64) -> u64 {
-    table::place(table::WORK, table::MADE, i)
+// A stack of what is left, in places that are all there from the start.
+#[derive(Drop)]
+pub struct Work<T> {
+    places: Vec<T>,
+    length: usize,
 }
 
-pub fn clear(memory: &mut [u64]) {
-    table::set(memory, table::WORK, 0)
-}
-
-pub fn push(memory: &mut [u64], x: u64) {
-    let top = arithmetic::sum(table::at(memory, table::WORK), 1);
-    table::set(memory, place(top), x);
-    table::set(memory, table::WORK, top);
-}
-
-// 0 where there is none.
-pub fn pop(memory: &mut [u64]) -> u64 {
-    let top = table::at(memory, table::WORK);
-    if top == 0 {
-        return 0;
+impl<T: Copy> Work<T> {
+    // There is room for fewer than MOST.
+    pub fn new(alloc: Global, blank: T) -> Result<Work<T>, AllocError> {
+        Ok(Work {
+            places: vec![in alloc; blank; MOST - 1]?,
+            length: 0,
+        })
     }
-    table::set(memory, table::WORK, arithmetic::difference(top, 1));
-    table::at(memory, place(top))
+
+    pub fn clear(&mut self) {
+        self.length = 0;
+    }
+
+    pub fn push(&mut self, x: T) -> Result<(), Unsound> {
+        let place = self.places.get_mut(self.length).ok_or(Unsound)?;
+        *place = x;
+        self.length = self.length.wrapping_add(1);
+        Ok(())
+    }
+
+    pub fn pop(&mut self) -> Option<T> {
+        self.length = self.length.checked_sub(1)?;
+        self.places.get(self.length).copied()
+    }
 }

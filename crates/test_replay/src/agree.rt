@@ -5,14 +5,6 @@ use crate::perform::Answered;
 use crate::request::Request;
 use crate::{checksum, perform};
 
-#[derive(Clone, Copy)]
-pub enum Agreed {
-    Yes,
-    No,
-    // nothing to read
-    Ended,
-}
-
 // The Rust has no numbers for its failures: where it panics, the number is stored that its message stands for, 4, 6 or 8.
 fn numbers_agree(rust: u8, port: u64) -> bool
     ensures { result ≡ eqb rust port }
@@ -26,49 +18,20 @@ fn records_agree(out: &[u8], r: Request) -> bool {
         return true;
     }
     let n = r.value as usize;
-    if out.len() / 24 < n {
-        return false;
-    }
-    checksum::checksum(out, 24 * n) == r.sum
+    n <= out.len() / 24 && checksum::checksum(&out[..24 * n]) == r.sum
 }
 
 fn agrees(out: &[u8], r: Request, answered: Answered) -> bool {
-    if numbers_agree(r.number, answered.number) {} else {
+    if !numbers_agree(r.number, answered.number) {
         return false;
     }
     if 0 < answered.number {
         return true;
     }
-    if answered.value == r.value {} else {
-        return false;
-    }
-    if answered.counter == r.after {} else {
-        return false;
-    }
-    records_agree(out, r)
+    answered.value == r.value && answered.counter == r.after && records_agree(out, r)
 }
 
-pub fn replay(out: &mut [u8], r: Request, first: &[u8], second: &[u8]) -> Agreed {
+pub fn replay(out: &mut [u8], r: Request, first: &[u8], second: &[u8]) -> bool {
     let answered = perform::perform(out, r, first, second);
-    if agrees(out, r, answered) {
-        Agreed::Yes
-    } else {
-        Agreed::No
-    }
-}
-
-pub fn is_no(agreed: Agreed) -> bool {
-    match agreed {
-        Agreed::Yes => false,
-        Agreed::No => true,
-        Agreed::Ended => false,
-    }
-}
-
-pub fn is_ended(agreed: Agreed) -> bool {
-    match agreed {
-        Agreed::Yes => false,
-        Agreed::No => false,
-        Agreed::Ended => true,
-    }
+    agrees(out, r, answered)
 }

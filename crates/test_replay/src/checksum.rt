@@ -1,5 +1,5 @@
 // A number for many bytes: read as one number, the first byte highest, modulo the prime 2^56 - 5.
-ghost use Rattle.std.specs.Prelude.{◌≤◌, ◌<◌, length};
+ghost use Rattle.std.specs.Prelude.{◌<◌};
 
 const PRIME: u64 = 72057594037927931;
 
@@ -10,14 +10,10 @@ fn with_byte(sum: u64, byte: u8) -> u64
     (256 * sum + (byte as u64)) % PRIME
 }
 
-pub fn checksum(bytes: &[u8], n: usize) -> u64
-    requires { n ≤ length bytes.now }
-{
+pub fn checksum(bytes: &[u8]) -> u64 {
     let mut sum = 0;
-    let mut i = 0;
-    while i < n {
-        sum = with_byte(sum, bytes[i]);
-        i += 1;
+    for &byte in bytes {
+        sum = with_byte(sum, byte);
     }
     sum
 }

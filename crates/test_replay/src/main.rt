@@ -7,7 +7,6 @@ mod checksum; // a number for many bytes
 mod perform; // the request put to the port
 mod request; // a request and the Rust's answer as bytes
 
-use crate::agree::Agreed;
 use crate::request::Request;
 
 // More requests than are stored.
@@ -26,37 +25,37 @@ fn replay_filled(
     r: Request,
     first: &mut [u8],
     second: &mut [u8],
-) -> Agreed {
+) -> bool {
     let n = program_files::read_full(&mut rt.stdin(), first);
     if n < first.len() {
-        return Agreed::No;
+        return false;
     }
     let m = program_files::read_full(&mut rt.stdin(), second);
-    if m < second.len() {
-        return Agreed::No;
-    }
-    agree::replay(out, r, first, second)
+    m == second.len() && agree::replay(out, r, first, second)
 }
 
-fn replay_one(rt: &HostRuntime, out: &mut [u8], first: &mut [u8], second: &mut [u8]) -> Agreed {
+// Whether the next request is answered as the Rust did; none where there is nothing to read.
+fn replay_one(
+    rt: &HostRuntime,
+    out: &mut [u8],
+    first: &mut [u8],
+    second: &mut [u8],
+) -> Option<bool> {
     let mut head = [0u8; 56];
     let got = program_files::read_full(&mut rt.stdin(), &mut head);
     if got == 0 {
-        return Agreed::Ended;
+        return None;
     }
     if got < 56 {
-        return Agreed::No;
+        return Some(false);
     }
     let r = request::request_in(&head);
     let n = r.first;
     let m = r.second;
-    if first.len() < n {
-        return Agreed::No;
+    if first.len() < n || second.len() < m {
+        return Some(false);
     }
-    if second.len() < m {
-        return Agreed::No;
-    }
-    replay_filled(rt, out, r, &mut first[..n], &mut second[..m])
+    Some(replay_filled(rt, out, r, &mut first[..n], &mut second[..m]))
 }
 
 fn report(rt: &HostRuntime, place: u64) {
@@ -68,15 +67,14 @@ fn report(rt: &HostRuntime, place: u64) {
 fn replay_all(rt: &HostRuntime, out: &mut [u8], first: &mut [u8], second: &mut [u8]) -> Tally {
     let mut replayed = 0;
     let mut differ = 0;
-    while replayed < MOST {
-        let agreed = replay_one(rt, out, first, second);
-        if agree::is_ended(agreed) {
+    for place in 1..=MOST {
+        let Some(agreed) = replay_one(rt, out, first, second) else {
             break;
-        }
-        replayed += 1;
-        if agree::is_no(agreed) {
+        };
+        replayed = place;
+        if !agreed {
             differ += 1;
-            report(rt, replayed);
+            report(rt, place);
         }
     }
     Tally { replayed, differ }

@@ -2,8 +2,8 @@
 use crate::request::Request;
 use code::emitters::Condition;
 use emit::answer::Answer;
-use layout::config::Offset;
-use layout::utils::{Temporary, TemporaryNumber};
+use layout::config::NoOffset;
+use layout::utils::{NoTemporary, TemporaryNumber};
 use operations::operation::Operation;
 use records::order;
 
@@ -26,7 +26,7 @@ fn of_answer(answer: Answer) -> Answered {
     }
 }
 
-fn of_temporary(temporary: Temporary) -> Answered {
+fn of_temporary(temporary: Result<u64, NoTemporary>) -> Answered {
     let mut value = 0;
     let number = port_numbers::query::located(temporary, &mut value);
     Answered {
@@ -36,7 +36,7 @@ fn of_temporary(temporary: Temporary) -> Answered {
     }
 }
 
-fn of_offset(offset: Offset) -> Answered {
+fn of_offset(offset: Result<u64, NoOffset>) -> Answered {
     let mut value = 0;
     let number = port_numbers::query::measured(offset, &mut value);
     Answered {
@@ -46,6 +46,7 @@ fn of_offset(offset: Offset) -> Answered {
     }
 }
 
+// Kept by name, as the next two: a request's byte is any, and what is past the last means the last.
 fn condition(kind: u8) -> Condition {
     match kind {
         0 => Condition::Equal,
@@ -77,8 +78,7 @@ fn half(kind: u8) -> TemporaryNumber {
 
 // Operations 1 to 13.
 fn operation(r: Request) -> Operation {
-    let number = r.operation;
-    match number {
+    match r.operation {
         1 => Operation::Label(r.label),
         2 => Operation::Jump(r.x),
         3 => Operation::JumpLabel(r.label),
@@ -103,8 +103,7 @@ fn word_of(spill: u64) -> u64 {
 
 // Queries 20 to 24; any other number is no request.
 fn ask(r: Request, context: &[u8]) -> Answered {
-    let number = r.operation;
-    match number {
+    match r.operation {
         20 => of_temporary(layout::utils::position(r.frame, r.x)),
         21 => of_temporary(layout::utils::fresh_temporary(r.frame, half(r.kind), context)),
         22 => of_temporary(layout::utils::variable_temporary(
@@ -128,8 +127,7 @@ pub fn perform(out: &mut [u8], r: Request, first: &[u8], second: &[u8]) -> Answe
     if r.operation < 14 {
         return of_answer(operations::operation::operate(out, r.frame, operation(r)));
     }
-    let number = r.operation;
-    match number {
+    match r.operation {
         14 => of_answer(print_i64::code::print_i64(out, r.frame, r.kind == 1, r.x, first)),
         15 => of_answer(memory::block::erase_block(out, r.frame, r.counter, r.x)),
         16 => of_answer(memory::block::share_block_n(out, r.frame, r.counter, r.x, r.z)),

@@ -3,65 +3,129 @@
 // is no block of the heap; and on no more, where a run meets a fault.
 #![tactic(auto)]
 
-ghost use Rattle.std.specs.Prelude.{◌≤◌};
+ghost use Rattle.std.specs.Prelude.{◌≤◌, length};
+ghost use Rattle.std.specs.Iterator.{at_most};
 
-use channel_step::channel::{Channel, Played, RECORDS};
-use order_spec::answer::OrderAnswer;
-use records::bytes;
+use channel_step::channel;
+use channel_step::channel::{Channel, RECORDS};
+use std::alloc::{AllocError, Global};
+use std::fmt;
+use std::io::Read;
+use test_inspect::edition::Edition;
+use test_inspect::inspector::Inspector;
+use test_inspect::order::{ORDER, Order};
+use test_inspect::state::State;
+
+// The most blocks that a heap has, and the most bytes of a list.
+const BLOCKS: u64 = 1500;
+
+const LIST: u64 = 65536;
+
+// A list of orders, in its edition and its frame.
+#[derive(Drop)]
+struct List {
+    edition: u64,
+    frame: u64,
+    bytes: Vec<u8>,
+}
+
+impl List {
+    // The next list, after its edition, its frame and its length in bytes; none where the input ends, or a list would be too long.
+    fn read<R: Read>(alloc: Global, input: &mut R) -> Result<Option<List>, AllocError> {
+        let mut head = [0u8; 24];
+        if program_files::read_full(input, &mut head) < head.len() {
+            return Ok(None);
+        }
+        let edition = records::bytes::number8(&head, 0);
+        let frame = records::bytes::number8(&head, 8);
+        let size = records::bytes::number8(&head, 16);
+        if LIST < size {
+            return Ok(None);
+        }
+        let mut bytes = vec![in alloc; 0u8; size as usize]?;
+        let read = program_files::read_full(input, &mut bytes);
+        bytes.truncate(read);
+        Ok(Some(List {
+            edition,
+            frame,
+            bytes,
+        }))
+    }
+
+    fn orders(&self) -> Orders<'_> {
+        Orders { bytes: &self.bytes }
+    }
+}
+
+// The orders at the start of some bytes, each with its bindings, as far as there are whole ones.
+#[derive(Drop)]
+struct Orders<'a> {
+    bytes: &'a [u8],
+}
+
+impl<'a> Iterator for Orders<'a> {
+    type Item = (&'a [u8; ORDER], &'a [u8]);
+
+    ghost remaining = { λ s. at_most (length s.bytes.now) };
+
+    fn next(&mut self) -> Option<(&'a [u8; ORDER], &'a [u8])> {
+        let (order, rest) = self.bytes.split_first_chunk::<ORDER>()?;
+        let (bindings, rest) = rest.split_at_checked(bindings_after(order))?;
+        self.bytes = rest;
+        Some((order, bindings))
+    }
+}
+
+// How many bytes of bindings follow an order: those of a load's n.
+fn bindings_after(order: &[u8; ORDER]) -> usize {
+    match Order::from(*order) {
+        Order::Load { count } => 8 * (count % 65536),
+        _ => 0,
+    }
+}
+
+// What came of an order.
+#[derive(Clone, Copy, Debug, PartialEq, Eq)]
+enum Outcome {
+    Refused,
+    Fault,
+    Unsound,
+    Sound,
+}
 
 // How many orders there were, and what came of them.
-#[derive(Clone, Copy)]
+#[derive(Clone, Copy, Debug, PartialEq, Eq, Default)]
 struct Counts {
     orders: u64,
-    accepted: u64,
+    refused: u64,
     unsound: u64,
     faults: u64,
 }
 
-// Where the next order starts, what came of those before it, and the channel.
-#[derive(Clone, Copy)]
-struct Going {
-    at: usize,
-    counts: Counts,
-    channel: Channel,
-}
-
-fn start(edition: u64, frame: u64) -> Going {
-    let channel = channel_step::channel::fresh(edition, frame);
-    Going {
-        at: 0,
-        counts: Counts {
-            orders: 0,
-            accepted: 0,
-            unsound: 0,
-            faults: 0,
-        },
-        channel,
+impl Counts {
+    fn count(&mut self, outcome: Outcome) {
+        self.orders = self.orders.saturating_add(1);
+        match outcome {
+            Outcome::Refused => self.refused = self.refused.saturating_add(1),
+            Outcome::Fault => self.faults = self.faults.saturating_add(1),
+            Outcome::Unsound => self.unsound = self.unsound.saturating_add(1),
+            Outcome::Sound => {}
+        }
     }
 }
 
-// The counts of one order.
-fn one(accepted: u64, unsound: u64, faults: u64) -> Counts {
-    Counts {
-        orders: 1,
-        accepted,
-        unsound,
-        faults,
+impl fmt::Display for Counts {
+    fn fmt<W: fmt::Write>(&self, f: &mut fmt::Formatter<W>) -> fmt::Result {
+        write!(
+            f,
+            "orders {}, accepted {}, refused {}, unsound {}, faults {}",
+            self.orders,
+            self.orders.saturating_sub(self.refused),
+            self.refused,
+            self.unsound,
+            self.faults
+        )
     }
-}
-
-fn plus(x: Counts, y: Counts) -> Counts {
-    Counts {
-        orders: word::sum(x.orders, y.orders),
-        accepted: word::sum(x.accepted, y.accepted),
-        unsound: word::sum(x.unsound, y.unsound),
-        faults: word::sum(x.faults, y.faults),
-    }
-}
-
-// The words of a block.
-fn block_words(edition: u64) -> u64 {
-    test_inspect::shape::words_of(test_inspect::shape::fields_of(edition))
 }
 
 // Counters are any: each 64th is the last that there is.
@@ -74,262 +138,122 @@ fn counter_of(orders: u64) -> u64 {
 }
 
 // So are output lengths: each 64th is too short for a record.
-fn room_of(orders: u64) -> usize
-    ensures { result ≤ 202464 }
-{
+fn room_of(orders: u64) -> usize {
     if orders % 64 == 31 { 23 } else { RECORDS }
 }
 
 // And print words: those look like addresses of blocks.
-fn print_words(edition: u64, orders: u64) -> [u64; 9] {
-    let size = word::product(8, block_words(edition));
-    let word = word::sum(65536, word::product(size, orders % 1000));
-    [word; 9]
+fn print_words(edition: Edition, orders: u64) -> [u64; 9] {
+    let size = 8 * edition.block_words() as u64;
+    [65536 + size * (orders % 1000); 9]
 }
 
-// How many bytes of bindings follow an order: those of a load's n.
-fn bindings_after(order: &[u8]) -> usize {
-    if test_inspect::table::byte_at(order, 1) == 6 {
-        let low = test_inspect::table::byte_at(order, 12) as usize;
-        let high = test_inspect::table::byte_at(order, 13) as usize;
-        return 8 * low + 2048 * high;
-    }
-    0
-}
-
-// An order with its bindings, played with what its number gives.
-fn played(
-    order: &[u8],
-    bindings: &[u8],
-    heap: &mut [u64],
+// What a list is played on, from a fresh channel and a zeroed heap.
+#[derive(Drop)]
+struct Player {
     channel: Channel,
-    orders: u64,
-) -> Played {
-    let mut records = [0u8; RECORDS];
-    let room = room_of(orders);
-    channel_step::channel::play(
-        channel,
-        heap,
-        &mut records[..room],
-        counter_of(orders),
-        order,
-        bindings,
-        print_words(channel.edition, orders),
-    )
+    heap: Vec<u64>,
+    records: Vec<u8>,
+    inspector: Inspector,
+    counts: Counts,
 }
 
-fn is_ended(ran: machine::run::RunAnswer, limit: u64) -> bool {
-    match ran {
-        machine::run::RunAnswer::Ended(steps) => steps <= limit,
-        machine::run::RunAnswer::Malformed(_) => false,
-        machine::run::RunAnswer::Fault(_, _) => false,
-        machine::run::RunAnswer::Limit(_) => false,
+impl Player {
+    fn new(alloc: Global, list: &List, blocks: usize) -> Result<Player, AllocError>
+        requires { blocks ≤ 1500 }
+    {
+        let words = blocks * Edition::from(list.edition).block_words();
+        Ok(Player {
+            channel: channel::fresh(list.edition, list.frame),
+            heap: vec![in alloc; 0u64; words]?,
+            records: vec![in alloc; 0u8; RECORDS]?,
+            inspector: Inspector::new(alloc, blocks)?,
+            counts: Counts::default(),
+        })
     }
-}
 
-// The context's bytes in use, and as many words of the stack as the frame has.
-fn is_sound(
-    edition: u64,
-    context: &[u8],
-    used: usize,
-    registers: &[u64; 16],
-    stack: &[u64],
-    depth: usize,
-    heap: &[u64],
-    memory: &mut [u64],
-) -> bool {
-    if used <= context.len() {
-        if depth <= stack.len() {
-            return test_inspect::sound::sound(
-                edition,
-                &context[..used],
-                registers,
-                &stack[..depth],
-                heap,
-                memory,
-            );
+    // An order with its bindings, played with what its number gives: whether it is accepted, whether its run ends within its records, and whether the words after
+    // it are as demand 3 says, beside the plain machine.
+    fn play(&mut self, order: &[u8; ORDER], bindings: &[u8]) -> Outcome {
+        let orders = self.counts.orders;
+        let room = room_of(orders).min(self.records.len());
+        let played = channel::play(
+            self.channel,
+            &mut self.heap,
+            &mut self.records[..room],
+            counter_of(orders),
+            order,
+            bindings,
+            print_words(Edition::from(self.channel.edition), orders),
+        );
+        self.channel = played.channel;
+        let outcome = match (played.answer, played.ran) {
+            (Ok(accepted), Ok(steps)) if steps <= accepted.records as u64 => {
+                self.inspector.perform(Order::from(*order));
+                self.inspect()
+            }
+            (Ok(_), _) => Outcome::Fault,
+            (Err(_), _) => Outcome::Refused,
+        };
+        self.counts.count(outcome);
+        outcome
+    }
+
+    // The context's bytes in use, and as many words of the stack as the frame has.
+    fn inspect(&mut self) -> Outcome {
+        let depth = channel::stack_words(self.channel.frame);
+        let (Some(context), Some(stack)) = (
+            self.channel.context.get(..self.channel.used),
+            self.channel.stack.get(..depth),
+        ) else {
+            return Outcome::Unsound;
+        };
+        let state = State {
+            edition: Edition::from(self.channel.edition),
+            context,
+            registers: &self.channel.registers,
+            stack,
+            heap: &self.heap,
+        };
+        if self.inspector.is_sound(&state) {
+            Outcome::Sound
+        } else {
+            Outcome::Unsound
         }
     }
-    false
 }
 
-fn is_channel_sound(channel: Channel, heap: &[u64], memory: &mut [u64]) -> bool {
-    let context = channel.context;
-    let registers = channel.registers;
-    let stack = channel.stack;
-    let depth = channel_step::channel::stack_words(channel.frame);
-    is_sound(
-        channel.edition,
-        &context,
-        channel.used,
-        &registers,
-        &stack,
-        depth,
-        heap,
-        memory,
-    )
-}
-
-// What came of an order: whether its run, of so many records, ended, and whether the words after it are as demand 3 says, beside the plain machine.
-fn outcome(order: &[u8], heap: &[u64], memory: &mut [u64], done: Played) -> Counts {
-    let answer = done.answer;
-    let OrderAnswer::Accepted(count, _, _) = answer else {
-        return one(0, 0, 0);
-    };
-    let ran = done.ran;
-    if is_ended(ran, count as u64) {} else {
-        return one(1, 0, 1);
-    }
-    test_inspect::plain::perform(memory, order);
-    if is_channel_sound(done.channel, heap, memory) {
-        one(1, 0, 0)
-    } else {
-        one(1, 1, 0)
-    }
-}
-
-// One order with its bindings; the next one starts at byte `next`.
-fn item(
-    order: &[u8],
-    bindings: &[u8],
-    heap: &mut [u64],
-    memory: &mut [u64],
-    g: Going,
-    next: usize,
-) -> Going {
-    let before = g.counts;
-    let done = played(order, bindings, heap, g.channel, before.orders);
-    let counts = plus(before, outcome(order, heap, memory, done));
-    let channel = done.channel;
-    Going {
-        at: next,
-        counts,
-        channel,
-    }
-}
-
-// The next order of the list, if there is a whole one. After a fault the words are those in the middle of an order, and there is none.
-fn turn(input: &[u8], heap: &mut [u64], memory: &mut [u64], g: Going) -> Going {
-    let at = g.at;
-    let before = g.counts;
-    if 0 < before.faults {
-        return g;
-    }
-    if input.len() < at {
-        return g;
-    }
-    if input.len() - at < 24 {
-        return g;
-    }
-    let middle = at + 24;
-    let size = bindings_after(&input[at..middle]);
-    if input.len() - middle < size {
-        return g;
-    }
-    let end = middle + size;
-    item(
-        &input[at..middle],
-        &input[middle..end],
-        heap,
-        memory,
-        g,
-        end,
-    )
-}
-
-// All orders of a list. Each has 24 bytes at least.
-fn play(edition: u64, frame: u64, input: &[u8], heap: &mut [u64], memory: &mut [u64]) -> Counts {
-    let mut g = start(edition, frame);
-    let mut left = input.len() / 24;
-    while 0 < left {
-        g = turn(input, heap, memory, g);
-        left -= 1;
-    }
-    g.counts
-}
-
-fn print(rt: &HostRuntime, words: &[u8], number: u64) {
-    program_files::write(rt, words);
-    program_files::write_number(rt, number);
-}
-
-fn report(rt: &HostRuntime, counts: Counts, blocks: u64) {
-    print(rt, b"on ", blocks);
-    print(rt, b" blocks: orders ", counts.orders);
-    print(rt, b", accepted ", counts.accepted);
-    print(
-        rt,
-        b", refused ",
-        word::difference(counts.orders, counts.accepted),
-    );
-    print(rt, b", unsound ", counts.unsound);
-    print(rt, b", faults ", counts.faults);
-    program_files::write(rt, b"\n");
-}
-
-fn least(x: u64, y: u64) -> u64
-    ensures { result ≤ y }
-{
-    if x < y { x } else { y }
-}
-
-// The words of so many blocks, 1500 at most, which are 24,000 in the second edition.
-fn words_of(edition: u64, blocks: u64) -> usize
-    ensures { result ≤ 24000 }
-{
-    let words = word::product(block_words(edition), least(blocks, 1500));
-    least(words, 24000) as usize
-}
-
-// A list on a zeroed heap of so many blocks. The result is its peak.
-fn play_on(rt: &HostRuntime, edition: u64, frame: u64, input: &[u8], blocks: u64) -> u64 {
-    let mut heap = [0u64; 24000];
-    let mut memory = [0u64; test_inspect::table::MEMORY];
-    let words = words_of(edition, blocks);
-    report(
-        rt,
-        play(edition, frame, input, &mut heap[..words], &mut memory),
-        blocks,
-    );
-    test_inspect::heap::peak(&memory)
-}
-
-fn play_list(rt: &HostRuntime, edition: u64, frame: u64, input: &[u8]) {
-    print(rt, b"edition ", edition);
-    print(rt, b", frame ", frame);
-    program_files::write(rt, b"\n");
-    let peak = play_on(rt, edition, frame, input, 1500);
-    print(rt, b"peak ", peak);
-    program_files::write(rt, b"\n");
-    play_on(rt, edition, frame, input, word::sum(peak, 2));
-    play_on(rt, edition, frame, input, word::sum(peak, 1));
-    play_on(rt, edition, frame, input, peak);
-}
-
-// The next list, after its edition, its frame and its length in bytes, 65,536 at most; whether there is one.
-fn next_list(rt: &HostRuntime) -> bool {
-    let mut head = [0u8; 24];
-    let mut buffer = [0u8; 65536];
-    if program_files::read_full(&mut rt.stdin(), &mut head) < 24 {
-        return false;
-    }
-    let edition = bytes::number8(&head, 0);
-    let frame = bytes::number8(&head, 8);
-    let size = bytes::number8(&head, 16) as usize;
-    if 65536 < size {
-        return false;
-    }
-    let n = program_files::read_full(&mut rt.stdin(), &mut buffer[..size]);
-    play_list(rt, edition, frame, &buffer[..n]);
-    true
-}
-
-fn main(rt: HostRuntime) {
-    let mut left = 0xFFFFFFFFFFFFFFFFu64;
-    while 0 < left {
-        if next_list(&rt) {} else {
-            return;
+// A list on a heap of so many blocks, BLOCKS at most, up to a fault: after that the words are those in the middle of an order. The result is the list's peak.
+fn play_on<R: Print>(rt: &R, alloc: Global, list: &List, blocks: u64) -> Result<u64, AllocError> {
+    let most = blocks.min(BLOCKS) as usize;
+    let mut player = Player::new(alloc, list, most)?;
+    for (order, bindings) in list.orders() {
+        if player.play(order, bindings) == Outcome::Fault {
+            break;
         }
-        left -= 1;
     }
+    let _ = println!(rt; "on {blocks} blocks: {}", player.counts);
+    Ok(player.inspector.peak() as u64)
+}
+
+fn play_list<R: Print>(rt: &R, alloc: Global, list: &List) -> Result<(), AllocError> {
+    let _ = println!(rt; "edition {}, frame {}", list.edition, list.frame);
+    let peak = play_on(rt, alloc, list, BLOCKS)?;
+    let _ = println!(rt; "peak {peak}");
+    for more in [2, 1, 0] {
+        play_on(rt, alloc, list, peak.saturating_add(more))?;
+    }
+    Ok(())
+}
+
+fn main(rt: HostRuntime) -> Result<(), AllocError> {
+    let alloc = rt.alloc();
+    let mut input = rt.stdin();
+    for _ in 0..u64::MAX {
+        let Some(list) = List::read(alloc, &mut input)? else {
+            break;
+        };
+        play_list(&rt, alloc, &list)?;
+    }
+    Ok(())
 }

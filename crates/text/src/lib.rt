@@ -21,10 +21,8 @@ pub fn put_bytes(text: &mut [u8], at: usize, s: &[u8]) -> usize
     ensures { Puts (length s.now) text.old at text.new result s.now }
 {
     let mut next = at;
-    let mut i = 0;
-    while i < s.len() {
-        next = put_byte(text, next, s[i]);
-        i += 1;
+    for b in s {
+        next = put_byte(text, next, *b);
     }
     next
 }
@@ -51,12 +49,15 @@ pub fn put_decimal(text: &mut [u8], at: usize, v: u64) -> usize
     put_digits(text, at, 20, v)
 }
 
+// The lowest word that is negative as two's complement.
+const SIGN: u64 = 1 << 63;
+
 // The integer whose two's complement is v.
 pub fn put_signed(text: &mut [u8], at: usize, v: u64) -> usize
     requires { at + 21 ≤ farthest }
     ensures { Puts 21 text.old at text.new result (signed_decimal v) }
 {
-    if v < 0x8000000000000000 {
+    if v < SIGN {
         return put_decimal(text, at, v);
     }
     let next = put_byte(text, at, b'-');

@@ -1,4 +1,5 @@
 -- Labels counted: a label that stands once in a list is found where it stands, and a tree's records have each label that the tree draws once and no other.
+use Rattle.std.specs.Prelude.{Some}
 use Prim.Native.Nat.{ℕ, zero, suc, ◌+◌, ◌-◌, ◌≤◌, ◌<◌, min}
 use mathlib.Core.Path.{◌≡◌, refl, sym, ap, ◌∙◌}
 use mathlib.Core.Bool.{Bool, true, false, cond}
@@ -11,7 +12,6 @@ use borrow.Author.Tests.{eq-eqb, eqb-true, eqb-false}
 use Rattle.records.specs.declared.code.Code.{Code}
 use Rattle.records.specs.declared.code.Code.TheVariants.{LAB, JMPL}
 use Rattle.trees.specs.Tree.{Tree, nop, leaf, seq, skip_if_zero, if_zero, labels, flat_at, straight}
-use Rattle.machine.specs.declared.run.Found.TheVariants.{At}
 use Rattle.machine.specs.Run.{is_lab, places_of, the_one, find}
 use Rattle.trees_proof.specs.Claims.{Without}
 use Rattle.trees_proof.proofs.Straight.{straight_no_lab}
@@ -73,8 +73,8 @@ module _ (label : ℕ) where
       at false l r = let k : suc from + i ≡ from + suc i = omega arith in r (omega arith) ∙ ap (λ n. n ∷ []) k
 
   -- a label that stands once is found where it stands
-  pub found : (p : List Code) (i : ℕ) (xs : List Code) → drop i p ≡ LAB label ∷ xs → count label p ≤ 1 → find label p ≡ At i
-  found p i xs e h = ap the_one (places_one p i 0 xs e h) ∙ ap At (zero-add i)
+  pub found : (p : List Code) (i : ℕ) (xs : List Code) → drop i p ≡ LAB label ∷ xs → count label p ≤ 1 → find label p ≡ Some i
+  found p i xs e h = ap the_one (places_one p i 0 xs e h) ∙ ap Some (zero-add i)
 
   pub count_append : (xs ys : List Code) → count label (xs ++ ys) ≡ count label xs + count label ys
   count_append [] ys = omega arith

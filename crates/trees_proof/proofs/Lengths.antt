@@ -1,4 +1,5 @@
 -- A tree that is done on a heap is done alike on a longer one: only whether an address is outside depends on the heap's length.
+use Rattle.std.specs.Prelude.{None, Some, Option}
 use Prim.Native.Nat.{ℕ, ◌-◌, ◌/◌, ◌%◌, ◌≤◌, ◌<◌}
 use mathlib.Core.Path.{◌≡◌, refl, sym, ◌∙◌, ap}
 use mathlib.Core.Bool.{Bool, true, false, not, ◌&&◌, cond}
@@ -12,8 +13,6 @@ use Rattle.word.specs.Words.{sum, difference, product, divides, less}
 use Rattle.trees.specs.Tree.{Tree, nop, leaf, seq, skip_if_zero, if_zero}
 use Rattle.machine_step.specs.declared.memory.Place.{Place}
 use Rattle.machine_step.specs.declared.memory.Place.TheVariants.{Stack, Heap, Nowhere}
-use Rattle.machine_step.specs.declared.instruction.Compared.{Compared}
-use Rattle.machine_step.specs.declared.instruction.Compared.TheVariants.{Absent, Of}
 use Rattle.machine_step.specs.View.{View, put_reg, put_stk, put_mem}
 use Rattle.machine_step.specs.Memory.{stack_end, heap_start, place_of, word_in, put_at, Operand, register, memory, immediate, value_of, assigned}
 use Rattle.machine_step.specs.Step.{Config, config, dropped, Outcome, on_word, on_state, on_pair, calculate, move, compare, divide, branch, is_print_name, step}
@@ -86,9 +85,9 @@ module _ (m n : ℕ) (h : m ≤ n) where
       writes (memory a offset) v = stores c.state e (place_kept (sum (c.state.reg a) offset)) v
       writes (immediate w) v = fails
 
-    pairs : (q : Compared) (k k' : ℕ → ℕ → Outcome) → ((x y : ℕ) → Follows (k x y) (k' x y)) → Follows (on_pair c q k) (on_pair (resized n c) q k')
-    pairs (Of x y) k k' g = g x y
-    pairs Absent k k' g = fails
+    pairs : (q : Option (ℕ × ℕ)) (k k' : ℕ → ℕ → Outcome) → ((x y : ℕ) → Follows (k x y) (k' x y)) → Follows (on_pair c q k) (on_pair (resized n c) q k')
+    pairs (Some (x, y)) k k' g = g x y
+    pairs None k k' g = fails
 
     arithmetic_follows : (f : ℕ → ℕ → ℕ) (dest src : Operand) → Follows (calculate f dest src c) (calculate f dest src (resized n c))
     arithmetic_follows f dest src = reads _ _ (λ y. reads _ _ (λ x. writes _ _ (λ s r. both_done r) dest (f x y)) dest) src
@@ -157,9 +156,9 @@ module _ (m n : ℕ) (h : m ≤ n) where
   joined (both_done {d = d} r) g = g d r
   joined fails g = fails
 
-  chosen : (d : Config) (q : Compared) {a a' b b' : Evaluated} → Alike m n a a' → Alike m n b b' → Alike m n (on_equal d q a b) (on_equal (resized n d) q a' b')
-  chosen d (Of x y) e f = either (Alike m n) (eqb x y) e f
-  chosen d Absent e f = fails
+  chosen : (d : Config) (q : Option (ℕ × ℕ)) {a a' b b' : Evaluated} → Alike m n a a' → Alike m n b b' → Alike m n (on_equal d q a b) (on_equal (resized n d) q a' b')
+  chosen d (Some (x, y)) e f = either (Alike m n) (eqb x y) e f
+  chosen d None e f = fails
 
   -- a part, and the mark after it
   marked : {o o' : Evaluated} → Alike m n o o' → Alike m n (and_then o (λ f. done (dropped f))) (and_then o' (λ f. done (dropped f)))

@@ -1,4 +1,5 @@
 -- Single records at a place of a list, and what runs one after the other.
+use Rattle.std.specs.Prelude.{None, Err, Some, Option}
 use Prim.Native.Nat.{ℕ, zero, suc, ◌+◌, ◌≤◌, ◌<◌}
 use mathlib.Core.Path.{◌≡◌, refl, sym, ap, ◌∙◌}
 use mathlib.Core.Bool.{Bool, true, false, cond}
@@ -13,11 +14,8 @@ use lib.Seq.{drop-drop, drop_at}
 use Rattle.records.specs.declared.code.Code.{Code}
 use Rattle.records.specs.declared.code.Code.TheVariants.{LAB, JEL, JMPL}
 use Rattle.trees.specs.Tree.{straight}
-use Rattle.machine_step.specs.declared.instruction.Compared.{Compared}
-use Rattle.machine_step.specs.declared.instruction.Compared.TheVariants.{Absent, Of}
 use Rattle.machine_step.specs.Step.{Config, dropped, Outcome, next, jump, end, fault, step}
-use Rattle.machine.specs.declared.run.RunAnswer.TheVariants.{Fault}
-use Rattle.machine.specs.declared.run.Found.TheVariants.{At}
+use Rattle.machine.specs.declared.run.Stop.TheVariants.{Fault}
 use Rattle.machine.specs.Run.{find, follow, runs}
 use Rattle.machine.specs.Run as machine
 use Rattle.trees_proof.specs.Evaluation.{Evaluated, done, faulted, and_then, evaluated, on_equal}
@@ -58,7 +56,7 @@ module _ (words : ℕ → ℕ) (p : List Code) where
         place = g.place;
         above = omega arith;
         below = g.below;
-        run = λ left made. rw add_assoc (r.run (g.steps + suc left) made ∙ g.run left (made + r.steps) ∙ ap (λ n. machine.done (Fault n g.place) e) (add_assoc made r.steps g.steps));
+        run = λ left made. rw add_assoc (r.run (g.steps + suc left) made ∙ g.run left (made + r.steps) ∙ ap (λ n. machine.done (Err (Fault n g.place)) e) (add_assoc made r.steps g.steps));
       }
 
   pub joined : (m k i j l : ℕ) (c : Config) (o : Evaluated) (f : Config → Evaluated) → RunsAs words p m i j c o → ((d : Config) → RunsAs words p k j l d (f d))
@@ -75,7 +73,7 @@ module _ (words : ℕ → ℕ) (p : List Code) where
     pub stepped : {d : Config} → step words x c ≡ next d → RunsTo words p 1 i (suc i) c d
     stepped {d} s = record { steps = 1; within = omega arith; run = λ left made. rw (one-add, add-one) (one_step left made ∙ rw s) }
 
-    pub jumped : {label j : ℕ} {d : Config} → step words x c ≡ jump label d → find label p ≡ At j → RunsTo words p 1 i j c d
+    pub jumped : {label j : ℕ} {d : Config} → step words x c ≡ jump label d → find label p ≡ Some j → RunsTo words p 1 i j c d
     jumped s f = record { steps = 1; within = omega arith; run = λ left made. rw (one-add, add-one) (one_step left made ∙ rw (s, f)) }
 
     pub stopped : (to : ℕ) {d : Config} → step words x c ≡ fault d → i < to → (most : ℕ) → 0 < most → Faults words p most i to c d
@@ -95,12 +93,12 @@ module _ (words : ℕ → ℕ) (p : List Code) where
   unfolding step
   mark_does i e c = stepped i e c refl
 
-  pub jump_does : (i : ℕ) {label j : ℕ} {xs : List Code} → drop i p ≡ JMPL label ∷ xs → find label p ≡ At j → (c : Config) → RunsTo words p 1 i j c (dropped c)
+  pub jump_does : (i : ℕ) {label j : ℕ} {xs : List Code} → drop i p ≡ JMPL label ∷ xs → find label p ≡ Some j → (c : Config) → RunsTo words p 1 i j c (dropped c)
   unfolding step
   jump_does i e f c = jumped i e c refl f
 
   -- the choice by the last compare: one part from the label on, the other from the next record on
-  pub choice_does : (m k i j l : ℕ) {label : ℕ} {xs : List Code} → drop i p ≡ JEL label ∷ xs → find label p ≡ At j → (c : Config) (a b : Evaluated)
+  pub choice_does : (m k i j l : ℕ) {label : ℕ} {xs : List Code} → drop i p ≡ JEL label ∷ xs → find label p ≡ Some j → (c : Config) (a b : Evaluated)
       → RunsAs words p m j l (dropped c) a → RunsAs words p k (suc i) l (dropped c) b → i ≤ j → i < l
       → (most : ℕ) → m < most → k < most → RunsAs words p most i l c (on_equal c c.pair a b)
   unfolding step
@@ -110,6 +108,6 @@ module _ (words : ℕ → ℕ) (p : List Code) where
       chosen true w = after 1 m i j l a (jumped i e c w f) g u most (omega arith)
       chosen false w = after 1 k i (suc i) l b (stepped i e c w) h (omega arith) most (omega arith)
 
-      at : (q : Compared) → c.pair ≡ q → RunsAs words p most i l c (on_equal c q a b)
-      at (Of x y) w = chosen (eqb x y) (rw w)
-      at Absent w = stopped i e c l {d = c} (rw w) v most (omega arith)
+      at : (q : Option (ℕ × ℕ)) → c.pair ≡ q → RunsAs words p most i l c (on_equal c q a b)
+      at (Some (x, y)) w = chosen (eqb x y) (rw w)
+      at None w = stopped i e c l {d = c} (rw w) v most (omega arith)

@@ -1,4 +1,5 @@
 -- The records of a tree do what the tree does: by induction over the tree, at any place of a list in which its labels stand once.
+use Rattle.std.specs.Prelude.{Ok, Some}
 use Prim.Native.Nat.{ℕ, zero, suc, ◌+◌, ◌-◌, ◌≤◌}
 use mathlib.Core.Path.{◌≡◌, refl, subst, ◌∙◌}
 use mathlib.Core.List.{List, [], ◌∷◌, ◌++◌, append_assoc, append-nil}
@@ -14,8 +15,6 @@ use Rattle.trees.specs.Tree.{Tree, nop, leaf, seq, skip_if_zero, if_zero, labels
 use Rattle.trees.proofs.Flat.{length_flat}
 use Rattle.machine_step.specs.View.{View}
 use Rattle.machine_step.specs.Step.{Config, dropped, step}
-use Rattle.machine.specs.declared.run.RunAnswer.TheVariants.{Ended}
-use Rattle.machine.specs.declared.run.Found.TheVariants.{At}
 use Rattle.machine.specs.Run.{find, runs, started, starting}
 use Rattle.machine.specs.Run as machine
 use Rattle.trees_proof.specs.Evaluation.{Evaluated, done, faulted, evaluated, and_then, evaluate}
@@ -36,7 +35,7 @@ module _ (words : ℕ → ℕ) (p : List Code) where
 
   -- a part, and the jump past another to its mark
   passed : (m i j : ℕ) {label : ℕ} {xs ys : List Code} (z : Config) (o : Evaluated) → RunsAs words p m i (i + m) z o → drop (i + m) p ≡ JMPL label ∷ xs
-      → find label p ≡ At j → drop j p ≡ LAB label ∷ ys → i + m ≤ j → RunsAs words p (m + 2) i (suc j) z (and_then o (λ f. done (dropped f)))
+      → find label p ≡ Some j → drop j p ≡ LAB label ∷ ys → i + m ≤ j → RunsAs words p (m + 2) i (suc j) z (and_then o (λ f. done (dropped f)))
   passed m i j z o g e f d h =
       joined words p m 2 i (i + m) (suc j) z o (λ y. done (dropped y)) g
       (λ y. after words p 1 1 (i + m) j (suc j) (done (dropped y)) (jump_does words p (i + m) e f y) (mark_does words p j d (dropped y)) h 2 (omega arith))
@@ -100,7 +99,7 @@ at_end : (p : List Code) → get_elem? p (length p) ≡ none
 at_end [] = refl
 at_end (x ∷ xs) = at_end xs
 
-ended : (words : ℕ → ℕ) (p : List Code) (left made : ℕ) (c : Config) → runs words p left made (length p) c ≡ machine.done (Ended made) c
+ended : (words : ℕ → ℕ) (p : List Code) (left made : ℕ) (c : Config) → runs words p left made (length p) c ≡ machine.done (Ok made) c
 unfolding runs
 ended words p zero made c = rw (at_end p)
 ended words p (suc left) made c = rw (at_end p)
@@ -128,6 +127,6 @@ tree_runs_whole words t c more v =
 
 -- the same for callers who know what the tree does
 pub tree_ends : (words : ℕ → ℕ) (t : Tree) (c more : ℕ) (v : View) (d : Config) → evaluate words t (starting v) ≡ done d
-    → (k : ℕ) × (k ≤ size t) × (started words (flat t c) (size t + more) v ≡ machine.done (Ended k) d)
+    → (k : ℕ) × (k ≤ size t) × (started words (flat t c) (size t + more) v ≡ machine.done (Ok k) d)
 unfolding TreeRunsWhole
 tree_ends words t c more v d e = subst (RunAnswers (size t) (started words (flat t c) (size t + more) v)) e (tree_runs_whole words t c more v)

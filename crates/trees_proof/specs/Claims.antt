@@ -1,12 +1,12 @@
 -- What the crate promises: the records of a tree, run by the scope's machine, do what the tree does. Alone, from the first record with any step limit from
 -- their number up; and as a part of a longer list, with any configuration before them and any records around them that hold none of their labels.
 -- Places in a list of records are counted from 0; the place in a fault is that of the record that faults, counted from 1.
-use Rattle.std.specs.Prelude.{ℕ, suc, ◌+◌, ◌≤◌, ◌<◌, ◌≡◌, List, [], ◌++◌, length}
+use Rattle.std.specs.Prelude.{ℕ, suc, ◌+◌, ◌≤◌, ◌<◌, ◌≡◌, List, [], ◌++◌, length, Ok, Err}
 use Rattle.records.specs.declared.code.Code.{Code}
 use Rattle.trees.specs.Tree.{Tree, labels, size, flat_at, flat}
 use Rattle.machine_step.specs.View.{View}
 use Rattle.machine_step.specs.Step.{Config}
-use Rattle.machine.specs.declared.run.RunAnswer.TheVariants.{Ended, Fault}
+use Rattle.machine.specs.declared.run.Stop.TheVariants.{Fault}
 use Rattle.machine.specs.Run.{Done, places_of, runs, started, starting}
 use Rattle.machine.specs.Run as machine
 use Rattle.trees_proof.specs.Evaluation.{Evaluated, done, faulted, evaluate}
@@ -24,7 +24,7 @@ pub record Faults (words : ℕ → ℕ) (p : List Code) (most from to : ℕ) (c 
   pub place : ℕ
   pub above : from < place
   pub below : place ≤ to
-  pub run : (left made : ℕ) → runs words p (steps + suc left) made from c ≡ machine.done (Fault (made + steps) place) d
+  pub run : (left made : ℕ) → runs words p (steps + suc left) made from c ≡ machine.done (Err (Fault (made + steps) place)) d
 
 -- a run as the tree evaluates: to the end of its records, or to a fault among them
 abbrev pub RunsAs : (ℕ → ℕ) → List Code → ℕ → ℕ → ℕ → Config → Evaluated → Type 0
@@ -43,8 +43,8 @@ TreeRunsWithin =
 
 -- a whole run of `most` records: it ends where the tree is done and faults where the tree does, and leaves the tree's configuration: state, pair and calls
 abbrev pub RunAnswers : ℕ → Done → Evaluated → Type 0
-RunAnswers most r (done d) = (k : ℕ) × (k ≤ most) × (r ≡ machine.done (Ended k) d)
-RunAnswers most r (faulted d) = (k : ℕ) × (place : ℕ) × (k < most) × (0 < place) × (place ≤ most) × (r ≡ machine.done (Fault k place) d)
+RunAnswers most r (done d) = (k : ℕ) × (k ≤ most) × (r ≡ machine.done (Ok k) d)
+RunAnswers most r (faulted d) = (k : ℕ) × (place : ℕ) × (k < most) × (0 < place) × (place ≤ most) × (r ≡ machine.done (Err (Fault k place)) d)
 
 -- a tree's records alone, from the first, with no compare made and no call, and a step limit of their number or more
 unfoldable pub TreeRunsWhole : Type 0

@@ -1,9 +1,7 @@
 -- What a tree does, with no label in it: records one after the other, a part left out or chosen by the compare before it.
 -- A mark where parts meet drops the compare, as every label does.
-use Rattle.std.specs.Prelude.{ℕ, cond, eqb}
+use Rattle.std.specs.Prelude.{ℕ, cond, eqb, None, Some, Option}
 use Rattle.trees.specs.Tree.{Tree, nop, leaf, seq, skip_if_zero, if_zero}
-use Rattle.machine_step.specs.declared.instruction.Compared.{Compared}
-use Rattle.machine_step.specs.declared.instruction.Compared.TheVariants.{Absent, Of}
 use Rattle.machine_step.specs.Step.{Config, dropped, Outcome, next, jump, end, fault, step}
 
 -- at the end of the tree, or a fault with the configuration before the record that faults
@@ -23,9 +21,9 @@ evaluated (end c) = faulted c
 evaluated (fault c) = faulted c
 
 -- as the last compare found its words equal or not
-abbrev pub on_equal : Config → Compared → Evaluated → Evaluated → Evaluated
-on_equal c (Of x y) equal other = cond (eqb x y) equal other
-on_equal c Absent equal other = faulted c
+abbrev pub on_equal : Config → Option (ℕ × ℕ) → Evaluated → Evaluated → Evaluated
+on_equal c (Some (x, y)) equal other = cond (eqb x y) equal other
+on_equal c None equal other = faulted c
 
 -- where print calls leave the nine words
 abbrev pub evaluate : (ℕ → ℕ) → Tree → Config → Evaluated

@@ -1,1 +1,1 @@
-pub mod Arithmetic  -- the product by halves, differences, magnitudes
+pub mod Arithmetic  -- the signed quotient and remainder

@@ -16,7 +16,7 @@ pub overflow_sub-each : goal.overflow_sub-each
 overflow_sub-each c = omega (arith, c.requires.1.some)
 
 pub other_blocks-requires : goal.other_blocks-requires
-other_blocks-requires c = (omega (arith, c.excess-rest.ensures, c.requires.0), c.requires.1)
+other_blocks-requires c = (omega (arith, c.saturating_sub-rest.ensures, c.requires.0), c.requires.1)
 
 pub overflow_mul-result-3 : goal.overflow_mul-result-3
 overflow_mul-result-3 c =
@@ -33,4 +33,4 @@ returns c =
     let a = c.args in
     let f : ℕ = a.g.fields in
     let few = product_few (12 * (f - 1) + 8) c.other_blocks.result (omega (arith, c.requires.1.few)) c.other_blocks.ensures.1 in
-    (rw (c.other_blocks.ensures.0, c.excess-rest.ensures) (both f (f - 1) (other_blocks a.g a.n) (omega (arith, c.requires.1.some))), omega (arith, c.requires.1.few))
+    (rw (c.other_blocks.ensures.0, c.saturating_sub-rest.ensures) (both f (f - 1) (other_blocks a.g a.n) (omega (arith, c.requires.1.some))), omega (arith, c.requires.1.few))

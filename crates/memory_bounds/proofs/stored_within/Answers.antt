@@ -4,7 +4,7 @@ use Rattle.memory_bounds.proofs.Ample.{product_few}
 use Rattle.memory_bounds.proofs.stored_within.Goals as goal
 
 pub other_blocks-requires : goal.other_blocks-requires
-other_blocks-requires c = (omega (arith, c.excess-rest.ensures, c.requires.0), c.requires.1)
+other_blocks-requires c = (omega (arith, c.saturating_sub-rest.ensures, c.requires.0), c.requires.1)
 
 pub overflow_mul-result-3 : goal.overflow_mul-result-3
 overflow_mul-result-3 c =
@@ -19,4 +19,4 @@ overflow_add-result-3 c =
 pub returns : goal.returns
 returns c =
     let few = product_few (16 * c.args.g.fields + 17) c.other_blocks.result (omega (arith, c.requires.1.few)) c.other_blocks.ensures.1 in
-    (rw (c.other_blocks.ensures.0, c.excess-rest.ensures), omega (arith, c.requires.1.few))
+    (rw (c.other_blocks.ensures.0, c.saturating_sub-rest.ensures), omega (arith, c.requires.1.few))

@@ -1,4 +1,3 @@
-use borrow.Author.Rules.{rules}
 use Prim.Native.Nat.{ℕ, ◌+◌, ◌-◌}
 use mathlib.Core.Path.{refl}
 use mathlib.Core.Bool.{Bool}
@@ -27,36 +26,33 @@ pub loop-i-init : goal.loop-i-init
 loop-i-init c =
     let w = c.requires in
     let f = filled w.0 in
-    (omega arith, record { ends = omega (arith, f.1); begins = omega (arith, f.0) }, refl, omega (arith, w.1), omega (arith, w.2), λ all. rw (none_yet all (ext_in c.args.kinds.now c.args.first) c.args.shared) emits_nop)
+    (record { ends = omega (arith, f.1); begins = omega (arith, f.0) }, omega (arith, w.1), omega (arith, w.2), λ all. rw (none_yet all (ext_in c.args.kinds.now c.args.first) c.args.shared) emits_nop)
 
 pub freed_before-aside-requires : goal.freed_before-aside-requires
 freed_before-aside-requires c =
-    let b = bounded c.requires.0 c.loop-i.invariant.1 (omega (arith, c.loop-i-test.true)) refl c.either-end.ensures in
+    let b = bounded c.requires.0 c.loop-i.invariant.0 (omega (arith, c.loop-i-test.true)) refl c.either-end.ensures in
     omega (arith, b.end_placed, b.from_before, c.requires.0.supported.frame)
 
 pub overflow_add-v : goal.overflow_add-v
 overflow_add-v c =
-    let b = bounded c.requires.0 c.loop-i.invariant.1 (omega (arith, c.loop-i-test.true)) refl c.either-end.ensures in
+    let b = bounded c.requires.0 c.loop-i.invariant.0 (omega (arith, c.loop-i-test.true)) refl c.either-end.ensures in
     omega (arith, b.end_placed, b.from_before, c.requires.0.supported.frame)
 
 pub overflow_sub-end : goal.overflow_sub-end
-overflow_sub-end c = (bounded c.requires.0 c.loop-i.invariant.1 (omega (arith, c.loop-i-test.true)) refl c.either-end.ensures).from_before
+overflow_sub-end c = (bounded c.requires.0 c.loop-i.invariant.0 (omega (arith, c.loop-i-test.true)) refl c.either-end.ensures).from_before
 
 pub load_block-q-requires : goal.load_block-q-requires
 load_block-q-requires c =
     let w = c.requires in
     let l = c.loop-i in
-    let b = bounded w.0 l.invariant.1 (omega (arith, c.loop-i-test.true)) refl c.either-end.ensures in
-    (omega (arith, w.0.from_first), omega (arith, w.0.known, b.end_known, b.from_before), omega (arith, b.end_placed, b.from_before), b.end_held, omega (arith, l.invariant.3, c.loop-i-test.true), omega (arith, l.invariant.4, c.loop-i-test.true, b.end_few), w.0.supported)
+    let b = bounded w.0 l.invariant.0 (omega (arith, c.loop-i-test.true)) refl c.either-end.ensures in
+    (omega (arith, w.0.from_first), omega (arith, w.0.known, b.end_known, b.from_before), omega (arith, b.end_placed, b.from_before), b.end_held, omega (arith, l.invariant.1, c.loop-i-test.true), omega (arith, l.invariant.2, c.loop-i-test.true, b.end_few), w.0.supported)
 
 pub overflow_add-to-in-loop-i : goal.overflow_add-to-in-loop-i
 overflow_add-to-in-loop-i c =
     let l = c.loop-i in
     let all = c.requires.0 in
-    omega (arith, end_most all l.invariant.1 c.loop-i-test.true, all.before_last, all.placed, all.linked_by_last, all.supported.few, all.supported.frame)
-
-pub loop-i-smaller : goal.loop-i-smaller
-loop-i-smaller c = omega (arith, c.loop-i-test.true)
+    omega (arith, end_most all l.invariant.0 (omega (arith, c.loop-i-test.true)), all.before_last, all.placed, all.linked_by_last, all.supported.few, all.supported.frame)
 
 pub loop-i-preserved : goal.loop-i-preserved
 loop-i-preserved c =
@@ -65,18 +61,16 @@ loop-i-preserved c =
     let l = c.loop-i in
     let d = c.load_block-q.ensures in
     let ext : ℕ → Bool = ext_in a.kinds.now a.first in
-    let b = bounded w.0 l.invariant.1 (omega (arith, c.loop-i-test.true)) refl c.either-end.ensures in
+    let b = bounded w.0 l.invariant.0 (omega (arith, c.loop-i-test.true)) refl c.either-end.ensures in
     let z = block_size a.g ext a.shared (ltb l.i a.m) c.freed_before-aside.result (a.v + l.from) (c.either-end.result - l.from) in (
-      omega (arith, c.loop-i-test.true),
-      record { ends = omega (arith, l.invariant.1.ends); begins = omega arith },
-      search rules,
-      omega (arith, l.invariant.3, d.place, z.1, b.end_few),
-      omega (arith, l.invariant.4, d.drawn, z.0, b.end_few),
-      λ all. one_more all ext a.shared l.i l.from l.to c.loop-i-test.true l.invariant.1 refl c.either-end.ensures c.freed_before-aside.ensures (l.invariant.5 all) d,
+      record { ends = omega (arith, l.invariant.0.ends); begins = omega arith },
+      omega (arith, l.invariant.1, d.place, z.1, b.end_few),
+      omega (arith, l.invariant.2, d.drawn, z.0, b.end_few),
+      λ all. one_more all ext a.shared l.i l.from l.to (omega (arith, c.loop-i-test.true)) l.invariant.0 refl c.either-end.ensures c.freed_before-aside.ensures (l.invariant.3 all) d,
     )
 
 pub returns : goal.returns
 returns c =
     let a = c.args in
     let l = c.loop-i in
-    rw (← (all_loaded c.requires.0 (ext_in a.kinds.now a.first) a.shared l.i l.from (omega (arith, c.loop-i-test.false)))) (l.invariant.5 c.requires.0)
+    rw (← (all_loaded c.requires.0 (ext_in a.kinds.now a.first) a.shared l.i l.from (omega (arith, c.loop-i-test.false)))) (l.invariant.3 c.requires.0)

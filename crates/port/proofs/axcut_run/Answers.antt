@@ -1,5 +1,6 @@
 use mathlib.Core.Path.{refl, sym, ◌∙◌}
 use Rattle.layout.proofs.Placing.{edited_supported}
+use Rattle.port_numbers.proofs.Known.{unknown, known}
 use Rattle.port.proofs.Gives.{gives, gives_none, gives_unknown}
 use Rattle.port.proofs.axcut_run.Goals as goal
 
@@ -7,14 +8,14 @@ pub returns-in_default : goal.returns-in_default
 returns-in_default c = gives_unknown _ _ _ _ _ (sym c.edition_of.ensures ∙ c.in_default.is) refl refl
 
 pub block_words-block-requires : goal.block_words-block-requires
-block_words-block-requires c = edited_supported _ (sym c.edition_of.ensures ∙ c.in-Of.is)
+block_words-block-requires c = edited_supported _ (sym c.edition_of.ensures ∙ c.in-Some.is)
 
-pub returns-in-Unknown : goal.returns-in-Unknown
-returns-in-Unknown c =
-    gives_none _ _ _ _ _ (sym c.edition_of.ensures ∙ c.in-Of.is) c.block_words-block.ensures.0
-    (sym c.frame_on.ensures ∙ c.in-Unknown.is) refl c.unrun.ensures
+pub returns-then-is_none : goal.returns-then-is_none
+returns-then-is_none c =
+    gives_none _ _ _ _ _ (sym c.edition_of.ensures ∙ c.in-Some.is) c.block_words-block.ensures.0
+    (sym c.frame_on.ensures ∙ unknown _ c.if-is_none.ensures) refl c.unrun.ensures
 
-pub returns-in-Of-frame_on : goal.returns-in-Of-frame_on
-returns-in-Of-frame_on c =
-    gives _ _ _ _ _ (sym c.edition_of.ensures ∙ c.in-Of.is) c.block_words-block.ensures.0
-    (sym c.frame_on.ensures ∙ c.in-Of-frame_on.is) c.run_lent-answer.ensures c.told.ensures
+pub returns : goal.returns
+returns c =
+    gives _ _ _ _ _ (sym c.edition_of.ensures ∙ c.in-Some.is) c.block_words-block.ensures.0
+    (sym c.frame_on.ensures ∙ (known _ c.if-is_none.ensures).1) c.run_lent-answer.ensures c.told.ensures

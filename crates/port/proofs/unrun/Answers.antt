@@ -2,11 +2,11 @@ use mathlib.Core.Path.{sym, ◌∙◌}
 use Rattle.port.proofs.Gives.{bad_heap, bad_record, no_frame}
 use Rattle.port.proofs.unrun.Goals as goal
 
-pub returns-else-heap_ok : goal.returns-else-heap_ok
-returns-else-heap_ok c = bad_heap _ _ _ (sym c.heap_ok.ensures ∙ c.if-heap_ok.false)
+pub returns-then-not-heap_ok : goal.returns-then-not-heap_ok
+returns-then-not-heap_ok c = bad_heap _ _ _ (sym c.heap_ok.ensures ∙ c.if-not-heap_ok.true)
 
-pub returns-in-Malformed : goal.returns-in-Malformed
-returns-in-Malformed c = bad_record _ _ _ (sym c.heap_ok.ensures ∙ c.if-heap_ok.true) (sym c.check_codes.ensures.answer ∙ c.in-Malformed.is)
+pub returns-in-Err : goal.returns-in-Err
+returns-in-Err c = bad_record _ _ _ (sym c.heap_ok.ensures ∙ c.if-not-heap_ok.false) (sym c.check_codes.ensures.answer ∙ c.in-Err.is)
 
-pub returns-in-Good : goal.returns-in-Good
-returns-in-Good c = no_frame _ _ _ (sym c.heap_ok.ensures ∙ c.if-heap_ok.true) (sym c.check_codes.ensures.answer ∙ c.in-Good.is)
+pub returns-in-Ok : goal.returns-in-Ok
+returns-in-Ok c = no_frame _ _ _ (sym c.heap_ok.ensures ∙ c.if-not-heap_ok.false) (sym c.check_codes.ensures.answer ∙ c.in-Ok.is)

@@ -1,23 +1,19 @@
-use borrow.Author.Rules.{rules}
+use Rattle.plan_line.proofs.Same.{same_is_equal}
 use Rattle.program_options.specs.Options.{one_of_two}
 use Rattle.program_options.proofs.one_of_two.Goals as goal
 
-pub same-requires : goal.same-requires
+pub returns-then-eq : goal.returns-then-eq
 unfolding one_of_two
-same-requires c = search rules
+returns-then-eq c = let a = c.args in rw (same_is_equal a.word.now a.first.now, ← c.eq.ensures, c.if-eq.true)
 
-pub returns-then-same : goal.returns-then-same
+pub returns-then-eq-2 : goal.returns-then-eq-2
 unfolding one_of_two
-returns-then-same c = rw (← c.same.ensures, c.if-same.true)
+returns-then-eq-2 c =
+    let a = c.args in
+    rw (same_is_equal a.word.now a.first.now, ← c.eq.ensures, c.if-eq.false, same_is_equal a.word.now a.second.now, ← c.eq-else-eq.ensures, c.if-eq-2.true)
 
-pub same-requires-2 : goal.same-requires-2
+pub returns-else-eq-2 : goal.returns-else-eq-2
 unfolding one_of_two
-same-requires-2 c = search rules
-
-pub returns-then-same-2 : goal.returns-then-same-2
-unfolding one_of_two
-returns-then-same-2 c = rw (← c.same.ensures, c.if-same.false, ← c.same-2.ensures, c.if-same-2.true)
-
-pub returns : goal.returns
-unfolding one_of_two
-returns c = rw (← c.same.ensures, c.if-same.false, ← c.same-2.ensures, c.if-same-2.false)
+returns-else-eq-2 c =
+    let a = c.args in
+    rw (same_is_equal a.word.now a.first.now, ← c.eq.ensures, c.if-eq.false, same_is_equal a.word.now a.second.now, ← c.eq-else-eq.ensures, c.if-eq-2.false)

@@ -2,4 +2,4 @@ use Rattle.channel_step.proofs.Played.{refused_stays}
 use Rattle.channel_step.proofs.channel.refuse.Goals as goal
 
 pub returns : goal.returns
-returns c = refused_stays c.requires c.ask-answer.ensures
+returns c = rw c.not_run.ensures (refused_stays c.requires c.ask-answer.ensures)

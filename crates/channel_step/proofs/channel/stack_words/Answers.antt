@@ -5,10 +5,10 @@ use Rattle.layout.specs.Config.{stack_depth}
 use Rattle.channel_step.proofs.channel.stack_words.Goals as goal
 
 pub overflow_add-result : goal.overflow_add-result
-overflow_add-result c = let h = framed_supported _ (sym c.frame_of.ensures ∙ c.in-Of.is) in omega (arith, h.frame)
+overflow_add-result c = let h = framed_supported _ (sym c.frame_of.ensures ∙ c.in-Some.is) in omega (arith, h.frame)
 
-pub returns-in-Of : goal.returns-in-Of
-returns-in-Of c = chosen c.frame_of.ensures stack_depth 0 c.in-Of.is
+pub returns-in-Some : goal.returns-in-Some
+returns-in-Some c = chosen c.frame_of.ensures stack_depth 0 c.in-Some.is
 
-pub returns-in-Unknown : goal.returns-in-Unknown
-returns-in-Unknown c = not_chosen c.frame_of.ensures stack_depth 0 c.in-Unknown.is
+pub returns-in-None : goal.returns-in-None
+returns-in-None c = not_chosen c.frame_of.ensures stack_depth 0 c.in-None.is

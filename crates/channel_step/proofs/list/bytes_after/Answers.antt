@@ -4,5 +4,5 @@ use Rattle.channel_step.specs.Lists.{bytes_after}
 use Rattle.channel_step.proofs.list.bytes_after.Goals as goal
 
 -- eight bytes for each binding that the order wants
-pub returns-in-Whole : goal.returns-in-Whole
-returns-in-Whole c = ap (λ (n : ℕ). 8 * n) c.wanted.ensures ∙ sym (ap bytes_after c.in-Whole.is)
+pub returns-in-Ok : goal.returns-in-Ok
+returns-in-Ok c = ap (λ (n : ℕ). 8 * n) c.wanted.ensures ∙ sym (ap bytes_after c.in-Ok.is)

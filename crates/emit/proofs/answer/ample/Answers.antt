@@ -1,12 +1,11 @@
+use mathlib.Core.Path.{◌∙◌}
+use borrow.Author.Tests.{lt-leb}
 use native.Mathlib.Omega.{arith}
 use Rattle.emit.proofs.Wrote.{labels_wanting, room_decides}
 use Rattle.emit.proofs.answer.ample.Goals as goal
 
-pub returns-then-counter-gt-LAST_LABEL : goal.returns-then-counter-gt-LAST_LABEL
-returns-then-counter-gt-LAST_LABEL c = labels_wanting _ _ _ _ (omega arith)
+pub returns-then-saturating_add-le-LAST_LABEL : goal.returns-then-saturating_add-le-LAST_LABEL
+returns-then-saturating_add-le-LAST_LABEL c = let e = c.saturating_add.ensures in let h = c.if-saturating_add-le-LAST_LABEL.true in room_decides _ _ _ _ (omega (arith, e, h))
 
-pub returns-then-counter-labels-gt-LAST_LABEL : goal.returns-then-counter-labels-gt-LAST_LABEL
-returns-then-counter-labels-gt-LAST_LABEL c = labels_wanting _ _ _ _ c.if-counter-labels-gt-LAST_LABEL.true
-
-pub returns : goal.returns
-returns c = room_decides _ _ _ _ c.if-counter-labels-gt-LAST_LABEL.false
+pub returns-else-saturating_add-le-LAST_LABEL : goal.returns-else-saturating_add-le-LAST_LABEL
+returns-else-saturating_add-le-LAST_LABEL c = let e = c.saturating_add.ensures in let h = c.if-saturating_add-le-LAST_LABEL.false in lt-leb _ 2147483647 h ∙ labels_wanting _ _ _ _ (omega (arith, e, h))

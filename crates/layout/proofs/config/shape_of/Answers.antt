@@ -4,4 +4,4 @@ use Rattle.layout.proofs.config.shape_of.Goals as goal
 
 pub returns : goal.returns
 unfolding shape_of
-returns c = c.combined.ensures ∙ rw (c.edition_of-blocks.ensures, c.frame_of-spills.ensures)
+returns c = c.combined.ensures ∙ rw (c.edition_of.ensures, c.frame_of.ensures)

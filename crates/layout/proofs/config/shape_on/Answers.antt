@@ -4,4 +4,4 @@ use Rattle.layout.proofs.config.shape_on.Goals as goal
 
 pub returns : goal.returns
 unfolding shape_on
-returns c = c.combined.ensures ∙ rw (c.edition_of-blocks.ensures, c.frame_on-spills.ensures)
+returns c = c.combined.ensures ∙ rw (c.edition_of.ensures, c.frame_on.ensures)

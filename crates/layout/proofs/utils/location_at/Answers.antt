@@ -4,4 +4,4 @@ use Rattle.layout.proofs.Placing.{location_below}
 use Rattle.layout.proofs.utils.location_at.Goals as goal
 
 pub returns : goal.returns
-returns c = let e = c.wide.ensures ∙ c.requires.0 _ c.requires.1 in (e, omega (arith, e, location_below c.args.p))
+returns c = let e = c.from.ensures ∙ c.requires.0 _ c.requires.1 in (e, omega (arith, e, location_below c.args.p))

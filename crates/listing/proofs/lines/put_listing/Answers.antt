@@ -1,17 +1,8 @@
-use borrow.Author.Rules.{rules}
 use native.Mathlib.Omega.{arith}
 use Rattle.listing.specs.Listing.{listing}
 use Rattle.listing.proofs.Accepted.{few_records}
 use Rattle.text.proofs.Putting.{at_most, ◌⨟◌}
 use Rattle.listing.proofs.lines.put_listing.Goals as goal
-
-pub put_decimal-word-requires : goal.put_decimal-word-requires
-unfolding listing
-put_decimal-word-requires c = search rules
-
-pub put_bytes-lines-requires : goal.put_bytes-lines-requires
-unfolding listing
-put_bytes-lines-requires c = search rules
 
 pub put_lines-requires : goal.put_lines-requires
 unfolding listing

@@ -1,11 +1,12 @@
-use Rattle.machine.proofs.Labels.{found_none, found_two, found_one}
+use native.Mathlib.Omega.{arith}
+use Rattle.machine.proofs.Labels.{found_two, found_one}
 use Rattle.machine.proofs.run.find.Goals as goal
 
-pub returns-then-n-k : goal.returns-then-n-k
-returns-then-n-k c = found_none c.args.label c.args.s.now c.args.n c.first-k.ensures c.if-n-k.true
+pub first-requires-2 : goal.first-requires-2
+first-requires-2 c = let h = c.in_ok-k.ensures in (c.requires, omega arith)
 
-pub returns-then-first-n : goal.returns-then-first-n
-returns-then-first-n c = found_two c.args.label c.args.s.now c.args.n c.first-k.ensures c.if-n-k.false c.first.ensures c.if-first-n.true
+pub returns-in-Some : goal.returns-in-Some
+returns-in-Some c = found_two c.args.label c.args.s.now c.args.n c.in_ok-k.ensures c.in-Some.ensures
 
-pub returns : goal.returns
-returns c = found_one c.args.label c.args.s.now c.args.n c.first-k.ensures c.if-n-k.false c.first.ensures c.if-first-n.false
+pub returns-in-None : goal.returns-in-None
+returns-in-None c = found_one c.args.label c.args.s.now c.args.n c.in_ok-k.ensures c.in-None.ensures

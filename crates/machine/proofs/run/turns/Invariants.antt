@@ -1,4 +1,3 @@
-use Prim.Native.Nat.{◌-◌}
 use mathlib.Core.Path.{◌≡◌}
 use lib.ListN.{length}
 use Rattle.machine_step.specs.View.{words_of}
@@ -7,8 +6,5 @@ use Rattle.machine.specs.Run.{started, codes_of}
 use Rattle.machine.proofs.Running.{Going}
 use Rattle.machine.proofs.run.turns.Given as goal
 
-abbrev pub invariant-loop-place : goal.invariant-loop-place
-invariant-loop-place l = Going (words_of l.words) l.s l.n l.limit (started (words_of l.words) (codes_of l.n l.s) l.limit (see l.initial.at l.initial.heap)) (see l.at l.heap) l.compared l.place l.done × (length l.heap ≡ length l.initial.heap)
-
-abbrev pub decreases-loop-place : goal.decreases-loop-place
-decreases-loop-place l = l.limit - l.done
+abbrev pub invariant-loop-done : goal.invariant-loop-done
+invariant-loop-done l = Going (words_of l.words) l.s l.n l.limit (started (words_of l.words) (codes_of l.n l.s) l.limit (see l.initial.at l.initial.heap)) (see l.at l.heap) l.compared l.place l.done × (length l.heap ≡ length l.initial.heap)

@@ -10,28 +10,24 @@ erase-need-requires c =
     let w = c.requires in
     (omega arith, omega arith, w.0, w.1)
 
-pub grant-answer-requires : goal.grant-answer-requires
-grant-answer-requires c =
+pub grant-requires : goal.grant-requires
+grant-requires c =
     let a = c.args in
     omega (arith, c.erase-need.ensures.drawn, erase_size a.g a.w)
 
-pub returns-else-is_written : goal.returns-else-is_written
-returns-else-is_written c =
+pub returns-in_err-written : goal.returns-in_err-written
+returns-in_err-written c =
     let a = c.args in
-    not_written (erase_block a.g a.w) a.counter c.erase-need.ensures refl refl a.out.now c.grant-answer.ensures
-    c.is_written.ensures c.if-is_written.false
+    not_written (erase_block a.g a.w) a.counter c.erase-need.ensures refl refl a.out.now c.grant.ensures c.in_err-written.was c.from_residual.ensures.1
 
 pub erase-requires : goal.erase-requires
 erase-requires c =
     let a = c.args in
     let w = c.requires in
-    let fit =
-    room_for (erase_block a.g a.w) a.counter _ c.erase-need.ensures refl refl c.grant-answer.ensures
-    c.is_written.ensures c.if-is_written.true in
+    let fit = room_for (erase_block a.g a.w) a.counter _ c.erase-need.ensures refl refl c.grant.ensures c.in_ok-written.was in
     (omega arith, omega (arith, fit.0, (erase_size a.g a.w).0), w.0, w.1)
 
 pub returns : goal.returns
 returns c =
     let a = c.args in
-    wrote (erase_block a.g a.w) a.counter c.erase-need.ensures refl refl a.out.now c.grant-answer.ensures
-    c.is_written.ensures c.if-is_written.true c.erase.ensures refl refl
+    wrote (erase_block a.g a.w) a.counter c.erase-need.ensures refl refl a.out.now c.grant.ensures c.in_ok-written.was c.erase.ensures refl refl

@@ -10,28 +10,24 @@ share-need-requires c =
     let w = c.requires in
     (omega arith, omega arith, w.0, w.1)
 
-pub grant-answer-requires : goal.grant-answer-requires
-grant-answer-requires c =
+pub grant-requires : goal.grant-requires
+grant-requires c =
     let a = c.args in
     omega (arith, c.share-need.ensures.drawn, share_size a.g a.w a.n)
 
-pub returns-else-is_written : goal.returns-else-is_written
-returns-else-is_written c =
+pub returns-in_err-written : goal.returns-in_err-written
+returns-in_err-written c =
     let a = c.args in
-    not_written (share_block a.g a.w a.n) a.counter c.share-need.ensures refl refl a.out.now c.grant-answer.ensures
-    c.is_written.ensures c.if-is_written.false
+    not_written (share_block a.g a.w a.n) a.counter c.share-need.ensures refl refl a.out.now c.grant.ensures c.in_err-written.was c.from_residual.ensures.1
 
 pub share-requires : goal.share-requires
 share-requires c =
     let a = c.args in
     let w = c.requires in
-    let fit =
-    room_for (share_block a.g a.w a.n) a.counter _ c.share-need.ensures refl refl c.grant-answer.ensures
-    c.is_written.ensures c.if-is_written.true in
+    let fit = room_for (share_block a.g a.w a.n) a.counter _ c.share-need.ensures refl refl c.grant.ensures c.in_ok-written.was in
     (omega arith, omega (arith, fit.0, (share_size a.g a.w a.n).0), w.0, w.1)
 
 pub returns : goal.returns
 returns c =
     let a = c.args in
-    wrote (share_block a.g a.w a.n) a.counter c.share-need.ensures refl refl a.out.now c.grant-answer.ensures
-    c.is_written.ensures c.if-is_written.true c.share.ensures refl refl
+    wrote (share_block a.g a.w a.n) a.counter c.share-need.ensures refl refl a.out.now c.grant.ensures c.in_ok-written.was c.share.ensures refl refl

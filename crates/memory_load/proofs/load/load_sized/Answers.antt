@@ -9,14 +9,14 @@ use Rattle.memory_load.proofs.load.load_sized.Goals as goal
 pub load_object-need-requires : goal.load_object-need-requires
 load_object-need-requires c = let w = c.requires in (w.0, w.1, omega arith, omega arith, w.2)
 
-pub grant-answer-requires : goal.grant-answer-requires
-grant-answer-requires c = let a = c.args in let w = c.requires in let z = object_size a.g (ext_in a.loaded.now a.v) w.2 a.v a.n in let d = c.load_object-need.ensures in omega (arith, d.drawn, z.0, fits_few a.g w.2 a.v a.n w.1, w.2.frame)
+pub grant-requires : goal.grant-requires
+grant-requires c = let a = c.args in let w = c.requires in let z = object_size a.g (ext_in a.loaded.now a.v) w.2 a.v a.n in let d = c.load_object-need.ensures in omega (arith, d.drawn, z.0, fits_few a.g w.2 a.v a.n w.1, w.2.frame)
 
-pub returns-else-is_written : goal.returns-else-is_written
-returns-else-is_written c = let a = c.args in not_written (load_object a.g (ext_in a.loaded.now a.v) a.v a.n) a.counter c.load_object-need.ensures refl refl a.out.now c.grant-answer.ensures c.is_written.ensures c.if-is_written.false
+pub returns-in_err-written : goal.returns-in_err-written
+returns-in_err-written c = let a = c.args in not_written (load_object a.g (ext_in a.loaded.now a.v) a.v a.n) a.counter c.load_object-need.ensures refl refl a.out.now c.grant.ensures c.in_err-written.was c.from_residual.ensures.1
 
 pub load_object-requires : goal.load_object-requires
-load_object-requires c = let a = c.args in let w = c.requires in let g = room_for (load_object a.g (ext_in a.loaded.now a.v) a.v a.n) a.counter _ c.load_object-need.ensures refl refl c.grant-answer.ensures c.is_written.ensures c.if-is_written.true in (w.0, w.1, omega arith, omega (arith, g.0), w.2)
+load_object-requires c = let a = c.args in let w = c.requires in let g = room_for (load_object a.g (ext_in a.loaded.now a.v) a.v a.n) a.counter _ c.load_object-need.ensures refl refl c.grant.ensures c.in_ok-written.was in (w.0, w.1, omega arith, omega (arith, g.0), w.2)
 
 pub returns : goal.returns
-returns c = let a = c.args in wrote (load_object a.g (ext_in a.loaded.now a.v) a.v a.n) a.counter c.load_object-need.ensures refl refl a.out.now c.grant-answer.ensures c.is_written.ensures c.if-is_written.true c.load_object.ensures refl refl
+returns c = let a = c.args in wrote (load_object a.g (ext_in a.loaded.now a.v) a.v a.n) a.counter c.load_object-need.ensures refl refl a.out.now c.grant.ensures c.in_ok-written.was c.load_object.ensures refl refl

@@ -1,6 +1,5 @@
-use borrow.Author.Rules.{rules}
 use Prim.Native.Nat.{◌+◌, ◌-◌}
-use mathlib.Core.Path.{◌≡◌, refl}
+use mathlib.Core.Path.{◌≡◌}
 use native.Mathlib.Omega.{arith}
 use Rattle.emit.proofs.Laws.{◌⨟◌, emits_nop}
 use Rattle.memory.specs.Objects.{ext_in, store_other}
@@ -8,20 +7,32 @@ use Rattle.memory.proofs.Sizes.{store_other_size}
 use Rattle.memory.proofs.Unfolded.{next_other}
 use Rattle.memory_store.proofs.store.store_others.Goals as goal
 
-pub loop-blocks-init : goal.loop-blocks-init
-loop-blocks-init c = let w = c.requires in (omega arith, omega arith, refl, w.3, w.4, λ o r d. d)
+pub loop-init : goal.loop-init
+loop-init c = let w = c.requires in let e : c.args.m - 0 ≡ c.args.m = omega arith in (omega arith, omega (arith, w.3), omega (arith, w.4), rw e (λ o r d. d))
 
 pub overflow_add-v : goal.overflow_add-v
-overflow_add-v c = let r = c.excess-rest.ensures in omega arith
+overflow_add-v c = let r = c.saturating_sub-rest.ensures in let l = c.loop.invariant.0 in omega arith
 
 pub overflow_sub-left : goal.overflow_sub-left
-overflow_sub-left c = let r = c.excess-rest.ensures in omega arith
+overflow_sub-left c = let r = c.saturating_sub-rest.ensures in omega arith
 
 pub store_other-q-requires : goal.store_other-q-requires
-store_other-q-requires c = let a = c.args in let w = c.requires in let r = c.excess-rest.ensures in (omega arith, omega arith, omega arith, omega arith, omega arith, omega arith, w.5, w.6)
+store_other-q-requires c = let a = c.args in let w = c.requires in let r = c.saturating_sub-rest.ensures in let l = c.loop.invariant in (omega arith, omega (arith, l.0), omega (arith, l.0), omega arith, omega (arith, l.1), omega (arith, l.2), w.5, w.6)
 
-pub loop-blocks-preserved : goal.loop-blocks-preserved
-loop-blocks-preserved c = let l = c.loop-blocks in let a = c.args in let w = c.requires in let g = c.excess-rest.ensures in let d = c.store_other-q.ensures in let z = store_other_size a.g (ext_in a.kinds.now a.first) w.6 (a.v + c.excess-rest.result) (l.left - c.excess-rest.result) (omega arith) in (omega arith, omega arith, search rules, omega (arith, d.place, w.6.few), omega (arith, d.drawn, w.6.few), λ o r x. l.invariant.5 o r (rw (next_other a.g (ext_in a.kinds.now a.first) a.each w.5 l.blocks a.v l.left c.loop-blocks-test.true, ← g) (◌⨟◌ {t = store_other a.g (ext_in a.kinds.now a.first) (a.v + c.excess-rest.result) (l.left - c.excess-rest.result)} d x)))
+pub loop-preserved : goal.loop-preserved
+loop-preserved c =
+    let l = c.loop in
+    let a = c.args in
+    let w = c.requires in
+    let g = c.saturating_sub-rest.ensures in
+    let d = c.store_other-q.ensures in
+    let z = store_other_size a.g (ext_in a.kinds.now a.first) w.6 (a.v + c.saturating_sub-rest.result) (l.left - c.saturating_sub-rest.result) (omega arith) in
+    let one : a.m - (l.counter + 1) ≡ a.m - l.counter - 1 = omega arith in (
+      omega (arith, l.invariant.0),
+      omega (arith, d.place, w.6.few, l.invariant.1),
+      omega (arith, d.drawn, w.6.few, l.invariant.2),
+      λ o r x. l.invariant.3 o r (rw (next_other a.g (ext_in a.kinds.now a.first) a.each w.5 (a.m - l.counter) a.v l.left (omega arith), ← g, ← one) (◌⨟◌ {t = store_other a.g (ext_in a.kinds.now a.first) (a.v + c.saturating_sub-rest.result) (l.left - c.saturating_sub-rest.result)} d x)),
+    )
 
 pub returns : goal.returns
-returns c = let l = c.loop-blocks in let n : l.blocks ≡ 0 = omega arith in l.invariant.5 _ _ (rw n emits_nop)
+returns c = let l = c.loop in let n : c.args.m - l.counter ≡ 0 = omega arith in l.invariant.3 _ _ (rw n emits_nop)

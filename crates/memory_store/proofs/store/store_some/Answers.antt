@@ -9,8 +9,8 @@ pub acquire_block-s-requires : goal.acquire_block-s-requires
 acquire_block-s-requires c =
     let a = c.args in
     let w = c.requires in
-    let rest : ℕ = c.excess-rest.result in
-    let here = c.excess-rest.ensures in
+    let rest : ℕ = c.saturating_sub-rest.result in
+    let here = c.saturating_sub-rest.ensures in
     let values = c.store_values-q.ensures in
     let z = store_values_size a.g (ext_in a.kinds.now a.first) (a.v + rest) (a.n - rest) a.g.fields (omega arith) in
     (omega (arith, w.5.few, values.place), omega (arith, values.drawn), omega (arith, w.2, c.location_of-pointer.ensures.1), w.5)
@@ -18,14 +18,14 @@ acquire_block-s-requires c =
 pub other_blocks-requires : goal.other_blocks-requires
 other_blocks-requires c =
     let w = c.requires in
-    (omega (arith, c.excess-rest.ensures, w.2, w.5.frame), w.5)
+    (omega (arith, c.saturating_sub-rest.ensures, w.2, w.5.frame), w.5)
 
 pub store_others-requires : goal.store_others-requires
 store_others-requires c =
     let a = c.args in
     let w = c.requires in
-    let rest : ℕ = c.excess-rest.result in
-    let here = c.excess-rest.ensures in
+    let rest : ℕ = c.saturating_sub-rest.result in
+    let here = c.saturating_sub-rest.ensures in
     let values = c.store_values-q.ensures in
     let acquired = c.acquire_block-s.ensures in
     let z = store_values_size a.g (ext_in a.kinds.now a.first) (a.v + rest) (a.n - rest) a.g.fields (omega arith) in
@@ -44,5 +44,5 @@ store_others-requires c =
 
 pub returns : goal.returns
 returns c =
-    rw (← c.excess-rest.ensures, ← c.location_of-pointer.ensures.0, ← c.other_blocks.ensures.0)
+    rw (← c.saturating_sub-rest.ensures, ← c.location_of-pointer.ensures.0, ← c.other_blocks.ensures.0)
     (c.store_values-q.ensures ⨟ c.acquire_block-s.ensures ⨟ c.store_others.ensures)

@@ -1,13 +1,13 @@
-use mathlib.Core.Path.{refl, sym, ◌∙◌}
-use Rattle.emit.proofs.Wrote.{refused}
-use Rattle.layout.proofs.Placing.{framed_supported}
+use mathlib.Core.Path.{sym, ◌∙◌}
+use Rattle.emit.proofs.Wrote.{wanting}
+use Rattle.layout.proofs.Placing.{framed_supported, found}
 use Rattle.operations.proofs.operation.operate.Goals as goal
 
+pub returns-in_err-g : goal.returns-in_err-g
+returns-in_err-g c = wanting c.ok_or.ensures.value c.in_err-g.was c.from_residual.ensures.1 (λ n. rw (sym c.frame_of.ensures ∙ n))
+
 pub operate_in-requires : goal.operate_in-requires
-operate_in-requires c = framed_supported _ (sym c.frame_of.ensures ∙ c.in-Of.is)
+operate_in-requires c = framed_supported _ (sym c.frame_of.ensures ∙ found c.ok_or.ensures.ok_part c.in_ok-g.was)
 
-pub returns-in-Of : goal.returns-in-Of
-returns-in-Of c = rw (sym c.frame_of.ensures ∙ c.in-Of.is) c.operate_in.ensures
-
-pub returns-in-Unknown : goal.returns-in-Unknown
-returns-in-Unknown c = rw (sym c.frame_of.ensures ∙ c.in-Unknown.is) (refused refl refl refl)
+pub returns : goal.returns
+returns c = rw (sym c.frame_of.ensures ∙ found c.ok_or.ensures.ok_part c.in_ok-g.was) c.operate_in.ensures

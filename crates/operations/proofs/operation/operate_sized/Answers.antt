@@ -9,11 +9,10 @@ emit_operation-need-requires c =
     let w = c.requires in
     (omega arith, w.0, w.1)
 
-pub returns-else-is_written : goal.returns-else-is_written
-returns-else-is_written c =
+pub returns-in_err-written : goal.returns-in_err-written
+returns-in_err-written c =
     let a = c.args in
-    not_written (operation_records a.g a.operation) c.emit_operation-need.ensures refl refl a.out.now c.grant-answer.ensures
-    c.is_written.ensures c.if-is_written.false
+    not_written (operation_records a.g a.operation) c.emit_operation-need.ensures refl refl a.out.now c.grant.ensures c.in_err-written.was c.from_residual.ensures.1
 
 pub emit_operation-requires : goal.emit_operation-requires
 emit_operation-requires c =
@@ -23,5 +22,4 @@ emit_operation-requires c =
 pub returns : goal.returns
 returns c =
     let a = c.args in
-    wrote (operation_records a.g a.operation) c.emit_operation-need.ensures refl refl a.out.now c.grant-answer.ensures
-    c.is_written.ensures c.if-is_written.true c.emit_operation.ensures refl
+    wrote (operation_records a.g a.operation) c.emit_operation-need.ensures refl refl a.out.now c.grant.ensures c.in_ok-written.was c.emit_operation.ensures refl

@@ -9,8 +9,8 @@ use Rattle.order.proofs.order.write_order.Goals as goal
 pub count_after-count-requires : goal.count_after-count-requires
 count_after-count-requires c = (bounded c.requires).few
 
-pub order_ample-requires : goal.order_ample-requires
-order_ample-requires c =
+pub order_ample-ample-requires : goal.order_ample-ample-requires
+order_ample-ample-requires c =
     let a = c.args in
     let ok = c.requires in
     let few = (bounded ok).few in
@@ -24,7 +24,7 @@ emit_order-q-requires c =
     let a = c.args in
     let ok = c.requires in
     let x = bounded ok in
-    let fit = ample_if a.work.counter _ _ _ c.order_ample.ensures c.if-order_ample.true in
+    let fit = ample_if a.work.counter _ _ _ c.order_ample-ample.ensures c.if-ample.true in
     (omega (arith, x.context_whole), x.few, omega (arith, x.bindings_whole), ok.there, ok.placed, omega (arith, fit.0), ok.supported)
 
 pub write_context-requires : goal.write_context-requires
@@ -37,7 +37,7 @@ pub returns-then-count-context_out : goal.returns-then-count-context_out
 returns-then-count-context_out c =
     let a = c.args in
     let ok = c.requires in
-    let fit = ample_if a.work.counter _ _ _ c.order_ample.ensures c.if-order_ample.true in
+    let fit = ample_if a.work.counter _ _ _ c.order_ample-ample.ensures c.if-ample.true in
     let z = order_bounds a.g ok.supported a.context.now a.work.k a.bindings.now a.work.order in
     let e =
     at_once ok (length a.records_out.now) (length a.context_out.now) c.emit_order-q.ensures c.count_after-count.ensures

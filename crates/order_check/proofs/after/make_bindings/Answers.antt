@@ -1,23 +1,17 @@
 use borrow.Author.Rules.{rules}
-use mathlib.Core.Path.{refl, sym, ◌∙◌}
+use mathlib.Core.Path.{refl}
 use native.Mathlib.Omega.{arith}
-use Rattle.order_check.proofs.Making.{next_made, none_made}
+use Rattle.order_check.proofs.Making.{none_yet, next_made, all_made}
 use Rattle.order_check.proofs.after.make_bindings.Goals as goal
 
-pub loop-left-init : goal.loop-left-init
-loop-left-init c = let w = c.requires in (w.0, w.1, refl, refl)
+pub loop-i-init : goal.loop-i-init
+loop-i-init c = let a = c.args in (omega arith, refl, none_yet _ a.at a.kind a.place a.n _ refl)
 
-pub overflow_cast-id : goal.overflow_cast-id
-overflow_cast-id c = omega (arith, c.loop-left.invariant.0)
-
-pub overflow_add-to : goal.overflow_add-to
-overflow_add-to c = omega (arith, c.loop-left.invariant.1)
-
-pub overflow_add-id : goal.overflow_add-id
-overflow_add-id c = omega (arith, c.loop-left.invariant.0)
-
-pub loop-left-preserved : goal.loop-left-preserved
-loop-left-preserved c = let l = c.loop-left in let a = c.args in (omega (arith, l.invariant.0), omega (arith, l.invariant.1), search rules, sym (next_made l.out l.to a.kind l.id l.left c.loop-left-test.true (omega (arith, l.invariant.1, l.invariant.2)) c.write_binding.ensures) ∙ l.invariant.3)
+pub loop-i-preserved : goal.loop-i-preserved
+loop-i-preserved c =
+    let l = c.loop-i in
+    let a = c.args in
+    (omega arith, search rules, next_made _ a.at a.kind a.place a.n l.i _ (omega arith) (omega arith) c.write_binding.ensures l.invariant.2)
 
 pub returns : goal.returns
-returns c = let l = c.loop-left in let a = c.args in none_made l.out _ l.to a.kind l.id {n = l.left} (omega arith) l.invariant.3
+returns c = let l = c.loop-i in let a = c.args in all_made _ a.at a.kind a.place a.n l.i (omega arith) l.invariant.2

@@ -2,41 +2,20 @@ use native.Mathlib.Omega.{arith}
 use mathlib.Core.Path.{ap, ◌∙◌}
 use lib.Seq.{sets}
 use Rattle.order_check.proofs.Asking.{copy_there, drop_there, store_there, load_there}
-use Rattle.order_check.proofs.Leaving.{count_below, room_left, brought, put_left, compute_left, copy_left, drop_left, store_left, load_left, print_left}
+use Rattle.order_check.proofs.Leaving.{put_left, compute_left, copy_left, drop_left, store_left, load_left, print_left}
 use Rattle.order_check.proofs.after.write_context.Goals as goal
-
-pub keep_and_make-requires : goal.keep_and_make-requires
-keep_and_make-requires c = let a = c.args in let w = c.requires in let h = room_left a.k c.in-Put.is _ w.5 in (omega (arith, w.1), omega (arith, w.1), omega (arith, w.0), omega (arith, h))
-
-pub keep_and_make-requires-in-Compute : goal.keep_and_make-requires-in-Compute
-keep_and_make-requires-in-Compute c = let a = c.args in let w = c.requires in let h = room_left a.k c.in-Compute.is _ w.5 in (omega (arith, w.1), omega (arith, w.1), omega (arith, w.0), omega (arith, h))
 
 pub kind_at-kind-requires : goal.kind_at-kind-requires
 kind_at-kind-requires c = let a = c.args in let w = c.requires in omega (arith, w.0, copy_there a.context.now a.k a.bindings.now _ _ c.in-Copy.is w.3)
 
-pub keep_and_make-requires-in-Copy : goal.keep_and_make-requires-in-Copy
-keep_and_make-requires-in-Copy c = let a = c.args in let w = c.requires in let h = room_left a.k c.in-Copy.is _ w.5 in (w.1, count_below a.k c.in-Copy.is _ w.4, omega (arith, w.0), h)
-
 pub overflow_sub-k : goal.overflow_sub-k
 overflow_sub-k c = let a = c.args in let w = c.requires in omega (arith, drop_there a.context.now a.k a.bindings.now c.in-Drop.is w.3)
-
-pub keep_and_make-requires-in-Drop : goal.keep_and_make-requires-in-Drop
-keep_and_make-requires-in-Drop c = let a = c.args in let w = c.requires in let h = room_left a.k c.in-Drop.is _ w.5 in (omega (arith, w.1), omega (arith, w.1), omega (arith, w.0), omega (arith, h))
 
 pub overflow_sub-k-in-Store : goal.overflow_sub-k-in-Store
 overflow_sub-k-in-Store c = let a = c.args in let w = c.requires in omega (arith, store_there a.context.now a.k a.bindings.now _ _ c.in-Store.is w.3)
 
-pub keep_and_make-requires-in-Store : goal.keep_and_make-requires-in-Store
-keep_and_make-requires-in-Store c = let a = c.args in let w = c.requires in let h = room_left a.k c.in-Store.is _ w.5 in (omega (arith, w.1), omega (arith, w.1), omega (arith, w.0), omega (arith, h))
-
 pub overflow_sub-k-in-Load : goal.overflow_sub-k-in-Load
 overflow_sub-k-in-Load c = let a = c.args in let w = c.requires in omega (arith, load_there a.context.now a.k a.bindings.now _ c.in-Load.is w.3)
-
-pub keep_and_bring-requires : goal.keep_and_bring-requires
-keep_and_bring-requires c = let a = c.args in let w = c.requires in let h = room_left a.k c.in-Load.is _ w.5 in let l = brought a.k c.in-Load.is _ w.2 in (omega (arith, w.1), omega (arith, w.0), omega (arith, h, l))
-
-pub keep_and_make-requires-in-Print : goal.keep_and_make-requires-in-Print
-keep_and_make-requires-in-Print c = let a = c.args in let w = c.requires in let h = room_left a.k c.in-Print.is _ w.5 in (omega (arith, w.1), omega (arith, w.1), omega (arith, w.0), omega (arith, h))
 
 pub returns-in-Put : goal.returns-in-Put
 returns-in-Put c = let a = c.args in c.keep_and_make.ensures ∙ ap (sets a.out.now 0) (put_left a.context.now a.k a.bindings.now c.requires.0 _ c.in-Put.is)

@@ -9,7 +9,7 @@ ample-requires-in-Copy c =
 pub store_ample-requires : goal.store_ample-requires
 store_ample-requires c =
     let few = rw c.in-Store.is at c.requires.1 in
-    (omega (arith, few, c.requires.0, c.excess-v.ensures), omega arith, c.requires.2)
+    (omega (arith, few, c.requires.0, c.saturating_sub-v.ensures), omega arith, c.requires.2)
 
 pub load_ample-requires : goal.load_ample-requires
 load_ample-requires c = (rw c.in-Load.is at c.requires.1, c.requires.2)
@@ -27,7 +27,7 @@ pub returns-in-Drop : goal.returns-in-Drop
 returns-in-Drop c = rw c.in-Drop.is c.ample-in-Drop.ensures
 
 pub returns-in-Store : goal.returns-in-Store
-returns-in-Store c = rw (c.in-Store.is, ← c.excess-v.ensures) c.store_ample.ensures
+returns-in-Store c = rw (c.in-Store.is, ← c.saturating_sub-v.ensures) c.store_ample.ensures
 
 pub returns-in-Load : goal.returns-in-Load
 returns-in-Load c = rw c.in-Load.is c.load_ample.ensures

@@ -1,5 +1,4 @@
-use Prim.Native.Nat.{◌+◌, ◌*◌, ◌-◌, ◌≤◌}
-use lib.ListN.{length, drop}
+use Rattle.std.proofs.Common.{◌+◌, ◌*◌, ◌-◌, ◌≤◌, length, drop}
 use Rattle.plan_line.specs.Words.{lines_of}
 use Rattle.plan.specs.Plan.{plan_from, plan_of}
 use Rattle.plan.specs.Steps.{most_line}

@@ -1,13 +1,19 @@
-use mathlib.Core.Path.{sym, ap, ◌∙◌}
+use Rattle.std.proofs.Common.{sym, ap, ◌∙◌}
 use Rattle.plan_line.specs.Numbers.{natural_of, negated_number}
-use Rattle.plan_line.proofs.Digits.{no_integer, tail_part, signed_integer, plain_integer}
+use Rattle.plan_line.proofs.Digits.{signed_integer, plain_integer, handed_on}
 use Rattle.plan_line.proofs.numbers.integer.Goals as goal
 
-pub returns-then-w-eq0 : goal.returns-then-w-eq0
-returns-then-w-eq0 c = no_integer _ c.if-w-eq0.true
+pub returns-in_err-value-in-Some : goal.returns-in_err-value-in-Some
+returns-in_err-value-in-Some c =
+    let s = c.in-Some.ensures.cases in
+    handed_on c.from_residual.result c.from_residual.ensures.1
+    ∙ ap negated_number (sym c.in_err-value-in-Some.was ∙ c.natural.ensures ∙ ap (natural_of 0x8000_0000_0000_0000) s.1)
+    ∙ sym (signed_integer _ s.0)
 
-pub returns-then-w-eq45 : goal.returns-then-w-eq45
-returns-then-w-eq45 c = c.negative.ensures ∙ ap negated_number (c.natural.ensures ∙ ap (natural_of 0x8000_0000_0000_0000) (tail_part c.args.w.now 1)) ∙ sym (signed_integer _ c.if-w-eq0.false c.if-w-eq45.true)
+pub returns-in_ok-value-in-Some : goal.returns-in_ok-value-in-Some
+returns-in_ok-value-in-Some c =
+    let s = c.in-Some.ensures.cases in
+    rw c.negative.ensures (ap negated_number (sym c.in_ok-value-in-Some.was ∙ c.natural.ensures ∙ ap (natural_of 0x8000_0000_0000_0000) s.1) ∙ sym (signed_integer _ s.0))
 
-pub returns-else-w-eq45 : goal.returns-else-w-eq45
-returns-else-w-eq45 c = c.natural-else-w-eq45.ensures ∙ sym (plain_integer _ c.if-w-eq0.false c.if-w-eq45.false)
+pub returns-in-None : goal.returns-in-None
+returns-in-None c = c.natural-in-None.ensures ∙ sym (plain_integer _ c.in-None.ensures.cases)

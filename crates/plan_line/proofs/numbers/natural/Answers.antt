@@ -1,11 +1,17 @@
+use Rattle.std.proofs.Common.{sym, ◌∙◌}
+use borrow.Author.Tests.{eqb-true, eqb-false}
 use Rattle.plan_line.proofs.Digits.{no_digits, some_digits}
 use Rattle.plan_line.proofs.numbers.natural.Goals as goal
+use Rattle.plan_line.proofs.numbers.natural.Goals.{then-is_empty-via-then-is_empty, then-is_empty-via-else-is_empty+then-not-are_digits}
 
-pub returns-then-w-eq0 : goal.returns-then-w-eq0
-returns-then-w-eq0 c = no_digits _ _ c.if-w-eq0.true
+pub returns-then-is_empty : goal.returns-then-is_empty
+returns-then-is_empty c =
+    elim c.then-is_empty.branch [
+      | then-is_empty-via-then-is_empty w ↦ no_digits _ _ (eqb-true _ 0 (sym c.is_empty.ensures ∙ w.if-is_empty.true))
+      | then-is_empty-via-else-is_empty+then-not-are_digits w ↦
+          rw (some_digits _ _ (eqb-false _ 0 (sym c.is_empty.ensures ∙ w.if-is_empty.false)), ← w.are_digits.ensures, w.if-not-are_digits.true)
+    ]
 
-pub returns-then-are_digits : goal.returns-then-are_digits
-returns-then-are_digits c = rw (some_digits _ _ c.if-w-eq0.false, ← c.are_digits.ensures, c.if-are_digits.true) c.value_within.ensures
-
-pub returns-else-are_digits : goal.returns-else-are_digits
-returns-else-are_digits c = rw (some_digits _ _ c.if-w-eq0.false, ← c.are_digits.ensures, c.if-are_digits.false)
+pub returns : goal.returns
+returns c =
+    rw (some_digits _ _ (eqb-false _ 0 (sym c.is_empty.ensures ∙ c.if-is_empty.false)), ← c.are_digits.ensures, c.if-not-are_digits.false) c.value_within.ensures

@@ -1,16 +1,11 @@
-use borrow.Author.Rules.{rules}
 use Rattle.plan_line.specs.Orders.{ended}
 use Rattle.plan_line.proofs.Finding.{starts, no_word}
 use Rattle.plan_line.proofs.orders.ended_at.Goals as goal
 
-pub word_at-requires : goal.word_at-requires
+pub returns-in-Some : goal.returns-in-Some
 unfolding ended
-word_at-requires c = search rules
+returns-in-Some c = rw (starts c.word_at.ensures c.in-Some.is).words
 
-pub returns-in-Word : goal.returns-in-Word
+pub returns-in-None : goal.returns-in-None
 unfolding ended
-returns-in-Word c = rw (starts c.word_at.ensures c.in-Word.is).words
-
-pub returns-in-NoWord : goal.returns-in-NoWord
-unfolding ended
-returns-in-NoWord c = rw (no_word c.word_at.ensures c.in-NoWord.is)
+returns-in-None c = rw (no_word c.word_at.ensures c.in-None.is)

@@ -1,16 +1,11 @@
-use borrow.Author.Rules.{rules}
 use Rattle.plan_line.specs.Orders.{load_of}
 use Rattle.plan_line.proofs.Finding.{starts, no_word}
 use Rattle.plan_line.proofs.orders.load_of.Goals as goal
 
-pub next_word-requires : goal.next_word-requires
+pub returns-in-Some : goal.returns-in-Some
 unfolding load_of
-next_word-requires c = search rules
+returns-in-Some c = rw (starts c.next_word.ensures c.in-Some.is).words
 
-pub returns-in-Word : goal.returns-in-Word
+pub returns-in-None : goal.returns-in-None
 unfolding load_of
-returns-in-Word c = rw (starts c.next_word.ensures c.in-Word.is).words
-
-pub returns-in-NoWord : goal.returns-in-NoWord
-unfolding load_of
-returns-in-NoWord c = rw (no_word c.next_word.ensures c.in-NoWord.is)
+returns-in-None c = rw (no_word c.next_word.ensures c.in-None.is)

@@ -1,34 +1,19 @@
-use borrow.Author.Rules.{rules}
+use Rattle.std.proofs.Common.{arith, sym, ◌∙◌}
 use Rattle.plan_line.specs.Orders.{place_at}
-use Rattle.plan_line.proofs.Finding.{starts, no_word}
-use Rattle.plan_line.proofs.Digits.{place_fits}
-use native.Mathlib.Omega.{arith}
+use Rattle.plan_line.proofs.Digits.{place_fits, handed_on}
 use Rattle.plan_line.proofs.orders.place_at.Goals as goal
 
-pub word_at-requires : goal.word_at-requires
+pub returns-in_err-word : goal.returns-in_err-word
 unfolding place_at
-word_at-requires c = search rules
+returns-in_err-word c = let h = c.in_err-word.ensures in handed_on c.from_residual.result c.from_residual.ensures.1 ∙ rw (h.words, h.missing)
 
-pub slice_bounds-natural-count : goal.slice_bounds-natural-count
+pub returns-in_err-place : goal.returns-in_err-place
 unfolding place_at
-slice_bounds-natural-count c = let w = (starts c.word_at.ensures c.in-Word.is) in omega arith
+returns-in_err-place c = rw c.in_ok-word.ensures.words (handed_on c.from_residual-in_err-place.result c.from_residual-in_err-place.ensures.1 ∙ sym c.in_err-place.was ∙ c.natural.ensures)
 
-pub slice_bounds-natural-start : goal.slice_bounds-natural-start
-unfolding place_at
-slice_bounds-natural-start c = let w = (starts c.word_at.ensures c.in-Word.is) in omega arith
+pub overflow_cast-result : goal.overflow_cast-result
+overflow_cast-result c = let h = place_fits _ (sym c.natural.ensures ∙ c.in_ok-place.was) in omega arith
 
-pub slice_bounds-natural-end : goal.slice_bounds-natural-end
+pub returns : goal.returns
 unfolding place_at
-slice_bounds-natural-end c = let w = (starts c.word_at.ensures c.in-Word.is) in omega arith
-
-pub natural-requires : goal.natural-requires
-unfolding place_at
-natural-requires c = search rules
-
-pub returns-in-Word : goal.returns-in-Word
-unfolding place_at
-returns-in-Word c = record { is = rw (starts c.word_at.ensures c.in-Word.is).words c.natural.ensures; fits = rw c.natural.ensures (place_fits _) }
-
-pub returns-in-NoWord : goal.returns-in-NoWord
-unfolding place_at
-returns-in-NoWord c = record { is = rw (no_word c.word_at.ensures c.in-NoWord.is); fits = tt }
+returns c = rw c.in_ok-word.ensures.words (sym c.in_ok-place.was ∙ c.natural.ensures)

@@ -1,19 +1,6 @@
-use borrow.Author.Rules.{rules}
 use borrow.Author.Tests.{ne_eqb}
 use Rattle.port.specs.Check.{check_numbers}
 use Rattle.port.proofs.check.axcut_check.Goals as goal
-
-pub check_context-requires : goal.check_context-requires
-unfolding check_numbers
-check_context-requires c = search rules
-
-pub check_records-requires : goal.check_records-requires
-unfolding check_numbers
-check_records-requires c = search rules
-
-pub check_order-requires : goal.check_order-requires
-unfolding check_numbers
-check_order-requires c = search rules
 
 pub returns-in-1 : goal.returns-in-1
 unfolding check_numbers

@@ -13,17 +13,17 @@ emit_print_i64-need-requires c =
     let w = c.requires in
     (omega arith, w.0, w.1, w.2, w.3)
 
-pub grant-answer-requires : goal.grant-answer-requires
-grant-answer-requires c =
+pub grant-requires : goal.grant-requires
+grant-requires c =
     let a = c.args in
     omega (arith, c.emit_print_i64-need.ensures.drawn, print_size a.g a.newline a.w (ext_at a.context.now) a.n)
 
-pub returns-else-is_written : goal.returns-else-is_written
-returns-else-is_written c =
+pub returns-in_err-written : goal.returns-in_err-written
+returns-in_err-written c =
     let a = c.args in
     let t = print_i64 a.g a.newline a.w (ext_at a.context.now) a.n in
     unlabelled t (length a.out.now) (print_size a.g a.newline a.w (ext_at a.context.now) a.n).0
-    (not_written t 0 c.emit_print_i64-need.ensures refl refl a.out.now c.grant-answer.ensures c.is_written.ensures c.if-is_written.false)
+    (not_written t 0 c.emit_print_i64-need.ensures refl refl a.out.now c.grant.ensures c.in_err-written.was c.from_residual.ensures.1)
 
 pub emit_print_i64-requires : goal.emit_print_i64-requires
 emit_print_i64-requires c =
@@ -35,5 +35,4 @@ returns c =
     let a = c.args in
     let t = print_i64 a.g a.newline a.w (ext_at a.context.now) a.n in
     unlabelled t (length a.out.now) (print_size a.g a.newline a.w (ext_at a.context.now) a.n).0
-    (wrote t 0 c.emit_print_i64-need.ensures refl refl a.out.now c.grant-answer.ensures
-    c.is_written.ensures c.if-is_written.true c.emit_print_i64.ensures refl refl)
+    (wrote t 0 c.emit_print_i64-need.ensures refl refl a.out.now c.grant.ensures c.in_ok-written.was c.emit_print_i64.ensures refl refl)

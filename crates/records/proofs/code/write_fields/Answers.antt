@@ -5,8 +5,5 @@ use Rattle.records.proofs.code.write_fields.Goals as goal
 pub returns-then-at-out : goal.returns-then-at-out
 returns-then-at-out c = fields_stored _ _ _ (omega arith) c.store_head.ensures c.store4.ensures c.store8.ensures c.store8-then-at-out.ensures
 
-pub returns-else-at-out : goal.returns-else-at-out
-returns-else-at-out c = fields_too_long _ _ _ (omega arith)
-
 pub returns-else-out-ge24 : goal.returns-else-out-ge24
 returns-else-out-ge24 c = fields_too_long _ _ _ (omega arith)

@@ -6,6 +6,3 @@ use Rattle.records.proofs.context.first_flaw.Given as goal
 
 abbrev pub invariant-loop-k : goal.invariant-loop-k
 invariant-loop-k l = (l.k ≤ l.n) × (counted_on l.before (first_flaw 0 l.n l.s) ≡ counted_on l.before (first_flaw l.k (l.n - l.k) (drop (8 * l.k) l.s)))
-
-abbrev pub decreases-loop-k : goal.decreases-loop-k
-decreases-loop-k l = l.n - l.k

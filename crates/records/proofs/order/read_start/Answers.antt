@@ -7,17 +7,17 @@ use Rattle.records.proofs.order.read_start.Goals as goal
 pub returns-then-s-lt24 : goal.returns-then-s-lt24
 returns-then-s-lt24 c = not_started _ (starts_short _ c.if-s-lt24.true)
 
-pub returns-else-s : goal.returns-else-s
-returns-else-s c = not_started _ (unmarked _ (omega arith) c.if-s.false)
+pub returns-then-s : goal.returns-then-s
+returns-then-s c = not_started _ (unmarked _ (omega arith) c.if-s.true)
 
-pub returns-else-s-eq0 : goal.returns-else-s-eq0
-returns-else-s-eq0 c = not_started _ (not_zero _ (omega arith) c.if-s.true c.if-s-eq0.false)
+pub returns-then-s-ne0 : goal.returns-then-s-ne0
+returns-then-s-ne0 c = not_started _ (not_zero _ (omega arith) c.if-s.false c.if-s-ne0.true)
 
 pub order_of-requires : goal.order_of-requires
 order_of-requires c = ok_code _ (sym c.order_ok.ensures ∙ c.if-order_ok.true)
 
 pub returns-then-order_ok : goal.returns-then-order_ok
-returns-then-order_ok c = let by_fields : c.order_ok.result ≡ order_starts c.args.s.now = marked _ (omega arith) c.if-s.true c.if-s-eq0.true c.order_in-f.ensures c.order_ok.ensures in started _ (sym c.if-order_ok.true ∙ by_fields) c.order_in-f.ensures c.order_of.ensures
+returns-then-order_ok c = let by_fields : c.order_ok.result ≡ order_starts c.args.s.now = marked _ (omega arith) c.if-s.false c.if-s-ne0.false c.order_in-f.ensures c.order_ok.ensures in started _ (sym c.if-order_ok.true ∙ by_fields) c.order_in-f.ensures c.order_of.ensures
 
 pub returns-else-order_ok : goal.returns-else-order_ok
-returns-else-order_ok c = let by_fields : c.order_ok.result ≡ order_starts c.args.s.now = marked _ (omega arith) c.if-s.true c.if-s-eq0.true c.order_in-f.ensures c.order_ok.ensures in not_started _ (sym c.if-order_ok.false ∙ by_fields)
+returns-else-order_ok c = let by_fields : c.order_ok.result ≡ order_starts c.args.s.now = marked _ (omega arith) c.if-s.false c.if-s-ne0.false c.order_in-f.ensures c.order_ok.ensures in not_started _ (sym c.if-order_ok.false ∙ by_fields)

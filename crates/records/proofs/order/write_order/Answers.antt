@@ -7,8 +7,5 @@ returns-then-at-out c =
     rw (← c.order_fields_of-f.ensures)
     (order_stored _ _ _ (omega arith) c.store_head.ensures c.store4.ensures c.store4-then-at-out.ensures c.store4-then-at-out-2.ensures c.store8.ensures)
 
-pub returns-else-at-out : goal.returns-else-at-out
-returns-else-at-out c = order_too_long _ _ _ (omega arith)
-
 pub returns-else-out-ge24 : goal.returns-else-out-ge24
 returns-else-out-ge24 c = order_too_long _ _ _ (omega arith)

@@ -1,21 +1,8 @@
-use borrow.Author.Rules.{rules}
 use native.Mathlib.Omega.{arith}
 use Rattle.text.specs.Text.{digits}
 use Rattle.text.proofs.Putting.{at_most}
 use Rattle.report.specs.Answers.{cause_words, cause_value, separator, refusal}
 use Rattle.report.proofs.answers.put_flaw.Goals as goal
-
-pub put_bytes-requires : goal.put_bytes-requires
-unfolding digits cause_words cause_value separator refusal
-put_bytes-requires c = search rules
-
-pub put_binding-requires : goal.put_binding-requires
-unfolding digits cause_words cause_value separator refusal
-put_binding-requires c = search rules
-
-pub put_binding-requires-in-Kind : goal.put_binding-requires-in-Kind
-unfolding digits cause_words cause_value separator refusal
-put_binding-requires-in-Kind c = search rules
 
 pub returns-in-Length : goal.returns-in-Length
 unfolding digits cause_words cause_value separator refusal

@@ -1,4 +1,3 @@
-use borrow.Author.Rules.{rules}
 use mathlib.Core.Path.{sym, ◌∙◌}
 use native.Mathlib.Omega.{arith}
 use Rattle.text.specs.Text.{digits}
@@ -7,22 +6,14 @@ use Rattle.layout.proofs.Placing.{framed_supported}
 use Rattle.report.specs.Answers.{position_words, cause_words, separator, refusal}
 use Rattle.report.proofs.answers.put_position.Goals as goal
 
-pub put_bytes-next-requires : goal.put_bytes-next-requires
-unfolding digits position_words cause_words separator refusal
-put_bytes-next-requires c = search rules
-
-pub frame_of-requires : goal.frame_of-requires
-unfolding digits position_words cause_words separator refusal
-frame_of-requires c = search rules
-
 pub put_last-requires : goal.put_last-requires
 unfolding digits position_words cause_words separator refusal
-put_last-requires c = (omega (arith, c.put_bytes-next.ensures), framed_supported _ (sym c.frame_of.ensures ∙ c.in-Of.is))
+put_last-requires c = (omega (arith, c.put_bytes-next.ensures), framed_supported _ (sym c.frame_of.ensures ∙ c.in-Some.is))
 
-pub returns-in-Of : goal.returns-in-Of
+pub returns-in-Some : goal.returns-in-Some
 unfolding digits position_words cause_words separator refusal
-returns-in-Of c = rw (sym c.frame_of.ensures ∙ c.in-Of.is) (c.put_bytes-next.ensures ⨟ c.put_last.ensures)
+returns-in-Some c = rw (sym c.frame_of.ensures ∙ c.in-Some.is) (c.put_bytes-next.ensures ⨟ c.put_last.ensures)
 
-pub returns-in-Unknown : goal.returns-in-Unknown
+pub returns-in-None : goal.returns-in-None
 unfolding digits position_words cause_words separator refusal
-returns-in-Unknown c = rw (sym c.frame_of.ensures ∙ c.in-Unknown.is) (at_most c.put_bytes-next.ensures (omega arith))
+returns-in-None c = rw (sym c.frame_of.ensures ∙ c.in-None.is) (at_most c.put_bytes-next.ensures (omega arith))

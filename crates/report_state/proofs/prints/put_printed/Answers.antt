@@ -1,16 +1,7 @@
-use borrow.Author.Rules.{rules}
 use native.Mathlib.Omega.{arith}
 use Rattle.text.proofs.Putting.{at_most, ◌⨟◌}
 use Rattle.report_state.specs.Prints.{printed_text}
 use Rattle.report_state.proofs.prints.put_printed.Goals as goal
-
-pub put_signed-next-requires : goal.put_signed-next-requires
-unfolding printed_text
-put_signed-next-requires c = search rules
-
-pub put_byte-requires : goal.put_byte-requires
-unfolding printed_text
-put_byte-requires c = search rules
 
 pub returns-then-newline : goal.returns-then-newline
 unfolding printed_text

@@ -1,13 +1,8 @@
-use borrow.Author.Rules.{rules}
 use native.Mathlib.Omega.{arith}
 use borrow.Author.Tests.{eq-eqb, ne_eqb}
 use Rattle.text.proofs.Putting.{at_most}
 use Rattle.report_state.specs.Cells.{block_name}
 use Rattle.report_state.proofs.variables.put_block.Goals as goal
-
-pub put_bytes-requires : goal.put_bytes-requires
-unfolding block_name
-put_bytes-requires c = search rules
 
 pub returns-then-pointer-eq0 : goal.returns-then-pointer-eq0
 unfolding block_name
@@ -17,18 +12,10 @@ pub fst_offset-bytes-requires : goal.fst_offset-bytes-requires
 unfolding block_name
 fst_offset-bytes-requires c = omega (arith, c.requires.1.few)
 
-pub excess-requires : goal.excess-requires
-unfolding block_name
-excess-requires c = search rules
-
 pub nonzero_div-block : goal.nonzero_div-block
 unfolding block_name
 nonzero_div-block c = omega (arith, c.fst_offset-bytes.ensures)
 
-pub put_count-requires : goal.put_count-requires
-unfolding block_name
-put_count-requires c = search rules
-
 pub returns : goal.returns
 unfolding block_name
-returns c = rw (ne_eqb _ 0 c.if-pointer-eq0.false, ← c.excess.ensures, ← c.fst_offset-bytes.ensures) c.put_count.ensures
+returns c = rw (ne_eqb _ 0 c.if-pointer-eq0.false, ← c.saturating_sub.ensures, ← c.fst_offset-bytes.ensures) c.put_count.ensures

@@ -1,13 +1,8 @@
-use borrow.Author.Rules.{rules}
 use native.Mathlib.Omega.{arith}
 use borrow.Author.Tests.{lt-ltb}
 use Rattle.layout.specs.Frame.{held_in}
 use Rattle.report_state.proofs.Rows.{spill_word}
 use Rattle.report_state.proofs.variables.word_at.Goals as goal
-
-pub location_at-l-requires : goal.location_at-l-requires
-unfolding held_in
-location_at-l-requires c = search rules
 
 pub returns-then-l-lt16 : goal.returns-then-l-lt16
 unfolding held_in

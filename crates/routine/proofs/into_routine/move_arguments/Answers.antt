@@ -1,15 +1,18 @@
-use borrow.Author.Rules.{rules}
-use mathlib.Core.Path.{refl}
+use Prim.Native.Nat.{◌+◌, ◌-◌}
+use mathlib.Core.Path.{◌≡◌}
 use native.Mathlib.Omega.{arith}
 use Rattle.emit.proofs.Laws.{◌⨾◌}
 use Rattle.routine.proofs.Parts.{next_argument, none_left}
 use Rattle.routine.proofs.into_routine.move_arguments.Goals as goal
 
-pub loop-left-init : goal.loop-left-init
-loop-left-init c = (omega arith, refl, omega arith, λ o r d. d)
+pub loop-i-init : goal.loop-i-init
+loop-i-init c = let e : c.args.n + 1 - 1 ≡ c.args.n = omega arith in (omega arith, omega arith, rw e (λ o r d. d))
 
-pub loop-left-preserved : goal.loop-left-preserved
-loop-left-preserved c = let l = c.loop-left in let d = c.emit-q.ensures in (omega arith, search rules, omega (arith, d.place), λ o r x. l.invariant.3 o r (rw (next_argument l.left c.loop-left-test.true, ← c.arg-from.ensures) (d ⨾ x)))
+pub loop-i-preserved : goal.loop-i-preserved
+loop-i-preserved c =
+    let l = c.loop-i in
+    let d = c.emit-q.ensures in
+    (omega arith, omega (arith, l.invariant.1, d.place), λ o r x. l.invariant.2 o r (rw (next_argument (l.i - 1) (omega arith), ← c.arg.ensures) (d ⨾ x)))
 
 pub returns : goal.returns
-returns c = let l = c.loop-left in l.invariant.3 _ _ (none_left {n = l.left} (omega arith))
+returns c = let l = c.loop-i in l.invariant.2 _ _ (none_left {n = l.i - 1} (omega arith))

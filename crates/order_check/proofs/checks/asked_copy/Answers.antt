@@ -1,8 +1,0 @@
-use borrow.Author.Tests.{eq-eqb, ne_eqb}
-use Rattle.order_check.proofs.checks.asked_copy.Goals as goal
-
-pub returns-then-n-eq0 : goal.returns-then-n-eq0
-returns-then-n-eq0 c = rw (eq-eqb _ 0 c.if-n-eq0.true) c.asked_linked.ensures
-
-pub returns : goal.returns
-returns c = rw (ne_eqb _ 0 c.if-n-eq0.false)

@@ -1,8 +1,0 @@
-use borrow.Author.Tests.{lt-ltb, le-ltb}
-use Rattle.order_check.proofs.checks.both_below.Goals as goal
-
-pub returns-then-a-k : goal.returns-then-a-k
-returns-then-a-k c = rw (lt-ltb _ _ c.if-a-k.true)
-
-pub returns-else-a-k : goal.returns-else-a-k
-returns-else-a-k c = rw (le-ltb _ _ c.if-a-k.false)
