@@ -1,10 +1,10 @@
 -- Labels sought in the bytes: one record more, the end, and the one place of a label.
-use Rattle.std.specs.Prelude.{None, Some, Option, MatchOption}
-use Prim.Native.Nat.{ℕ, zero, suc, ◌+◌, ◌-◌, ◌*◌, ◌≤◌, ◌<◌}
+use Rattle.std.specs.Prelude.{None, Some}
+use Prim.Native.Nat.{ℕ, suc, ◌+◌, ◌-◌, ◌*◌, ◌≤◌, ◌<◌}
 use mathlib.Core.Path.{◌≡◌, refl, sym, ap, ◌∙◌}
-use mathlib.Core.Bool.{Bool, true, false, ◌&&◌, cond}
+use mathlib.Core.Bool.{Bool, true, ◌&&◌, cond}
 use mathlib.Core.List.{List, [], ◌∷◌}
-use native.Mathlib.Nat.{add-zero, sub-zero}
+use native.Mathlib.Nat.{sub-zero}
 use native.Mathlib.Numerals.{add-one}
 use native.Mathlib.Omega.{arith}
 use lib.Dec.{eqb}
@@ -52,26 +52,6 @@ module _ (label : ℕ) (s : List ℕ) (n : ℕ) where
   pub places_end : (k : ℕ) → n ≤ k → places_from label s n k ≡ []
   unfolding places_of
   places_end k h = let m : n - k ≡ 0 = omega arith in rw m
-
-  abbrev Told_at : Bool → ℕ → Type 0
-  Told_at b i = lab_with label (fields_in (drop (24 * i) s)) ≡ b
-
-  -- no LAB with the label among m records from record k on
-  none_among : (m k : ℕ) → ListedCodes s n → k + m ≤ n → ((j : ℕ) → k ≤ j → j < k + m → Told_at false j) → places_from label s n k ≡ places_from label s n (k + m)
-  none_among zero k z h f = rw add-zero
-  none_among (suc m) k z h f =
-      let e : k + 1 + m ≡ k + suc m = omega arith in
-      places_turn k z (omega arith) (sym (f k (omega arith) (omega arith))) ∙ none_among m (k + 1) z (omega arith) (λ j l u. f j (omega arith) (omega arith)) ∙ ap (places_from label s n) e
-
-  none_before : (k i : ℕ) → ListedCodes s n → k ≤ i → i ≤ n → ((j : ℕ) → k ≤ j → j < i → Told_at false j) → places_from label s n k ≡ places_from label s n i
-  none_before k i z h l f =
-      let e : k + (i - k) ≡ i = omega arith in
-      none_among (i - k) k z (omega arith) (λ j u v. f j u (omega arith)) ∙ ap (places_from label s n) e
-
-  pub first_of : (k : ℕ) (r : Option ℕ) → ListedCodes s n → k ≤ n
-      → MatchOption r ((j : ℕ) → k ≤ j → j < n → Told_at false j) (λ i. (k ≤ i) × (i < n) × Told_at true i × ((j : ℕ) → k ≤ j → j < i → Told_at false j)) → First label s n k r
-  first_of k None z h f = none_before k n z h (omega arith) f ∙ places_end n (omega arith)
-  first_of k (Some i) z h f = (f.1, none_before k i z f.0 (omega arith) f.3 ∙ places_turn i z f.1 (sym f.2))
 
   whole : find label (codes_of n s) ≡ the_one (places_from label s n 0)
   whole = rw sub-zero

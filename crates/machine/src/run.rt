@@ -47,12 +47,17 @@ pub enum Turn {
     Fault,
 }
 
-// The first LAB with the label from record k on.
+// The first LAB with the label from record k on. By a loop: `find` over a closure took a third more time where the label is far.
 fn first(s: &[u8], n: usize, k: usize, label: u32) -> Option<usize>
     requires { ListedCodes s.now n × (k ≤ n) }
     ensures { First label s.now n k result }
 {
-    (k..n).find(|&i| code::is_label(s, 24 * i, label))
+    for i in k..n {
+        if code::is_label(s, 24 * i, label) {
+            return Some(i);
+        }
+    }
+    None
 }
 
 // The one LAB with the label.

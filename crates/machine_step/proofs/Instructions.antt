@@ -88,19 +88,19 @@ pasted : (i : ℕ) (vs l : List ℕ) → i + length vs ≤ length l → put_mid 
 pasted i vs l h = rw (sets-eq vs l i h) (simp (append_assoc, drop-drop))
 
 -- the last eight of nine words
-abbrev rest : List ℕ → List ℕ
+abbrev pub rest : List ℕ → List ℕ
 rest l = get_or l 1 0 ∷ get_or l 2 0 ∷ get_or l 3 0 ∷ get_or l 4 0 ∷ get_or l 5 0 ∷ get_or l 6 0 ∷ get_or l 7 0 ∷ get_or l 8 0 ∷ []
 
-the_rest : (l : List ℕ) → length l ≡ 9 → take 8 (drop 1 l) ≡ rest l
+pub the_rest : (l : List ℕ) → length l ≡ 9 → take 8 (drop 1 l) ≡ rest l
 the_rest l e =
     rw (drop-cons l 1 0 (omega arith), drop-cons l 2 0 (omega arith), drop-cons l 3 0 (omega arith), drop-cons l 4 0 (omega arith), drop-cons l 5 0 (omega arith), drop-cons l 6 0 (omega arith), drop-cons l 7 0 (omega arith), drop-cons l 8 0 (omega arith))
 
 -- the first word goes to register 1, the others to 4 to 11
-pub copied : (R words : List ℕ) {part : List ℕ} → length R ≡ 16 → length words ≡ 9 → part ≡ take 8 (drop 1 words)
+pub copied : (R words : List ℕ) {part : List ℕ} → length R ≡ 16 → part ≡ rest words
     → Shows (put_mid 4 8 (set R 1 (get_or words 0 0)) part) (after_print (words_of words) (view R [] [])).reg
-copied R words l n e =
+copied R words l e =
     let k : 12 ≤ length (set R 1 (get_or words 0 0)) = rw (sixteen R 1 (get_or words 0 0) l) (omega arith) in
-    rw (e, the_rest words n, pasted 4 (rest words) (set R 1 (get_or words 0 0)) k) (lent R words l)
+    rw (e, pasted 4 (rest words) (set R 1 (get_or words 0 0)) k) (lent R words l)
 
 pub lends : {R' : List ℕ} (R words : List ℕ) → Shows R' (after_print (words_of words) (view R [] [])).reg → (length R' ≡ 16) × ((S H : List ℕ) → view R' S H ≡ after_print (words_of words) (view R S H))
 lends R words s = (s.sized, λ S H k. record { reg = s.words k; stk = from_end S; mem = words_of H; depth = length S; size = length H })

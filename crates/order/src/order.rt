@@ -5,7 +5,7 @@ ghost use Rattle.records.specs.Orders.{wanted};
 ghost use Rattle.layout.specs.declared.config.Shape.{Shape};
 ghost use Rattle.layout.specs.declared.config.Unshaped.TheVariants.{NoEdition};
 ghost use Rattle.layout.specs.Config.{Supported, shape_of, in_shape};
-ghost use Rattle.order_spec.specs.Answered.{fitting};
+ghost use Rattle.order_spec.specs.Answered.{fitting, order_accepted};
 ghost use Rattle.order.specs.Answers.{asking, AnswersOrder};
 ghost use Rattle.order.specs.Begun.{Begins};
 ghost use Rattle.order.specs.Decided.{Writable, Writes, Judges};
@@ -43,6 +43,16 @@ fn grant(counter: u64, room: usize, context_room: usize, need: Cursor, count: u6
         counter: drawn,
         bindings: count as usize,
     })
+}
+
+// Whether an order is written. Kept beside `is_ok`: its clause says it in the definition's word.
+pub fn is_accepted(answer: OrderAnswer) -> bool
+    ensures { result ≡ order_accepted answer }
+{
+    match answer {
+        Ok(_) => true,
+        Err(_) => false,
+    }
 }
 
 // An order that is read, on the k variables of a context, and the label counter before it.
@@ -96,10 +106,13 @@ fn write_sized(
     let mut none = [0u8; 1];
     let need = emitters::emit_order(&mut none, 0, g, context, k, bindings, order);
     let count = after::count_after(k, order);
-    let accepted = grant(counter, records_out.len(), context_out.len(), need, count)?;
+    let answer = grant(counter, records_out.len(), context_out.len(), need, count);
+    if !is_accepted(answer) {
+        return answer;
+    }
     emitters::emit_order(records_out, counter, g, context, k, bindings, order);
     after::write_context(context_out, context, k, bindings, order);
-    Ok(accepted)
+    answer
 }
 
 // An order with as many bindings as it wants, by 4 to 10.

@@ -57,10 +57,13 @@ pub fn store8(out: &mut [u8], at: usize, v: u64)
     out[at + 7] = (v / 256 / 256 / 256 / 256 / 256 / 256 / 256 % 256) as u8;
 }
 
-// The first `count` bytes of `from`, from byte `at` on. Kept: three calls of order_check would slice both sides and prove anew that this is `sets`.
+// The first `count` bytes of `from`, from byte `at` on. Kept: three calls of order_check would slice both sides and prove anew that this is `sets`. Byte by byte:
+// `copy_from_slice` would have the library for C want `memmove` of libc.
 pub fn copy_bytes(out: &mut [u8], at: usize, from: &[u8], count: usize)
     requires { (count ≤ length from.now) × (at + count ≤ length out.old) }
     ensures { out.new ≡ sets out.old at (take count from.now) }
 {
-    out[at..at + count].copy_from_slice(&from[..count]);
+    for i in 0..count {
+        out[at + i] = from[i];
+    }
 }

@@ -6,8 +6,8 @@ use Rattle.std.specs.Prelude.{Ok, Err}
 use Rattle.std.specs.Result.{IsErrAnd}
 use mathlib.Core.List.{List, [], ◌∷◌, ◌++◌, append_assoc}
 use native.Mathlib.Omega.{arith}
-use lib.ListN.{length, length-append}
-use lib.Seq.{sets, length-sets}
+use lib.ListN.{length, take, length-append}
+use lib.Seq.{sets, length-sets, take-length}
 use borrow.Author.Tests.{le-ltb}
 use Rattle.records.specs.declared.code.Code.{Code}
 use Rattle.records.specs.ReadBack.{joined, items, code_bytes, code_in}
@@ -64,7 +64,7 @@ module _ (g : Shape) where
   pub assembled : {o o₁ o₂ o₃ : List ℕ} {p q e z : Cursor} (n : ℕ) (body : List ℕ)
       → 24 * (25 + n) + length body ≤ length o
       → Emitted o p o₁ q (fields_list (head g n)) 0 → p.at ≡ 0
-      → o₂ ≡ sets o₁ q.at body
+      → o₂ ≡ sets o₁ q.at (take (length body) body)
       → Emitted o₂ e o₃ z (fields_list (cleanup g)) 0 → e.at ≡ q.at + length body
       → o₃ ≡ sets o 0 (routine_bytes g n body)
   unfolding routine_bytes
@@ -74,7 +74,7 @@ module _ (g : Shape) where
       let k = body_place n d s in
       let j = head_bytes n in
       let first : o₁ ≡ sets o 0 A = d.bytes ∙ rw s (written_whole (head g n) o 0 (omega (arith, head_length n))) in
-      let second : o₂ ≡ sets (sets o 0 A) q.at body = rw (← first) b in
+      let second : o₂ ≡ sets (sets o 0 A) q.at body = rw (← first) (rw (take-length body) at b) in
       let long : length o₂ ≡ length o = rw second (length-sets (sets o 0 A) q.at body ∙ length-sets o 0 A) in
       c.bytes
       ∙ written_whole (cleanup g) o₂ e.at (omega arith)

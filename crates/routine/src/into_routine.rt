@@ -130,8 +130,8 @@ fn assemble(out: &mut [u8], g: Shape, body: &[u8], n: usize)
     ensures { out.new ≡ sets out.old 0 (routine_bytes g n body.now) }
 {
     let q = emit_head(out, Cursor { at: 0, counter: 0 }, g, n);
+    records::bytes::copy_bytes(out, q.at, body, body.len());
     let end = q.at + body.len();
-    out[q.at..end].copy_from_slice(body);
     emit_cleanup(
         out,
         Cursor {

@@ -3,7 +3,6 @@ use crate::error::Unsound;
 use crate::plain::{Object, PlainMachine};
 use crate::state::State;
 use crate::work::{MOST, Work};
-use std::alloc::{AllocError, Global};
 
 // Where a block is.
 #[derive(Clone, Copy, Debug, PartialEq, Eq)]
@@ -15,7 +14,7 @@ enum Place {
 
 // What is known of a block: where it is, how many pointers name it, whether it was ever held or on HEAP's list, and the object that was seen in it.
 #[derive(Clone, Copy, Debug, PartialEq, Eq)]
-struct Mark {
+pub struct Mark {
     place: Option<Place>,
     pointers: u64,
     was_used: bool,
@@ -23,7 +22,7 @@ struct Mark {
 }
 
 impl Mark {
-    const NEW: Mark = Mark {
+    pub const NEW: Mark = Mark {
         place: None,
         pointers: 0,
         was_used: false,
@@ -71,19 +70,20 @@ impl Mark {
 
 // The marks of all blocks, the pointers that are left to follow, and the peak: the most blocks that the variables reached after any one order so far.
 #[derive(Drop)]
-pub struct Heap {
-    marks: Vec<Mark>,
-    pointers: Work<u64>,
+pub struct Heap<'a> {
+    marks: &'a mut [Mark],
+    pointers: Work<'a, u64>,
     peak: usize,
 }
 
-impl Heap {
-    pub fn new(alloc: Global, blocks: usize) -> Result<Heap, AllocError> {
-        Ok(Heap {
-            marks: vec![in alloc; Mark::NEW; blocks]?,
-            pointers: Work::new(alloc, 0)?,
+impl<'a> Heap<'a> {
+    // On a mark for each block, new ones, and places for pointers that are left.
+    pub fn new(marks: &'a mut [Mark], pointers: &'a mut [u64]) -> Heap<'a> {
+        Heap {
+            marks,
+            pointers: Work::new(pointers),
             peak: 0,
-        })
+        }
     }
 
     pub fn peak(&self) -> usize {
@@ -92,7 +92,7 @@ impl Heap {
 
     // The blocks of the linear list are marked, and then those that the variables reach, which count for the peak; the lazy list ends at the frontier, which is
     // one block more than the peak; its blocks hold others; and then each block is looked at, which has a mark.
-    pub fn check(&mut self, state: &State, machine: &PlainMachine) -> Result<(), Unsound> {
+    pub fn check(&mut self, state: &State, machine: &PlainMachine<'_>) -> Result<(), Unsound> {
         for mark in self.marks.iter_mut() {
             mark.forget();
         }
@@ -162,7 +162,7 @@ impl Heap {
     }
 
     // The pointers in variables.
-    fn push_roots(&mut self, state: &State, machine: &PlainMachine) -> Result<(), Unsound> {
+    fn push_roots(&mut self, state: &State, machine: &PlainMachine<'_>) -> Result<(), Unsound> {
         for i in 0..machine.length() {
             if !machine.variable(i).is_integer() {
                 self.push_pointer(state.variable(i)?.fst)?;

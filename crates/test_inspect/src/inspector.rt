@@ -5,24 +5,22 @@ use crate::order::Order;
 use crate::plain::PlainMachine;
 use crate::state::State;
 use crate::values::Values;
-use std::alloc::{AllocError, Global};
 
-// The plain machine, and what is kept from one state to the next: which blocks were ever held or on HEAP's list, and the peak. All of its memory is there from
-// the start.
+// The plain machine, and what is kept from one state to the next: which blocks were ever held or on HEAP's list, and the peak.
 #[derive(Drop)]
-pub struct Inspector {
-    machine: PlainMachine,
-    heap: Heap,
-    values: Values,
+pub struct Inspector<'a> {
+    machine: PlainMachine<'a>,
+    heap: Heap<'a>,
+    values: Values<'a>,
 }
 
-impl Inspector {
-    pub fn new(alloc: Global, blocks: usize) -> Result<Inspector, AllocError> {
-        Ok(Inspector {
-            machine: PlainMachine::new(alloc)?,
-            heap: Heap::new(alloc, blocks)?,
-            values: Values::new(alloc)?,
-        })
+impl<'a> Inspector<'a> {
+    pub fn new(machine: PlainMachine<'a>, heap: Heap<'a>, values: Values<'a>) -> Inspector<'a> {
+        Inspector {
+            machine,
+            heap,
+            values,
+        }
     }
 
     // The most blocks that the variables reached after any one order so far.
@@ -51,12 +49,26 @@ impl Inspector {
 mod tests {
     use super::*;
     use crate::edition::Edition;
+    use crate::heap::Mark;
+    use crate::plain::{FIELDS, VALUES, VARIABLES, Value};
+    use crate::values::Placed;
+    use crate::work::ROOM;
     use std::test::Fail;
 
     // A channel before its first order: HEAP at its first block, FREE at its second, STACK below the frame.
     #[test]
     fn inspects_fresh_words(rt: HostRuntime) -> Result<(), Fail> {
-        let mut inspector = Inspector::new(rt.alloc(), 3)?;
+        let mut variables = [0u32; VARIABLES];
+        let mut fields = [0u32; FIELDS];
+        let mut values = [Value::NONE; VALUES];
+        let mut marks = [Mark::NEW; 3];
+        let mut pointers = [0u64; ROOM];
+        let mut objects = [Placed::NOWHERE; ROOM];
+        let mut inspector = Inspector::new(
+            PlainMachine::new(&mut variables, &mut fields, &mut values),
+            Heap::new(&mut marks, &mut pointers),
+            Values::new(&mut objects),
+        );
         let stack = [0u64; 64];
         let heap = [0u64; 24];
         let mut registers = [0u64; 16];

@@ -3,10 +3,11 @@
 
 pub mod edition; // the fields of a block
 pub mod order; // what an order says
-mod plain; // the plain machine
-mod error; // why a check fails
+mod arithmetic; // products and quotients
+pub mod plain; // the plain machine
+pub mod error; // why a check fails
 pub mod state; // blocks, fields and variables in the words
-mod work; // what is left to look at
-mod heap; // linear list, lazy list and held blocks
-mod values; // the values that variables hold
+pub mod work; // what is left to look at
+pub mod heap; // linear list, lazy list and held blocks
+pub mod values; // the values that variables hold
 pub mod inspector; // all of it

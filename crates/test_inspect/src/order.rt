@@ -1,6 +1,8 @@
 // What a well-formed order says in its 24 bytes, as the scope lays them out.
 ghost use Rattle.std.specs.Prelude.{◌+◌, ◌≤◌};
 
+use crate::arithmetic;
+
 // The bytes of an order.
 pub const ORDER: usize = 24;
 
@@ -26,25 +28,16 @@ impl From<u8> for Operation {
 }
 
 impl Operation {
-    // Sums, differences and products are modulo 2^64; a quotient and a remainder are those of signed numbers, truncated toward zero.
+    // Sums, differences and products are modulo 2^64; a quotient and a remainder are those of signed numbers, truncated toward zero, and 0 and the dividend where the
+    // divisor is 0.
     pub(crate) fn of(self, x: u64, y: u64) -> u64 {
         match self {
             Operation::Add => x.wrapping_add(y),
             Operation::Subtract => x.wrapping_sub(y),
-            Operation::Multiply => x.wrapping_mul(y),
-            Operation::Divide => quotient(x, y),
-            Operation::Remainder => x.wrapping_sub(quotient(x, y).wrapping_mul(y)),
+            Operation::Multiply => arithmetic::product(x, y),
+            Operation::Divide => arithmetic::quotient(x, y),
+            Operation::Remainder => arithmetic::remainder(x, y),
         }
-    }
-}
-
-// 0 where the divisor is 0.
-fn quotient(x: u64, divisor: u64) -> u64 {
-    let d = divisor.cast_signed();
-    if d == 0 {
-        0
-    } else {
-        x.cast_signed().wrapping_div(d).cast_unsigned()
     }
 }
 

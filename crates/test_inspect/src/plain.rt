@@ -1,11 +1,16 @@
 // The plain machine of demand 3: values in variables, and no heap.
 use crate::order::Order;
-use std::alloc::{AllocError, Global};
 
-// How many variables it has places for, and how many fields of objects. What has no place is lost.
-const VARIABLES: usize = 512;
+// How many variables it has places for, how many fields of objects, and how many values: an order makes one at most, and a list has 2,730 orders at most. What has
+// no place is lost.
+pub const VARIABLES: usize = 512;
 
-const FIELDS: usize = 65536;
+pub const FIELDS: usize = 65536;
+
+pub const VALUES: usize = 2730;
+
+// The number of a lost value.
+const LOST: u32 = u32::MAX;
 
 // A tag, and which of the machine's fields are the object's.
 #[derive(Clone, Copy, Debug, PartialEq, Eq)]
@@ -31,6 +36,9 @@ impl Object {
 }
 
 impl Value {
+    // What the first value's place holds before there is any value.
+    pub const NONE: Value = Value::Object(Object::EMPTY);
+
     // What is read of a lost value.
     const LOST: Value = Value::Integer(u64::MAX);
 
@@ -60,27 +68,34 @@ impl Value {
     }
 }
 
-// Where a list's bindings are not its objects' own kinds, the machine goes on with other variables than the state has: their number is modulo 2^64, a place
-// keeps what was in it last, and those that nothing was in hold the first value of all.
+// Values go by their numbers, in the sequence in which they were made; a variable and a field have the number of their value. Where a list's bindings are not its
+// objects' own kinds, the machine goes on with other variables than the state has: their number is modulo 2^64, a place keeps what was in it last, and those that
+// nothing was in hold the first value of all.
 #[derive(Drop)]
-pub struct PlainMachine {
-    variables: Vec<Value>,
+pub struct PlainMachine<'a> {
+    variables: &'a mut [u32],
+    fields: &'a mut [u32],
+    values: &'a mut [Value],
     length: usize,
-    fields: Vec<Value>,
     used: usize,
-    has_values: bool,
+    made: u32,
 }
 
-impl PlainMachine {
-    pub fn new(alloc: Global) -> Result<PlainMachine, AllocError> {
-        let empty = Value::Object(Object::EMPTY);
-        Ok(PlainMachine {
-            variables: vec![in alloc; empty; VARIABLES]?,
+impl<'a> PlainMachine<'a> {
+    // On places that are lent: zeroes, and values that are none.
+    pub fn new(
+        variables: &'a mut [u32],
+        fields: &'a mut [u32],
+        values: &'a mut [Value],
+    ) -> PlainMachine<'a> {
+        PlainMachine {
+            variables,
+            fields,
+            values,
             length: 0,
-            fields: vec![in alloc; empty; FIELDS]?,
             used: 0,
-            has_values: false,
-        })
+            made: 0,
+        }
     }
 
     // How many variables there are.
@@ -88,38 +103,54 @@ impl PlainMachine {
         self.length
     }
 
+    fn value(&self, number: u32) -> Value {
+        self.values
+            .get(number as usize)
+            .copied()
+            .unwrap_or(Value::LOST)
+    }
+
+    fn number(&self, variable: usize) -> u32 {
+        self.variables.get(variable).copied().unwrap_or(LOST)
+    }
+
+    fn field_number(&self, place: usize) -> u32 {
+        self.fields.get(place).copied().unwrap_or(LOST)
+    }
+
     // The value of a variable.
     pub fn variable(&self, i: usize) -> Value {
-        self.variables.get(i).copied().unwrap_or(Value::LOST)
+        self.value(self.number(i))
     }
 
     // The value of an object's field.
     pub fn field(&self, object: Object, i: usize) -> Value {
-        let place = object.first.wrapping_add(i);
-        self.fields.get(place).copied().unwrap_or(Value::LOST)
+        self.value(self.field_number(object.first.wrapping_add(i)))
     }
 
     // A value in a new variable.
-    fn push(&mut self, value: Value) {
-        if let Some(place) = self.variables.get_mut(self.length) {
-            *place = value;
+    fn push(&mut self, number: u32) {
+        let at = self.length;
+        if let Some(place) = self.variables.get_mut(at) {
+            *place = number;
         }
-        self.length = self.length.wrapping_add(1);
+        self.length = at.wrapping_add(1);
     }
 
     // A new value, in a new variable.
     fn put(&mut self, value: Value) {
-        if !self.has_values {
-            self.has_values = true;
-            self.variables.fill(value);
+        let number = self.made;
+        if let Some(place) = self.values.get_mut(number as usize) {
+            *place = value;
         }
-        self.push(value);
+        self.made = number.wrapping_add(1);
+        self.push(number);
     }
 
     fn copy(&mut self, variable: usize, count: usize) {
-        let value = self.variable(variable);
+        let number = self.number(variable);
         for _ in 0..count {
-            self.push(value);
+            self.push(number);
         }
     }
 
@@ -133,25 +164,28 @@ impl PlainMachine {
         let first = self.used;
         self.shorten(count);
         for i in 0..count {
-            let value = self.variable(self.length.wrapping_add(i));
-            self.store_field(value);
+            let from = self.length.wrapping_add(i);
+            let number = self.number(from);
+            self.store_field(number);
         }
         self.put(Value::Object(Object { tag, first, count }));
     }
 
-    fn store_field(&mut self, value: Value) {
-        if let Some(place) = self.fields.get_mut(self.used) {
-            *place = value;
+    fn store_field(&mut self, number: u32) {
+        let at = self.used;
+        if let Some(place) = self.fields.get_mut(at) {
+            *place = number;
         }
-        self.used = self.used.wrapping_add(1);
+        self.used = at.wrapping_add(1);
     }
 
     // The last variable goes, and its object's fields come.
     fn load(&mut self) {
         self.shorten(1);
-        let object = self.variable(self.length).loaded();
+        let last = self.length;
+        let object = self.variable(last).loaded();
         for i in 0..object.count {
-            self.push(self.field(object, i));
+            self.push(self.field_number(object.first.wrapping_add(i)));
         }
     }
 

@@ -2,6 +2,9 @@
 use crate::edition::Edition;
 use crate::error::Unsound;
 
+// The most blocks that a state may have.
+pub const BLOCKS: usize = 1500;
+
 // The address of the first block.
 const HEAP: u64 = 65536;
 

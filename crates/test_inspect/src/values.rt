@@ -5,37 +5,39 @@ use crate::heap::Heap;
 use crate::plain::{Object, PlainMachine, Value};
 use crate::state::{Pair, State};
 use crate::work::{MOST, Work};
-use std::alloc::{AllocError, Global};
 
 // An object that is left to look at, and the address where it is to be.
 #[derive(Clone, Copy, Debug, PartialEq, Eq)]
-struct Placed {
+pub struct Placed {
     address: u64,
     object: Object,
 }
 
-#[derive(Drop)]
-pub struct Values {
-    objects: Work<Placed>,
+impl Placed {
+    pub const NOWHERE: Placed = Placed {
+        address: 0,
+        object: Object::EMPTY,
+    };
 }
 
-impl Values {
-    pub fn new(alloc: Global) -> Result<Values, AllocError> {
-        let blank = Placed {
-            address: 0,
-            object: Object::EMPTY,
-        };
-        Ok(Values {
-            objects: Work::new(alloc, blank)?,
-        })
+#[derive(Drop)]
+pub struct Values<'a> {
+    objects: Work<'a, Placed>,
+}
+
+impl<'a> Values<'a> {
+    pub fn new(objects: &'a mut [Placed]) -> Values<'a> {
+        Values {
+            objects: Work::new(objects),
+        }
     }
 
     // The values of all variables.
     pub fn check(
         &mut self,
         state: &State,
-        machine: &PlainMachine,
-        heap: &mut Heap,
+        machine: &PlainMachine<'_>,
+        heap: &mut Heap<'_>,
     ) -> Result<(), Unsound> {
         self.objects.clear();
         for i in 0..machine.length() {
@@ -84,8 +86,8 @@ impl Values {
     fn look(
         &mut self,
         state: &State,
-        machine: &PlainMachine,
-        heap: &mut Heap,
+        machine: &PlainMachine<'_>,
+        heap: &mut Heap<'_>,
         placed: Placed,
     ) -> Result<(), Unsound> {
         let block = state.block_at(placed.address)?;
@@ -99,7 +101,7 @@ impl Values {
     fn check_object(
         &mut self,
         state: &State,
-        machine: &PlainMachine,
+        machine: &PlainMachine<'_>,
         head: usize,
         object: Object,
     ) -> Result<(), Unsound> {

@@ -1,24 +1,22 @@
 // What is left to look at.
 use crate::error::Unsound;
-use std::alloc::{AllocError, Global};
 
 // More than a state of 1,500 blocks and 261 variables leaves in all, in either edition.
 pub const MOST: usize = 12000;
 
-// A stack of what is left, in places that are all there from the start.
+// There is room for fewer than MOST.
+pub const ROOM: usize = MOST - 1;
+
+// A stack of what is left, in places that are lent.
 #[derive(Drop)]
-pub struct Work<T> {
-    places: Vec<T>,
+pub struct Work<'a, T> {
+    places: &'a mut [T],
     length: usize,
 }
 
-impl<T: Copy> Work<T> {
-    // There is room for fewer than MOST.
-    pub fn new(alloc: Global, blank: T) -> Result<Work<T>, AllocError> {
-        Ok(Work {
-            places: vec![in alloc; blank; MOST - 1]?,
-            length: 0,
-        })
+impl<'a, T: Copy> Work<'a, T> {
+    pub fn new(places: &'a mut [T]) -> Work<'a, T> {
+        Work { places, length: 0 }
     }
 
     pub fn clear(&mut self) {
@@ -33,7 +31,8 @@ impl<T: Copy> Work<T> {
     }
 
     pub fn pop(&mut self) -> Option<T> {
-        self.length = self.length.checked_sub(1)?;
-        self.places.get(self.length).copied()
+        let last = self.length.checked_sub(1)?;
+        self.length = last;
+        self.places.get(last).copied()
     }
 }

@@ -8,52 +8,52 @@ ghost use Rattle.std.specs.Iterator.{at_most};
 
 use channel_step::channel;
 use channel_step::channel::{Channel, RECORDS};
-use std::alloc::{AllocError, Global};
 use std::fmt;
 use std::io::Read;
 use test_inspect::edition::Edition;
+use test_inspect::heap::{Heap, Mark};
 use test_inspect::inspector::Inspector;
 use test_inspect::order::{ORDER, Order};
-use test_inspect::state::State;
+use test_inspect::plain::{FIELDS, PlainMachine, VALUES, VARIABLES, Value};
+use test_inspect::state::{BLOCKS, State};
+use test_inspect::values::{Placed, Values};
+use test_inspect::work::ROOM;
 
-// The most blocks that a heap has, and the most bytes of a list.
-const BLOCKS: u64 = 1500;
+// The words of the most blocks that a heap has, in the second edition.
+const WORDS: usize = 16 * BLOCKS;
 
-const LIST: u64 = 65536;
+// The most bytes of a list.
+const LIST: usize = 65536;
 
 // A list of orders, in its edition and its frame.
 #[derive(Drop)]
-struct List {
+struct List<'a> {
     edition: u64,
     frame: u64,
-    bytes: Vec<u8>,
+    bytes: &'a [u8],
 }
 
-impl List {
-    // The next list, after its edition, its frame and its length in bytes; none where the input ends, or a list would be too long.
-    fn read<R: Read>(alloc: Global, input: &mut R) -> Result<Option<List>, AllocError> {
+impl<'a> List<'a> {
+    // The next list, after its edition, its frame and its length in bytes; none where the input ends, or a list would be too long for the room.
+    fn read<R: Read>(input: &mut R, room: &'a mut [u8]) -> Option<List<'a>> {
         let mut head = [0u8; 24];
         if program_files::read_full(input, &mut head) < head.len() {
-            return Ok(None);
+            return None;
         }
         let edition = records::bytes::number8(&head, 0);
         let frame = records::bytes::number8(&head, 8);
-        let size = records::bytes::number8(&head, 16);
-        if LIST < size {
-            return Ok(None);
-        }
-        let mut bytes = vec![in alloc; 0u8; size as usize]?;
-        let read = program_files::read_full(input, &mut bytes);
-        bytes.truncate(read);
-        Ok(Some(List {
+        let size = records::bytes::number8(&head, 16) as usize;
+        let bytes = room.get_mut(..size)?;
+        let read = program_files::read_full(input, bytes);
+        Some(List {
             edition,
             frame,
-            bytes,
-        }))
+            bytes: program_files::start_of(bytes, read),
+        })
     }
 
-    fn orders(&self) -> Orders<'_> {
-        Orders { bytes: &self.bytes }
+    fn orders(&self) -> Orders<'a> {
+        Orders { bytes: self.bytes }
     }
 }
 
@@ -138,7 +138,9 @@ fn counter_of(orders: u64) -> u64 {
 }
 
 // So are output lengths: each 64th is too short for a record.
-fn room_of(orders: u64) -> usize {
+fn room_of(orders: u64) -> usize
+    ensures { result ≤ 202464 }
+{
     if orders % 64 == 31 { 23 } else { RECORDS }
 }
 
@@ -148,39 +150,30 @@ fn print_words(edition: Edition, orders: u64) -> [u64; 9] {
     [65536 + size * (orders % 1000); 9]
 }
 
-// What a list is played on, from a fresh channel and a zeroed heap.
+// A list that is played, from a fresh channel beside a zeroed heap: the channel, the inspector of its words, and what came of its orders.
 #[derive(Drop)]
-struct Player {
+struct Player<'a> {
     channel: Channel,
-    heap: Vec<u64>,
-    records: Vec<u8>,
-    inspector: Inspector,
+    inspector: Inspector<'a>,
     counts: Counts,
 }
 
-impl Player {
-    fn new(alloc: Global, list: &List, blocks: usize) -> Result<Player, AllocError>
-        requires { blocks ≤ 1500 }
-    {
-        let words = blocks * Edition::from(list.edition).block_words();
-        Ok(Player {
-            channel: channel::fresh(list.edition, list.frame),
-            heap: vec![in alloc; 0u64; words]?,
-            records: vec![in alloc; 0u8; RECORDS]?,
-            inspector: Inspector::new(alloc, blocks)?,
-            counts: Counts::default(),
-        })
-    }
-
+impl Player<'_> {
     // An order with its bindings, played with what its number gives: whether it is accepted, whether its run ends within its records, and whether the words after
     // it are as demand 3 says, beside the plain machine.
-    fn play(&mut self, order: &[u8; ORDER], bindings: &[u8]) -> Outcome {
+    fn play(
+        &mut self,
+        heap: &mut [u64],
+        records: &mut [u8; RECORDS],
+        order: &[u8; ORDER],
+        bindings: &[u8],
+    ) -> Outcome {
         let orders = self.counts.orders;
-        let room = room_of(orders).min(self.records.len());
+        let room = room_of(orders);
         let played = channel::play(
             self.channel,
-            &mut self.heap,
-            &mut self.records[..room],
+            heap,
+            &mut records[..room],
             counter_of(orders),
             order,
             bindings,
@@ -190,7 +183,7 @@ impl Player {
         let outcome = match (played.answer, played.ran) {
             (Ok(accepted), Ok(steps)) if steps <= accepted.records as u64 => {
                 self.inspector.perform(Order::from(*order));
-                self.inspect()
+                self.inspect(heap)
             }
             (Ok(_), _) => Outcome::Fault,
             (Err(_), _) => Outcome::Refused,
@@ -200,7 +193,7 @@ impl Player {
     }
 
     // The context's bytes in use, and as many words of the stack as the frame has.
-    fn inspect(&mut self) -> Outcome {
+    fn inspect(&mut self, heap: &[u64]) -> Outcome {
         let depth = channel::stack_words(self.channel.frame);
         let (Some(context), Some(stack)) = (
             self.channel.context.get(..self.channel.used),
@@ -213,7 +206,7 @@ impl Player {
             context,
             registers: &self.channel.registers,
             stack,
-            heap: &self.heap,
+            heap,
         };
         if self.inspector.is_sound(&state) {
             Outcome::Sound
@@ -223,37 +216,74 @@ impl Player {
     }
 }
 
-// A list on a heap of so many blocks, BLOCKS at most, up to a fault: after that the words are those in the middle of an order. The result is the list's peak.
-fn play_on<R: Print>(rt: &R, alloc: Global, list: &List, blocks: u64) -> Result<u64, AllocError> {
-    let most = blocks.min(BLOCKS) as usize;
-    let mut player = Player::new(alloc, list, most)?;
+// A list on a heap of so many blocks, BLOCKS at most, up to a fault: after that the words are those in the middle of an order. The result is the list's peak. Bytes
+// for records and places for what the inspector has left to look at are lent, whatever is in them.
+fn play_on<R: Print>(
+    rt: &R,
+    list: &List,
+    blocks: u64,
+    records: &mut [u8; RECORDS],
+    pointers: &mut [u64; ROOM],
+    objects: &mut [Placed; ROOM],
+) -> u64 {
+    let mut heap = [0u64; WORDS];
+    let mut variables = [0u32; VARIABLES];
+    let mut fields = [0u32; FIELDS];
+    let mut values = [Value::NONE; VALUES];
+    let mut marks = [Mark::NEW; BLOCKS];
+    let most = blocks.min(BLOCKS as u64) as usize;
+    let words = most * Edition::from(list.edition).block_words();
+    let inspector = Inspector::new(
+        PlainMachine::new(&mut variables, &mut fields, &mut values),
+        Heap::new(&mut marks[..most], pointers),
+        Values::new(objects),
+    );
+    let mut player = Player {
+        channel: channel::fresh(list.edition, list.frame),
+        inspector,
+        counts: Counts::default(),
+    };
     for (order, bindings) in list.orders() {
-        if player.play(order, bindings) == Outcome::Fault {
+        if player.play(&mut heap[..words], records, order, bindings) == Outcome::Fault {
             break;
         }
     }
     let _ = println!(rt; "on {blocks} blocks: {}", player.counts);
-    Ok(player.inspector.peak() as u64)
+    player.inspector.peak() as u64
 }
 
-fn play_list<R: Print>(rt: &R, alloc: Global, list: &List) -> Result<(), AllocError> {
+fn play_list<R: Print>(
+    rt: &R,
+    list: &List,
+    records: &mut [u8; RECORDS],
+    pointers: &mut [u64; ROOM],
+    objects: &mut [Placed; ROOM],
+) {
     let _ = println!(rt; "edition {}, frame {}", list.edition, list.frame);
-    let peak = play_on(rt, alloc, list, BLOCKS)?;
+    let peak = play_on(rt, list, BLOCKS as u64, records, pointers, objects);
     let _ = println!(rt; "peak {peak}");
     for more in [2, 1, 0] {
-        play_on(rt, alloc, list, peak.saturating_add(more))?;
+        play_on(
+            rt,
+            list,
+            peak.saturating_add(more),
+            records,
+            pointers,
+            objects,
+        );
     }
-    Ok(())
 }
 
-fn main(rt: HostRuntime) -> Result<(), AllocError> {
-    let alloc = rt.alloc();
+fn main(rt: HostRuntime) {
     let mut input = rt.stdin();
+    let mut room = [0u8; LIST];
+    let mut records = [0u8; RECORDS];
+    let mut pointers = [0u64; ROOM];
+    let mut objects = [Placed::NOWHERE; ROOM];
     for _ in 0..u64::MAX {
-        let Some(list) = List::read(alloc, &mut input)? else {
-            break;
+        let Some(list) = List::read(&mut input, &mut room) else {
+            return;
         };
-        play_list(&rt, alloc, &list)?;
+        play_list(&rt, &list, &mut records, &mut pointers, &mut objects);
     }
-    Ok(())
 }
