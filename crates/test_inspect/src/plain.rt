@@ -1,4 +1,6 @@
 // The plain machine of demand 3: values in variables, and no heap.
+ghost use Rattle.std.specs.Prelude.{◌≡◌, ◌+◌, ◌-◌, ◌^◌, min};
+
 use crate::order::Order;
 
 // How many variables it has places for, how many fields of objects, and how many values: an order makes one at most, and a list has 2,730 orders at most. What has
@@ -11,6 +13,13 @@ pub const VALUES: usize = 2730;
 
 // The number of a lost value.
 const LOST: u32 = u32::MAX;
+
+// The number of the value that is made after one. It stays at LOST: begun again at 0, it would be the number of a value that a variable may still hold.
+fn number_after(number: u32) -> u32
+    ensures { result ≡ min (number + 1) (2 ^ 32 - 1) }
+{
+    number.saturating_add(1)
+}
 
 // A tag, and which of the machine's fields are the object's.
 #[derive(Clone, Copy, Debug, PartialEq, Eq)]
@@ -143,7 +152,7 @@ impl<'a> PlainMachine<'a> {
         if let Some(place) = self.values.get_mut(number as usize) {
             *place = value;
         }
-        self.made = number.wrapping_add(1);
+        self.made = number_after(number);
         self.push(number);
     }
 
@@ -208,5 +217,31 @@ impl<'a> PlainMachine<'a> {
             Order::Load { .. } => self.load(),
             Order::Other => {}
         }
+    }
+}
+
+#[cfg(test)]
+mod tests {
+    use super::*;
+    use std::test::Fail;
+
+    // Values beyond the last number are lost, and take no place of another's.
+    #[test]
+    fn keeps_the_first_value(rt: HostRuntime) -> Result<(), Fail> {
+        let mut variables = [0u32; 4];
+        let mut fields = [0u32; 4];
+        let mut values = [Value::NONE; 4];
+        let mut machine = PlainMachine::new(&mut variables, &mut fields, &mut values);
+        machine.perform(Order::Literal(7));
+        machine.made = LOST - 1;
+        for _ in 0..3 {
+            machine.perform(Order::Literal(5));
+            machine.perform(Order::Drop);
+        }
+        machine.perform(Order::Literal(5));
+        assert_eq!(rt; machine.made, LOST);
+        assert_eq!(rt; machine.variable(0), Value::Integer(7));
+        assert_eq!(rt; machine.variable(1), Value::LOST);
+        Ok(())
     }
 }
