@@ -1,10 +1,10 @@
 // The plain machine of demand 3: values in variables, and no heap.
-ghost use Rattle.std.specs.Prelude.{◌≡◌, ◌+◌, ◌-◌, ◌^◌, min};
+ghost use Rattle.std.specs.Prelude.{◌≢◌, ◌<◌, All};
 
 use crate::order::Order;
 
 // How many variables it has places for, how many fields of objects, and how many values: an order makes one at most, and a list has 2,730 orders at most. What has
-// no place is lost.
+// no place is lost. With VARIABLES + FIELDS + 1 places for values there is always one for a new value, however many are made.
 pub const VARIABLES: usize = 512;
 
 pub const FIELDS: usize = 65536;
@@ -13,13 +13,6 @@ pub const VALUES: usize = 2730;
 
 // The number of a lost value.
 const LOST: u32 = u32::MAX;
-
-// The number of the value that is made after one. It stays at LOST: begun again at 0, it would be the number of a value that a variable may still hold.
-fn number_after(number: u32) -> u32
-    ensures { result ≡ min (number + 1) (2 ^ 32 - 1) }
-{
-    number.saturating_add(1)
-}
 
 // A tag, and which of the machine's fields are the object's.
 #[derive(Clone, Copy, Debug, PartialEq, Eq)]
@@ -77,9 +70,9 @@ impl Value {
     }
 }
 
-// Values go by their numbers, in the sequence in which they were made; a variable and a field have the number of their value. Where a list's bindings are not its
-// objects' own kinds, the machine goes on with other variables than the state has: their number is modulo 2^64, a place keeps what was in it last, and those that
-// nothing was in hold the first value of all.
+// Values go by their numbers, in the sequence in which they were made as long as places are left; a variable and a field have the number of their value. Where a
+// list's bindings are not its objects' own kinds, the machine goes on with other variables than the state has: their number is modulo 2^64, a place keeps what was in
+// it last, and those that nothing was in hold the first value of all.
 #[derive(Drop)]
 pub struct PlainMachine<'a> {
     variables: &'a mut [u32],
@@ -146,13 +139,34 @@ impl<'a> PlainMachine<'a> {
         self.length = at.wrapping_add(1);
     }
 
+    // A number that no place of a variable and of an object's field has, a dropped variable's among them; LOST where there is none.
+    fn free_number(&self) -> u32
+        ensures { (result < LOST) → All (λ n. n ≢ result) self.now.variables.now × All (λ n. n ≢ result) self.now.fields.now }
+    {
+        for number in 0..LOST {
+            if !self.variables.contains(&number) && !self.fields.contains(&number) {
+                return number;
+            }
+        }
+        LOST
+    }
+
+    // The number of a new value: the one after the last, and a free one once no place is left.
+    fn new_number(&mut self) -> u32 {
+        let number = self.made;
+        if number == LOST || self.values.len() <= number as usize {
+            return self.free_number();
+        }
+        self.made = number + 1;
+        number
+    }
+
     // A new value, in a new variable.
     fn put(&mut self, value: Value) {
-        let number = self.made;
+        let number = self.new_number();
         if let Some(place) = self.values.get_mut(number as usize) {
             *place = value;
         }
-        self.made = number_after(number);
         self.push(number);
     }
 
@@ -225,23 +239,35 @@ mod tests {
     use super::*;
     use std::test::Fail;
 
-    // Values beyond the last number are lost, and take no place of another's.
+    // Once no place is left, a new value takes one whose number no variable and no object's field has, and is lost where there is none.
     #[test]
-    fn keeps_the_first_value(rt: HostRuntime) -> Result<(), Fail> {
-        let mut variables = [0u32; 4];
+    fn takes_no_place_that_is_held(rt: HostRuntime) -> Result<(), Fail> {
+        let mut variables = [0u32; 5];
         let mut fields = [0u32; 4];
-        let mut values = [Value::NONE; 4];
+        let mut values = [Value::NONE; 5];
         let mut machine = PlainMachine::new(&mut variables, &mut fields, &mut values);
+        let object = Object {
+            tag: 8,
+            first: 0,
+            count: 1,
+        };
+        machine.perform(Order::Literal(6));
         machine.perform(Order::Literal(7));
-        machine.made = LOST - 1;
-        for _ in 0..3 {
-            machine.perform(Order::Literal(5));
+        machine.perform(Order::Store { count: 1, tag: 8 });
+        for integer in 0..100 {
+            machine.perform(Order::Literal(integer));
+            assert_eq!(rt; machine.variable(2), Value::Integer(integer));
             machine.perform(Order::Drop);
         }
-        machine.perform(Order::Literal(5));
-        assert_eq!(rt; machine.made, LOST);
-        assert_eq!(rt; machine.variable(0), Value::Integer(7));
-        assert_eq!(rt; machine.variable(1), Value::LOST);
+        for integer in 3..6 {
+            machine.perform(Order::Literal(integer));
+        }
+        assert_eq!(rt; machine.variable(0), Value::Integer(6));
+        assert_eq!(rt; machine.variable(1), Value::Object(object));
+        assert_eq!(rt; machine.field(object, 0), Value::Integer(7));
+        assert_eq!(rt; machine.variable(2), Value::Integer(3));
+        assert_eq!(rt; machine.variable(3), Value::Integer(4));
+        assert_eq!(rt; machine.variable(4), Value::LOST);
         Ok(())
     }
 }
